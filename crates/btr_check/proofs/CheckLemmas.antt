@@ -51,28 +51,28 @@ module _ {D : Type 0} (disk : Ghosts D) where
     IsNamed = IsNamedStart s (map mark_of c.checkpoints.items)
 
     -- The superblock names a start exactly if it names one of the checkpoints that were seen.
-    named-seen : (told : disk.is_observable) → IsNamed → IsNamedStart s (read told).seen.marks
-    named-seen told named = subst (IsNamedStart s) (read told).judged.marked named
+    named-seen : (reported : disk.is_observable) → IsNamed → IsNamedStart s (read reported).seen.marks
+    named-seen reported named = subst (IsNamedStart s) (read reported).judged.marked named
 
-    seen-named : (told : disk.is_observable) → IsNamedStart s (read told).seen.marks → IsNamed
-    seen-named told named = subst (IsNamedStart s) (sym (read told).judged.marked) named
+    seen-named : (reported : disk.is_observable) → IsNamedStart s (read reported).seen.marks → IsNamed
+    seen-named reported named = subst (IsNamedStart s) (sym (read reported).judged.marked) named
 
     -- If it names none, the block of its body is wrong.
     pub unnamed-wrong : (IsNamed → ⊥) → (block : ℕ) → block ≡ 2 * s.side + 1 → VerdictBetween disk old new (Wrong block)
-    unnamed-wrong unnamed block is told =
+    unnamed-wrong unnamed block is reported =
         let image = disk.contents old in
-        inr (s, chosen told, inr (inl (record { whole = legal-log image s c w (read told); unnamed = λ named. unnamed (seen-named told named); of = is })))
+        inr (s, chosen reported, inr (inl (record { whole = legal-log image s c w (read reported); unnamed = λ named. unnamed (seen-named reported named); of = is })))
 
     -- Else the trees decide.
     pub named-verdict : IsNamed → (trees : Result (Option ℕ) VerifyFault) → (disk.is_observable → (l : IsJudgedLog MayStand HasSeen (disk.contents old) (first_reading s) c w) → IfOk trees (AreTreesFound l.log.pages l.seen.entries l.seen.roots)) → IfErr trees (VerifyCause disk old new) → VerdictBetween disk old new (verdict_of_trees c.board.entries trees)
-    named-verdict named (Ok None) found ended = λ told.
-        let l = read told in
+    named-verdict named (Ok None) found ended = λ reported.
+        let l = read reported in
         let image = disk.contents old in
-        (l.seen.entries, legal-stands (disk.size old) image s (chosen told) (legal-log image s c w l) (named-seen told named) (found told l), l.judged.of.entries)
-    named-verdict named (Ok (Some block)) found ended = λ told.
-        let l = read told in
-        let first = found told l in
-        inr (s, chosen told, inr (inr (record { whole = legal-log (disk.contents old) s c w l; named = named-seen told named; n = first.0; first = first.1 })))
+        (l.seen.entries, legal-stands (disk.size old) image s (chosen reported) (legal-log image s c w l) (named-seen reported named) (found reported l), l.judged.of.entries)
+    named-verdict named (Ok (Some block)) found ended = λ reported.
+        let l = read reported in
+        let first = found reported l in
+        inr (s, chosen reported, inr (inr (record { whole = legal-log (disk.contents old) s c w l; named = named-seen reported named; n = first.0; first = first.1 })))
     named-verdict named (Err verify.Fault) found ended = ended
     named-verdict named (Err verify.Want) found ended = tt
 
@@ -80,15 +80,15 @@ module _ {D : Type 0} (disk : Ghosts D) where
 
   pub cause-verdict : (old new : D) (s : Super) (why : OpenCause) → (disk.is_observable → IsChosen (disk.size old) (disk.contents old) s) → PartCause disk (IsDamagedLogBy MayStand (disk.contents old) (first_reading s)) old new why → VerdictBetween disk old new (verdict_of_cause why)
   cause-verdict old new s cause.NotAStore chosen is = absurd is
-  cause-verdict old new s (cause.Damaged block) chosen is = λ told. inr (s, chosen told, inl (is told))
+  cause-verdict old new s (cause.Damaged block) chosen is = λ reported. inr (s, chosen reported, inl (is reported))
   cause-verdict old new s cause.Fault chosen is = is
   cause-verdict old new s cause.Want chosen is = tt
 
   -- ---- no superblock
 
   pub choice-verdict : (old new : D) (result : Result Super ChooseFault) (fault : ChooseFault) → result ≡ Err fault → CausesFault (disk.faults old) (disk.faults new) (result ≡ Err choice.Fault) → (disk.is_observable → (result ≡ Err choice.Fault → ⊥) → (result ≡ Err choice.NotAStore) ↔ HasNoSuper (disk.size old) (disk.contents old)) → (disk.is_observable → (result ≡ Err choice.Fault → ⊥) → (block : ℕ) → (result ≡ Err (choice.Damaged block)) ↔ IsDamagedSuper (disk.size old) (disk.contents old) block) → VerdictBetween disk old new (verdict_of_choice fault)
-  choice-verdict old new result choice.NotAStore is rose none damaged = λ told. (none told (λ e. absurd (cc))).0 is
-  choice-verdict old new result (choice.Damaged block) is rose none damaged = λ told. inl ((damaged told (λ e. absurd (cc)) block).0 is)
+  choice-verdict old new result choice.NotAStore is rose none damaged = λ reported. (none reported (λ e. absurd (cc))).0 is
+  choice-verdict old new result (choice.Damaged block) is rose none damaged = λ reported. inl ((damaged reported (λ e. absurd (cc)) block).0 is)
   choice-verdict old new result choice.Fault is rose none damaged = rose.rose is
 
   -- The choice of a superblock only reads.
@@ -98,7 +98,7 @@ module _ {D : Type 0} (disk : Ghosts D) where
 
   -- A superblock that was chosen is chosen on the device.
   pub choice-chosen : (old : D) (result : Result Super ChooseFault) (s : Super) → result ≡ Ok s → (disk.is_observable → (result ≡ Err choice.Fault → ⊥) → (other : Super) → (result ≡ Ok other) ↔ IsChosen (disk.size old) (disk.contents old) other) → disk.is_observable → IsChosen (disk.size old) (disk.contents old) s
-  choice-chosen old result s is chosen told = (chosen told (λ e. absurd (cc)) s).0 is
+  choice-chosen old result s is chosen reported = (chosen reported (λ e. absurd (cc)) s).0 is
 
   -- ---- over more calls
 
@@ -107,31 +107,31 @@ module _ {D : Type 0} (disk : Ghosts D) where
   verdict-along old mid new reads v is = go v is
     where
       same : disk.is_observable → (w : Verdict) → IsVerdict (disk.size mid) (disk.contents mid) w → IsVerdict (disk.size old) (disk.contents old) w
-      same told w was = subst {A = ℕ × Image} (λ p. IsVerdict p.0 p.1 w) (λ i. (reads.counts.same_size i, sym (same-bytes old mid reads told) i)) was
+      same reported w was = subst {A = ℕ × Image} (λ p. IsVerdict p.0 p.1 w) (λ i. (reads.counts.same_size i, sym (same-bytes old mid reads reported) i)) was
 
       go : (w : Verdict) → VerdictBetween disk mid new w → VerdictBetween disk old new w
-      go (Stands entries) was = λ told. same told (Stands entries) (was told)
-      go (Wrong block) was = λ told. same told (Wrong block) (was told)
-      go NotAStore was = λ told. same told NotAStore (was told)
+      go (Stands entries) was = λ reported. same reported (Stands entries) (was reported)
+      go (Wrong block) was = λ reported. same reported (Wrong block) (was reported)
+      go NotAStore was = λ reported. same reported NotAStore (was reported)
       go Fault was = let low = reads.counts.more_faults in omega (arith, was, low)
       go Want was = tt
 
   -- A superblock that was chosen is so after calls that only read.
   pub chosen-along : (old mid : D) (s : Super) → OnlyReads disk old mid → (disk.is_observable → IsChosen (disk.size old) (disk.contents old) s) → disk.is_observable → IsChosen (disk.size mid) (disk.contents mid) s
-  chosen-along old mid s reads chosen told =
-      subst {A = ℕ × Image} (λ p. IsChosen p.0 p.1 s) (λ i. (sym reads.counts.same_size i, same-bytes old mid reads told i)) (chosen told)
+  chosen-along old mid s reads chosen reported =
+      subst {A = ℕ × Image} (λ p. IsChosen p.0 p.1 s) (λ i. (sym reads.counts.same_size i, same-bytes old mid reads reported i)) (chosen reported)
 
   -- So is a log that was read whole.
   pub checked-along : (old mid : D) (s : Super) (c : Checker) (w : WholeLog) → OnlyReads disk old mid → WasChecked disk old s c w → WasChecked disk mid s c w
-  checked-along old mid s c w reads was told =
-      subst (λ image. IsJudgedLog MayStand HasSeen image (first_reading s) c w) (same-bytes old mid reads told) (was told)
+  checked-along old mid s c w reads was reported =
+      subst (λ image. IsJudgedLog MayStand HasSeen image (first_reading s) c w) (same-bytes old mid reads reported) (was reported)
 
 -- ---- the verdict
 
 -- The verdict that is right is the one that was returned, unless there is none.
 pub exactly : (size : ℕ) (image : Image) (known : Type 0) (before after : ℕ) (v w : Verdict) → known → VerdictHolds known size image before after w → IsVerdict size image v → IsUnlessEnded v w
-exactly size image known before after v (Stands entries) told holds is = one-verdict size image (Stands entries) v (holds told) is
-exactly size image known before after v (Wrong block) told holds is = one-verdict size image (Wrong block) v (holds told) is
-exactly size image known before after v NotAStore told holds is = one-verdict size image NotAStore v (holds told) is
-exactly size image known before after v Fault told holds is = tt
-exactly size image known before after v Want told holds is = tt
+exactly size image known before after v (Stands entries) reported holds is = one-verdict size image (Stands entries) v (holds reported) is
+exactly size image known before after v (Wrong block) reported holds is = one-verdict size image (Wrong block) v (holds reported) is
+exactly size image known before after v NotAStore reported holds is = one-verdict size image NotAStore v (holds reported) is
+exactly size image known before after v Fault reported holds is = tt
+exactly size image known before after v Want reported holds is = tt

@@ -8,7 +8,7 @@ ghost use Rattle.btr_engine.specs.Stage.{IsReceipt};
 ghost use Rattle.btr_check.specs.Rule.{FitsPoints};
 ghost use Rattle.btr_check.specs.Staging.{IsStagedEntry, IsStagedIfAllowed};
 
-use btr_engine::{Board, PushFault, Receipt, Staged};
+use btr_engine::{Alone, Board, PushFault, Receipt, Staged};
 use btr_hist::Entry;
 use btr_plan::is_computed;
 use btr_super::LOG_START;
@@ -43,7 +43,7 @@ fn stage(alloc: Global, board: &Board, entry: &Entry) -> Result<Option<Staged>, 
         → IfOk result (λ o. MatchOption o (rejection h entry.now ≡ None → ⊥) (IsStagedEntry h entry.now)) }
     ensures counted { IfOk result (λ o. IfSome o (λ s. s.next.entries ≡ board.now.entries + 1)) }
 {
-    match board.stage(alloc, entry, LOG_START) {
+    match board.stage(&Alone, alloc, entry, LOG_START) {
         Ok(staged) => Ok(Some(staged)),
         Err(PushFault::Rejected(_)) => Ok(None),
         Err(PushFault::Want) => Err(AllocError),

@@ -10,7 +10,7 @@ ghost use Rattle.btr_core.specs.Staging.{Makes};
 
 use crate::event::Reply;
 use btr_distil::Plan;
-use btr_engine::{Board, PushFault, Staged};
+use btr_engine::{Alone, Board, PushFault, Staged};
 use btr_hist::Entry;
 use std::alloc::{AllocError, Global};
 
@@ -33,10 +33,10 @@ pub(crate) fn stage(alloc: Global, board: &Board, entry: &Entry) -> Result<Outco
         (Makes h (commit_reply h entry.now (rejection h entry.now)) (committed h entry.now (rejection h entry.now))) }
 {
     if board.entries() == u64::MAX {
-        // no memory holds a board of so many entries
+        // no memory holds a board of this many entries
         return Err(AllocError);
     }
-    match board.stage(alloc, entry, GATE) {
+    match board.stage(&Alone, alloc, entry, GATE) {
         Ok(staged) => Ok(Outcome::Staged(staged)),
         Err(PushFault::Rejected(why)) => Ok(Outcome::Refused(Reply::Rejected(why))),
         Err(PushFault::Want) => Err(AllocError),

@@ -74,13 +74,6 @@ change-times c h = none_out_of_domain c.added (map_none (λ (p : Point). OutOfDo
 pub distillate-times : (c : Change) → distillate_change_rejection c ≡ None → AreInDomain c.added
 distillate-times c h = none_out_of_domain c.added (map_none (λ (p : Point). OutOfDomain p.time) (first_out_of_domain c.added) (first_none _ _ h))
 
--- What a test finds of a change, it finds of an equal one.
-pub same-change : (test : Change → Option Rejection) (cut ranges : List RangeValue) (added points : List Point) (found : Option Rejection) → ranges ≡ cut → points ≡ added → found ≡ test (change ranges points) → test (change cut added) ≡ found
-same-change test cut ranges added points found same_cut same_points is =
-    ap (λ (l : List RangeValue). test (change l added)) (sym same_cut)
-    ∙ ap (λ (l : List Point). test (change ranges l)) (sym same_points)
-    ∙ sym is
-
 -- ---- the next version
 
 -- A version that has the points of a change has at least as many.

@@ -21,7 +21,7 @@ use Rattle.btr_log.specs.Log as log
 use Rattle.btr_log.specs.Head.{content_blocks}
 use Rattle.btr_log.proofs.ExtentLemmas.{AtRest-IsLog}
 use Rattle.btr_pages.specs.Pages.{Pages, nodes_in}
-use Rattle.btr_pages.proofs.ToldLemmas.{below-more}
+use Rattle.btr_pages.proofs.ReportedLemmas.{below-more}
 use Rattle.btr_super.specs.declared.superblock.Super.{Super}
 use Rattle.btr_super.specs.Choose.{IsChosen}
 use Rattle.btr_super.specs.Replace.{IsFollowed, HasOnePrefix, IsReplacing}
@@ -83,7 +83,7 @@ module _ {D : Type 0} {disk : Ghosts D} where
 
 -- ---- images
 
--- The superblock names a checkpoint at this gate, with this gate after it, in a store of so many blocks.
+-- The superblock names a checkpoint at this gate, with this gate after it, in a store of this many blocks.
 pub record Names (blocks gate end : ℕ) (next : Super) : Type 0 where
   pub same_blocks : next.blocks ≡ blocks
   pub side : next.side ≤ 1

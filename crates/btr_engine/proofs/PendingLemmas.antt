@@ -28,7 +28,7 @@ use Rattle.btr_engine.specs.Travel.{written_pages, IsMade, IsStaged}
 use Rattle.btr_engine.proofs.BoardStreamLemmas.{commit-makes, distillate-makes}
 use Rattle.btr_engine.proofs.BodyLemmas.{FitsBody}
 use Rattle.btr_engine.proofs.NeedLemmas.{few_nodes}
-use Rattle.btr_engine.proofs.Written.{nodes-counted, told, root-leads, stored-next, stored-new, pages-places}
+use Rattle.btr_engine.proofs.Written.{nodes-counted, reported, root-leads, stored-next, stored-new, pages-places}
 use Rattle.btr_engine.proofs.Stepping.{is_append_run}
 use Rattle.btr_engine.proofs.Appending.{IsExtentOf, StandAfter}
 
@@ -51,10 +51,10 @@ fits_ready e r some few made = record {
 }
 
 -- Its bytes are the blocks that it needs.
-pub need_of_ready : (e : Entry) (r : Ready) → 1 ≤ r.staged.next.entries → r.staged.next.entries < 2 ^ 64 → IsMade e r → (need (body_in_run r.extent.items) ≡ length r.extent.items / 4096) × IsAppendRun r.extent.items
+pub need_of_ready : (e : Entry) (r : Ready) → 1 ≤ r.staged.next.entries → r.staged.next.entries < 2 ^ 64 → IsMade e r → (need (body_in_run r.extent) ≡ length r.extent / 4096) × IsAppendRun r.extent
 need_of_ready e r some few made =
-    let run = is_append_run r.staged.next.entries e r.staged.root (written_pages r.staged) r.extent.items made.bytes (fits_ready e r some few made) in
-    (omega (arith, length-run r.extent.items run), run)
+    let run = is_append_run r.staged.next.entries e r.staged.root (written_pages r.staged) r.extent made.bytes (fits_ready e r some few made) in
+    (omega (arith, length-run r.extent run), run)
 
 module _ (h : List Entry) (b : Kept) (of : IsBoardOf h b) (tail : ℕ) where
   -- There are as many nodes as the entry has node blocks.
@@ -69,7 +69,7 @@ module _ (h : List Entry) (b : Kept) (of : IsBoardOf h b) (tail : ℕ) where
       nodes-counted h b s.next of e (first_page tail e) stream (change cut added) _ (distillate-makes stream cut added reads) s.nodes.items s.root w
 
   -- The extent of an entry that was made ready.
-  pub extent_of_ready : (e : Entry) (r : Ready) (run : List ℕ) → IsMade e r → IsStaged h b tail e r → run ≡ r.extent.items → IsExtentOf h e r.staged.root (written_pages r.staged) run
+  pub extent_of_ready : (e : Entry) (r : Ready) (run : List ℕ) → IsMade e r → IsStaged h b tail e r → run ≡ r.extent → IsExtentOf h e r.staged.root (written_pages r.staged) run
   extent_of_ready e r run made is same = record {
     allowed = is.allowed;
     spelled = made.spelled;
@@ -110,7 +110,7 @@ module _ (h : List Entry) (b : Kept) (of : IsBoardOf h b) (tail : ℕ) where
         let behind : tail ≤ first = omega arith in
         let its : pages_of stream nodes ≡ written_pages s = ap (λ n. pages_of n nodes) (sym of_stream) in
         let all : first + length nodes ≤ tail + need_of h e = omega (arith, counted, count) in
-        let fact = told h b s.next of e first stream c read makes nodes s.root w pages tail stored behind values small (few stream) blocks in
+        let fact = reported h b s.next of e first stream c read makes nodes s.root w pages tail stored behind values small (few stream) blocks in
         let next = stored-next h b s.next of e first stream c read makes nodes s.root w pages tail stored behind values small (few stream) blocks (tail + need_of h e) all in
         let leads = root-leads h b s.next of e first stream c read makes nodes s.root w pages tail stored behind values small (few stream) blocks in
         record {

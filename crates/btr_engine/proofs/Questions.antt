@@ -32,9 +32,9 @@ use Rattle.btr_engine.proofs.BoardNext.{kept-stream}
 -- The answer for a good question, and for a bad one.
 pub answer-there : (h : List Entry) (stream asked : ℕ) → stream < length (ids h) → asked ≤ latest h stream → (good : Bool) (rows : List Point → Rows) → answer_at h stream asked good rows ≡ cond good (Found asked (rows (bag h stream asked))) (Refused BadRange)
 answer-there h stream asked is_there made good rows =
-    let told = cond good (Found asked (rows (bag h stream asked))) (Refused BadRange) in
-    ap (λ t. cond t (Refused NoStream) (cond (nat_lt (latest h stream) asked) (Refused (NoVersion asked (latest h stream))) told)) (lt-leb (length (ids h)) stream is_there)
-    ∙ ap (λ t. cond t (Refused (NoVersion asked (latest h stream))) told) (le-ltb (latest h stream) asked made)
+    let reported = cond good (Found asked (rows (bag h stream asked))) (Refused BadRange) in
+    ap (λ t. cond t (Refused NoStream) (cond (nat_lt (latest h stream) asked) (Refused (NoVersion asked (latest h stream))) reported)) (lt-leb (length (ids h)) stream is_there)
+    ∙ ap (λ t. cond t (Refused (NoVersion asked (latest h stream))) reported) (le-ltb (latest h stream) asked made)
 
 module _ (h : List Entry) (stream version asked : ℕ) (t : TreeValue) (there : IsVersion h stream asked version t) where
   good_or_bad : (good : Bool) (rows : List Point → Rows) → answer_at h stream asked good rows ≡ cond good (Found asked (rows (bag h stream asked))) (Refused BadRange)

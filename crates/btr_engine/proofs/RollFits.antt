@@ -38,7 +38,7 @@ use Rattle.btr_engine.proofs.NumberingLemmas.{numbers-counted}
 
 -- ---- reads in turn
 
--- A new version of an input may be read after an old one, if each stream has so many versions.
+-- A new version of an input may be read after an old one, if each stream has this many versions.
 abbrev Next : (ℕ → ℕ) → ℕ → ℕ → ℕ → Type 0
 Next count input old new = (old ≤ new) × (new ≤ count input)
 

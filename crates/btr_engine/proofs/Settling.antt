@@ -24,7 +24,7 @@ or-true true = refl
 or-true false = refl
 
 module _ {D : Type 0} {disk : Ghosts D} where
-  -- The numbers of an engine with this superblock, this log and so many entries, which was opened as the old one, and whether it is
+  -- The numbers of an engine with this superblock, this log and this many entries, which was opened as the old one, and whether it is
   -- stopped.
   pub record Goes (old : Engine D disk) (s : Super) (l : Log D disk) (stopped : Bool) (entries : ℕ) : Type 0 where
     pub marked : stopped ≡ log.is_log_stopped l
@@ -44,7 +44,7 @@ module _ {D : Type 0} {disk : Ghosts D} where
       let on = is.0.1 in
       let w = is.1 in
       let runs : old.stopped ≡ false = old.marked ∙ on.ready_for.runs in
-      let two = needs_two r.staged.next.entries is.0.0 r.staged.root (written_pages r.staged) r.extent.items on.ready_for.made.bytes (pages-places r.staged.receipt.stream r.staged.nodes.items) in
+      let two = needs_two r.staged.next.entries is.0.0 r.staged.root (written_pages r.staged) r.extent on.ready_for.made.bytes (pages-places r.staged.receipt.stream r.staged.nodes.items) in
       record {
         marked = ap (λ b. b || false) runs ∙ sym w.appended.runs;
         counted = omega (arith, old.counted, on.next, w.appended.extents);

@@ -7,8 +7,8 @@ use Rattle.btr_tree.specs.Stored.{IsBelow}
 use Rattle.btr_node.specs.Page.{Fits}
 use Rattle.btr_node.specs.declared.page.NodePage.{NodePage}
 use Rattle.btr_pages.specs.Pages.{Pages, with_pages, nodes_in, ArePages}
-use Rattle.btr_pages.specs.Told.{AreKept}
-use Rattle.btr_pages.proofs.ToldLemmas.{kept-more}
+use Rattle.btr_pages.specs.Reported.{AreKept}
+use Rattle.btr_pages.proofs.ReportedLemmas.{kept-more}
 use Rattle.btr_hist.specs.declared.entry.Entry.{Entry}
 use Rattle.btr_hist.specs.declared.entry.Entry.TheVariants.{Create, Define, Commit, Distillate}
 use Rattle.btr_engine.specs.declared.board.Staged.{Staged}

@@ -27,9 +27,9 @@ use Rattle.btr_tree.specs.Stored.{IsBelow}
 use Rattle.btr_tree.proofs.LeadsLemmas.{stored-leads}
 use Rattle.btr_node.specs.declared.page.NodePage.{NodePage}
 use Rattle.btr_pages.specs.Pages.{Pages, with_pages, nodes_in, page_of, pages_of}
-use Rattle.btr_pages.specs.Told.{AreKept, AreTold}
+use Rattle.btr_pages.specs.Reported.{AreKept, AreReported}
 use Rattle.btr_pages.proofs.PageOfLemmas.{HasPlaces, page_of-places, each-map}
-use Rattle.btr_pages.proofs.ToldLemmas.{with-either, stored-along, kept-more, below-more, told-pages}
+use Rattle.btr_pages.proofs.ReportedLemmas.{with-either, stored-along, kept-more, below-more, reported-pages}
 use Rattle.btr_pages.proofs.PagesLemmas.{right-none}
 use Rattle.btr_hist.specs.declared.entry.Entry.{Entry}
 use Rattle.btr_hist.specs.declared.kernel.Reads.{Reads}
@@ -249,8 +249,8 @@ module _ (h : List Entry) (b next : Kept) (of : IsBoardOf h b) (e : Entry) (firs
         below-more (nodes_in pages s) gate first 10 FIRST w.last.node behind (subst (λ o. IfSome o (λ (u : TreeValue). IsBelow (nodes_in pages s) gate 10 FIRST u.node)) at (stored.each s (length w.kept.trees - 1)))
 
     -- The pages stand rightly, their numbers fit, and the new tree is stored.
-    pub told : AreTold pages s first nodes w.new
-    told = told-pages pages s first past commit w.last w.new nodes
+    pub reported : AreReported pages s first nodes w.new
+    reported = reported-pages pages s first past commit w.last w.new nodes
         (record { some = omega (arith, version-is); before = before; tree = old-tree; stored = last-stored; kept = stored.kept; values = values; stream_to = low; version_to = omega (arith, version-is) })
         (record { tree = new-tree; nodes = new-ones; laid = w.writes.laid; blocks = blocks })
 
@@ -258,7 +258,7 @@ module _ (h : List Entry) (b next : Kept) (of : IsBoardOf h b) (e : Entry) (firs
     pub root-leads : LeadsToLatest (with_pages pages first (pages_of s nodes)) (h ++ e ∷ []) s root
     root-leads =
         let P = with_pages pages first (pages_of s nodes) in
-        let leads = stored-leads (nodes_in P s) (Stand P s) (λ block n at. at) 10 FIRST above_root (commit ▷ past) w.new.node new-tree.node told.stored.stored in
+        let leads = stored-leads (nodes_in P s) (Stand P s) (λ block n at. at) 10 FIRST above_root (commit ▷ past) w.new.node new-tree.node reported.stored.stored in
         subst (λ r. LeadsToLatest P (h ++ e ∷ []) s r) (sym w.writes.root_is) (subst (λ p. Leads (Stand P s) 10 FIRST above_root p (block_of w.new.node)) latest-past leads)
 
     -- The trees of the next board are stored.
@@ -266,8 +266,8 @@ module _ (h : List Entry) (b next : Kept) (of : IsBoardOf h b) (e : Entry) (firs
     stored-next later all =
         let ps = pages_of s nodes in
         let many : length ps ≡ length nodes = length-map nodes (page_of s) in
-        let here = below-more (nodes_in (with_pages pages first ps) s) (first + length nodes) later 10 FIRST w.new.node all told.stored in
-        stored-version pages gate first later ps b next s w.kept w.new read stored w.there w.streams (kept-more pages first ps stored.kept told.stand told.fit) behind (omega arith) here
+        let here = below-more (nodes_in (with_pages pages first ps) s) (first + length nodes) later 10 FIRST w.new.node all reported.stored in
+        stored-version pages gate first later ps b next s w.kept w.new read stored w.there w.streams (kept-more pages first ps stored.kept reported.stand reported.fit) behind (omega arith) here
 
 each-page : (stream : ℕ) (nodes : List NewNodeValue) → AllByRecursion (λ n. HasPlaces (page_of stream n)) nodes
 each-page stream [] = tt

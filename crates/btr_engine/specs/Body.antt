@@ -5,6 +5,7 @@ use Rattle.btr_base.specs.Commit.{Change}
 use Rattle.btr_base.specs.declared.limits.TheConstants.{FIRST}
 use Rattle.btr_disk.specs.Gate.{zeros}
 use Rattle.btr_log.specs.Extents.{need, first_gate}
+use Rattle.btr_log.specs.declared.head.Head.{Head}
 use Rattle.btr_log.specs.Head.{content_blocks, head_bytes, entry_head, checkpoint_head}
 use Rattle.btr_node.specs.Page.{page_bytes, Fits}
 use Rattle.btr_node.specs.declared.page.NodePage.{NodePage}
@@ -32,6 +33,11 @@ unfoldable pub body_of : ℕ → Entry → ℕ → List NodePage → List ℕ
 body_of number e root pages =
     head_bytes (entry_head number (length (spelling e)) (length pages) root)
     ++ ((spelling e ++ zeros (padding (length (spelling e)))) ++ flat_map page_bytes pages)
+
+-- A head, a content, zeros up to the end of its last block, pages, one in each block, and one block of zeros.
+abbrev pub extent_bytes : Head → List ℕ → List NodePage → List ℕ
+extent_bytes head content pages =
+    (head_bytes head ++ ((content ++ zeros (padding (length content))) ++ flat_map page_bytes pages)) ++ zeros 4096
 
 -- ---- the part of a log before a gate
 

@@ -6,7 +6,7 @@ use Rattle.btr_tree.specs.Root.{TreeValue}
 use Rattle.btr_tree.specs.Slots.{block_of}
 use Rattle.btr_tree.specs.Stored.{IsBelow}
 use Rattle.btr_pages.specs.Pages.{Pages, nodes_in}
-use Rattle.btr_pages.specs.Told.{AreKept}
+use Rattle.btr_pages.specs.Reported.{AreKept}
 use Rattle.btr_engine.specs.Board.{Versions}
 use Rattle.btr_engine.specs.Rolling.{root_at}
 

@@ -1,5 +1,6 @@
 -- The travel of the log: what is made ready to be written, what a write does to a log that is out, and what the engine is when it is back.
-use Rattle.std.specs.Prelude.{◌≡◌, ℕ, ◌+◌, ◌*◌, ◌^◌, ◌<◌, ◌≤◌, Bool, true, false, List, [], ◌∷◌, ◌++◌, length, Option, Some, None, option_map}
+use Rattle.std.specs.Prelude.{◌≡◌, ℕ, ◌+◌, ◌*◌, ◌^◌, ◌<◌, ◌≤◌, Bool, true, false, List, [], ◌∷◌, ◌++◌, length}
+use Rattle.std.specs.Prelude.{Option, Some, None, option_map}
 use Rattle.btr_disk.specs.declared.disk.Disk.{Ghosts}
 use Rattle.btr_disk.specs.Gate.{zeros}
 use Rattle.btr_disk.specs.Images.{Only}
@@ -36,7 +37,7 @@ written_pages s = pages_of s.receipt.stream s.nodes.items
 -- staged. The receipt says this number.
 pub record IsMade (e : Entry) (r : Ready) : Type 0 where
   pub spelled : IsSpelled e
-  pub bytes : r.extent.items ≡ body_of r.staged.next.entries e r.staged.root (written_pages r.staged) ++ zeros 4096
+  pub bytes : r.extent ≡ body_of r.staged.next.entries e r.staged.root (written_pages r.staged) ++ zeros 4096
   pub low : r.staged.root < 2 ^ 64
   pub room : content_blocks (length (spelling e)) + length r.staged.nodes.items < 2 ^ 64
   pub numbered : r.staged.receipt.number ≡ r.staged.next.entries
@@ -74,12 +75,12 @@ module _ {D : Type 0} {disk : Ghosts D} where
     pub some : 1 ≤ r.staged.next.entries
     pub behind : 2 * r.staged.next.entries + 2 ≤ log_tail l
     pub runs : is_log_stopped l ≡ false
-    pub fits : need (body_in_run r.extent.items) ≤ log_room l
+    pub fits : need (body_in_run r.extent) ≤ log_room l
 
   -- The second log is the first one with the extent that was made ready. It is durable.
   pub record IsWritten (old new : Log D disk) (r : Ready) : Type 0 where
     pub kept : KeepsBounds old new
-    pub appended : IsAppended old new r.extent.items
+    pub appended : IsAppended old new r.extent
 
   -- The device has failed, within the calls of a write, and the log is stopped.
   pub record HasFailed (old new : Log D disk) : Type 0 where

@@ -12,15 +12,15 @@ use crate::board::Board;
 use crate::engine::Engine;
 use crate::extent::encode_checkpoint;
 use crate::step::{StepFault, step_fault};
-use btr_disk::Disk;
+use btr_disk::{Disk, Parts};
 use btr_super::{FORMAT, Super, replace};
 use std::alloc::{AllocError, Global};
 
 impl Board {
     /// Returns the body of a checkpoint of this board, followed by one block of zeros. An `Err` means out of memory.
-    fn checkpoint_run(&self, alloc: Global) -> Result<Vec<u8>, AllocError>
-        ensures bytes { IfOk result (λ v. v.items ≡ run_of_board self.now) }
-        ensures run { IfOk result (λ v. IsAppendRun v.items) }
+    fn checkpoint_run(&self, alloc: Global) -> Result<Parts, AllocError>
+        ensures bytes { IfOk result (λ p. p ≡ run_of_board self.now) }
+        ensures run { IfOk result (λ p. IsAppendRun p) }
     {
         let roll = self.roll(alloc)?;
         encode_checkpoint(alloc, &roll, self.entries())
@@ -68,7 +68,7 @@ impl<D: Disk> Engine<D> {
 
     /// Appends the extent of a checkpoint of the board, and replaces the superblock by one that names the checkpoint. Returns the number
     /// of entries.
-    pub(crate) fn mark(&mut self, extent: &[u8]) -> Result<u64, StepFault>
+    pub(crate) fn mark(&mut self, extent: &Parts) -> Result<u64, StepFault>
         requires home { is_home self.old ≡ true }
         requires runs { is_stopped self.old ≡ false }
         requires bytes { extent.now ≡ run_of_board (board_of self.old) }

@@ -2,17 +2,18 @@
 ghost use Rattle.std.specs.Prelude.{◌≡◌, ◌+◌, ◌*◌, ◌^◌, ◌<◌, ◌≤◌, ◌++◌, length, IfOk, OnOk};
 ghost use Rattle.std.specs.List.{flat_map};
 ghost use Rattle.btr_disk.specs.Gate.{zeros};
-ghost use Rattle.btr_log.specs.Head.{content_blocks};
+ghost use Rattle.btr_log.specs.Head.{content_blocks, head_bytes, IsHead};
 ghost use Rattle.btr_log.specs.Append.{IsAppendRun};
 ghost use Rattle.btr_node.specs.Page.{page_bytes};
 ghost use Rattle.btr_pages.specs.Pages.{pages_of};
 ghost use Rattle.btr_entry.specs.Grammar.{spelling, IsSpelled, IsWithinBounds};
 ghost use Rattle.btr_roll.specs.Roll.{IsRollWithinBounds};
-ghost use Rattle.btr_engine.specs.Body.{padding, body_of};
+ghost use Rattle.btr_engine.specs.Body.{padding, body_of, extent_bytes};
 ghost use Rattle.btr_engine.specs.Mark.{body_of_roll};
 
-use btr_disk::BLOCK;
-use btr_entry::encode;
+use crate::maker::Maker;
+use btr_disk::{BLOCK, Parts};
+use btr_entry::{append_entry, append_front, spelling_length};
 use btr_hist::Entry;
 use btr_log::{HEAD_BYTES, Head, blocks_of_content};
 use btr_pages::append_page;
@@ -20,59 +21,107 @@ use btr_roll::{Roll, encode_roll};
 use btr_tree::NewNode;
 use std::alloc::{AllocError, Global};
 
-/// Returns the body of the entry with this number, followed by one block of zeros, in a vector of exactly that capacity. The body
-/// has this root, and the pages of these nodes of this stream. It takes time linear in the entry and the nodes, and memory for the
-/// entry's spelling beside the vector.
-pub(crate) fn encode_extent(
+/// The least number of nodes whose pages are worth a thread.
+const LEAST_NODES: usize = 512;
+
+/// Returns the body of the entry with this number, followed by one block of zeros. The body has this root, and the pages of these nodes of
+/// this stream. It takes time linear in the entry and the nodes, and memory for what it returns alone. If there are many nodes, `maker`
+/// makes it in parts.
+pub(crate) fn encode_extent<M: Maker>(
+    maker: &M,
     alloc: Global,
     entry: &Entry,
     number: u64,
     stream: u32,
     root: u64,
     nodes: &[NewNode],
-) -> Result<Vec<u8>, AllocError>
+) -> Result<Parts, AllocError>
+    requires able { M.can_make }
     requires bounds { IsWithinBounds entry.now }
     requires number { 1 ≤ number }
-    ensures bytes { IfOk result (λ v. v.items ≡ body_of number entry.now root (pages_of stream nodes.now) ++ zeros 4096) }
+    ensures bytes { IfOk result (λ p. p ≡ body_of number entry.now root (pages_of stream nodes.now) ++ zeros 4096) }
     ensures spelled { OnOk result (IsSpelled entry.now) }
     ensures low { OnOk result (root < 2 ^ 64) }
     ensures room { OnOk result (content_blocks (length (spelling entry.now)) + length nodes.now < 2 ^ 64) }
 {
-    let content = encode(alloc, entry)?;
-    let head = Head::for_entry(number, content.len() as u64, nodes.len() as u64, root);
-    let mut bytes = [0; HEAD_BYTES];
-    head.encode(&mut bytes);
+    let head = Head::for_entry(number, spelling_length(entry), nodes.len() as u64, root);
+    if maker.threads() < 2 || nodes.len() < LEAST_NODES {
+        return in_one_part(alloc, &head, entry, stream, nodes);
+    }
+    in_parts(maker, alloc, &head, entry, stream, nodes)
+}
+
+/// Returns a head, the spelling of an entry, zeros up to the end of its last block, the pages of nodes, and one block of zeros, in one
+/// part.
+fn in_one_part(
+    alloc: Global,
+    head: &Head,
+    entry: &Entry,
+    stream: u32,
+    nodes: &[NewNode],
+) -> Result<Parts, AllocError>
+    requires head { IsHead head.now }
+    requires bounds { IsWithinBounds entry.now }
+    ensures bytes { IfOk result (λ p. p ≡ extent_bytes head.now (spelling entry.now) (pages_of stream nodes.now)) }
+    ensures spelled { OnOk result (IsSpelled entry.now) }
+{
     let mut extent = Vec::with_capacity(alloc, bytes_of(head.n)?)?;
-    extent.extend_from_slice(&bytes)?;
-    put_content(&mut extent, &content)?;
+    put_head(&mut extent, head)?;
+    append_entry(&mut extent, entry)?;
+    fill_up(&mut extent, spelling_length(entry))?;
     put_pages(&mut extent, stream, nodes)?;
     extent.extend_from_slice(&[0; BLOCK])?;
+    Parts::of(alloc, extent)
+}
+
+/// Returns what [`in_one_part`] returns, in parts that `maker` makes.
+fn in_parts<M: Maker>(
+    maker: &M,
+    alloc: Global,
+    head: &Head,
+    entry: &Entry,
+    stream: u32,
+    nodes: &[NewNode],
+) -> Result<Parts, AllocError>
+    requires able { M.can_make }
+    requires head { IsHead head.now }
+    requires bounds { IsWithinBounds entry.now }
+    ensures bytes { IfOk result (λ p. p ≡ extent_bytes head.now (spelling entry.now) (pages_of stream nodes.now)) }
+    ensures spelled { OnOk result (IsSpelled entry.now) }
+{
+    let mut front = Vec::new(alloc);
+    put_head(&mut front, head)?;
+    let points = append_front(&mut front, entry)?;
+    let mut extent = Parts::of(alloc, front)?;
+    extent.append(maker.points(alloc, points)?)?;
+    extent.push(zeros_after(alloc, spelling_length(entry))?)?;
+    extent.append(maker.pages(alloc, stream, nodes)?)?;
+    extent.push(Vec::from_slice(alloc, &[0; BLOCK])?)?;
     Ok(extent)
 }
 
-/// Returns the body of a checkpoint with these streams after this number of entries, followed by one block of zeros, in a vector of
-/// exactly that capacity. It takes time linear in the streams and versions, and memory for the content beside the vector.
+/// Returns the body of a checkpoint with these streams after this number of entries, followed by one block of zeros, in one part. It
+/// takes time linear in the streams and versions, and memory for the content beside what it returns.
 pub(crate) fn encode_checkpoint(
     alloc: Global,
     roll: &Roll,
     entries: u64,
-) -> Result<Vec<u8>, AllocError>
+) -> Result<Parts, AllocError>
     requires { IsRollWithinBounds roll.now }
-    ensures bytes { IfOk result (λ v. v.items ≡ body_of_roll entries roll.now ++ zeros 4096) }
-    ensures run { IfOk result (λ v. IsAppendRun v.items) }
+    ensures bytes { IfOk result (λ p. p ≡ body_of_roll entries roll.now ++ zeros 4096) }
+    ensures run { IfOk result (λ p. IsAppendRun p) }
 {
     let content = encode_roll(alloc, roll)?;
     let head = Head::for_checkpoint(entries, content.len() as u64);
-    let mut bytes = [0; HEAD_BYTES];
-    head.encode(&mut bytes);
     let mut extent = Vec::with_capacity(alloc, bytes_of(head.n)?)?;
-    extent.extend_from_slice(&bytes)?;
-    put_content(&mut extent, &content)?;
+    put_head(&mut extent, &head)?;
+    extent.extend_from_slice(&content)?;
+    fill_up(&mut extent, content.len() as u64)?;
     extent.extend_from_slice(&[0; BLOCK])?;
-    Ok(extent)
+    Parts::of(alloc, extent)
 }
 
-/// Returns the number of bytes of a body of this many blocks and of the block after it. An `Err` is that no memory has so many.
+/// Returns the number of bytes of a body of this many blocks and of the block after it. An `Err` is that no memory has this many.
 fn bytes_of(blocks: u64) -> Result<usize, AllocError> {
     let Some(length) = (blocks as usize).checked_mul(BLOCK) else {
         return Err(AllocError);
@@ -80,20 +129,43 @@ fn bytes_of(blocks: u64) -> Result<usize, AllocError> {
     length.checked_add(BLOCK).ok_or(AllocError)
 }
 
-/// Appends the content of an extent to its head, and zeros up to the end of the last block of the content. An `Err` is out of
-/// memory.
-fn put_content(extent: &mut Vec<u8>, content: &[u8]) -> Result<(), AllocError>
-    requires head { length extent.old.items ≡ 64 }
-    requires few { 4096 * content_blocks (length content.now) < 2 ^ 64 }
-    ensures { OnOk result (extent.new.items ≡ extent.old.items ++ (content.now ++ zeros (padding (length content.now)))) }
+/// Appends a head. An `Err` is out of memory.
+fn put_head(extent: &mut Vec<u8>, head: &Head) -> Result<(), AllocError>
+    requires { IsHead head.now }
+    ensures { OnOk result (extent.new.items ≡ extent.old.items ++ head_bytes head.now) }
 {
-    extent.extend_from_slice(content)?;
-    extent.resize(blocks_of_content(content.len() as u64) as usize * BLOCK, 0)?;
+    let mut bytes = [0; HEAD_BYTES];
+    head.encode(&mut bytes);
+    extent.extend_from_slice(&bytes)
+}
+
+/// Appends zeros to a head with a content of this length, up to the end of the last block of the content. An `Err` is out of memory.
+fn fill_up(extent: &mut Vec<u8>, content: u64) -> Result<(), AllocError>
+    requires long { length extent.old.items ≡ 64 + content }
+    requires few { 4096 * content_blocks content < 2 ^ 64 }
+    ensures { OnOk result (extent.new.items ≡ extent.old.items ++ zeros (padding content)) }
+{
+    extent.resize(blocks_of_content(content) as usize * BLOCK, 0)?;
     Ok(())
 }
 
+/// Returns the zeros that follow a content of this length, up to the end of its last block. An `Err` is out of memory.
+fn zeros_after(alloc: Global, content: u64) -> Result<Vec<u8>, AllocError>
+    requires { 4096 * content_blocks content < 2 ^ 64 }
+    ensures { IfOk result (λ v. v.items ≡ zeros (padding content)) }
+{
+    let length = blocks_of_content(content) * BLOCK as u64 - HEAD_BYTES as u64 - content;
+    let mut bytes = Vec::new(alloc);
+    bytes.resize(length as usize, 0)?;
+    Ok(bytes)
+}
+
 /// Appends the pages of nodes of a stream, one in each block. An `Err` is out of memory.
-fn put_pages(extent: &mut Vec<u8>, stream: u32, nodes: &[NewNode]) -> Result<(), AllocError>
+pub(crate) fn put_pages(
+    extent: &mut Vec<u8>,
+    stream: u32,
+    nodes: &[NewNode],
+) -> Result<(), AllocError>
     ensures { OnOk result (extent.new.items ≡ extent.old.items ++ flat_map page_bytes (pages_of stream nodes.now)) }
 {
     for node in nodes {

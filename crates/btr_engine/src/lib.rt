@@ -9,6 +9,8 @@
 
 // the bytes of an entry
 mod extent;
+mod extent_parts;
+mod maker;
 // the history in memory
 mod answering;
 mod board;
@@ -27,6 +29,7 @@ mod travel;
 
 pub use board::{Board, PushFault, Receipt, Staged};
 pub use engine::Engine;
+pub use maker::{Alone, Crew, Maker};
 pub use remains::Remains;
 pub use snapshot::Snapshot;
 pub use step::StepFault;

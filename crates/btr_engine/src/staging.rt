@@ -29,6 +29,7 @@ ghost use Rattle.btr_engine.specs.Stage.{WritesNext, WritesCommit, AddsStream, W
 
 use crate::board::{Board, PushFault, Receipt, Staged, Stream, read_at};
 use crate::first_node::{node_of_commit, node_of_distillate};
+use crate::maker::Maker;
 use btr_base::{Bag, MAX_STREAMS, MAX_VERSIONS, Ranges};
 use btr_board::Trail;
 use btr_hist::{Entry, Reads, Rejection, Spec, change_rejection, distillate_change_rejection};
@@ -67,8 +68,15 @@ impl Board {
     /// Of a distillate the stream and the reads are tested, and that its stream may have the points. That its cut and its points
     /// are those of the definition is not tested here: it follows for those that are planned.
     ///
-    /// The nodes that the entry writes are for the blocks after its gate, which is block `tail`, and its content.
-    pub fn stage(&self, alloc: Global, entry: &Entry, tail: u64) -> Result<Staged, PushFault>
+    /// The nodes that the entry writes are for the blocks after its gate, which is block `tail`, and its content. They are made by `maker`.
+    pub fn stage<M: Maker>(
+        &self,
+        maker: &M,
+        alloc: Global,
+        entry: &Entry,
+        tail: u64,
+    ) -> Result<Staged, PushFault>
+        requires able { M.can_make }
         requires few { self.now.entries < 2 ^ 64 - 1 }
         requires tail { tail ≤ 2 ^ 32 }
         ensures allowed { (h : List EntrySpec) → IsBoardOf h self.now → OnOk result (rejection h entry.now ≡ None) }
@@ -80,7 +88,7 @@ impl Board {
         ensures bounds { OnOk result (IsWithinBounds entry.now) }
         ensures writes { IfOk result (WritesEntry self.now entry.now tail) }
     {
-        let next = self.next_board(alloc, entry, tail)?;
+        let next = self.next_board(maker, alloc, entry, tail)?;
         let receipt = receipt_of(self, entry);
         Ok(Staged {
             next: next.board,
@@ -194,7 +202,14 @@ impl Board {
     }
 
     /// Makes the next board, with an entry more, if the entry may follow.
-    fn next_board(&self, alloc: Global, entry: &Entry, tail: u64) -> Result<NextBoard, PushFault>
+    fn next_board<M: Maker>(
+        &self,
+        maker: &M,
+        alloc: Global,
+        entry: &Entry,
+        tail: u64,
+    ) -> Result<NextBoard, PushFault>
+        requires able { M.can_make }
         requires few { self.now.entries < 2 ^ 64 - 1 }
         requires tail { tail ≤ 2 ^ 32 }
         ensures allowed { (h : List EntrySpec) → IsBoardOf h self.now → OnOk result (rejection h entry.now ≡ None) }
@@ -208,14 +223,14 @@ impl Board {
             Entry::Create { id } => self.stage_stream(alloc, *id),
             Entry::Define { id, spec } => self.stage_output(alloc, *id, spec),
             Entry::Commit { stream, cut, added } => {
-                self.stage_commit(alloc, *stream, cut, added, tail)
+                self.stage_commit(maker, alloc, *stream, cut, added, tail)
             }
             Entry::Distillate {
                 stream,
                 cut,
                 added,
                 reads,
-            } => self.stage_distillate(alloc, *stream, cut, added, reads, tail),
+            } => self.stage_distillate(maker, alloc, *stream, cut, added, reads, tail),
         }
     }
 
@@ -277,14 +292,16 @@ impl Board {
     }
 
     /// Makes the next board with a user's commit, if the commit may follow.
-    fn stage_commit(
+    fn stage_commit<M: Maker>(
         &self,
+        maker: &M,
         alloc: Global,
         stream: u32,
         cut: &Ranges,
         added: &Bag,
         tail: u64,
     ) -> Result<NextBoard, PushFault>
+        requires able { M.can_make }
         requires few { self.now.entries < 2 ^ 64 - 1 }
         requires tail { tail ≤ 2 ^ 32 }
         ensures allowed { (h : List EntrySpec) → IsBoardOf h self.now
@@ -305,16 +322,17 @@ impl Board {
         if kept.spec.is_some() {
             return Err(PushFault::Rejected(Rejection::NotWritable));
         }
-        if let Some(why) = change_rejection(cut.as_slice(), added.as_slice()) {
+        if let Some(why) = change_rejection(cut, added) {
             return Err(PushFault::Rejected(why));
         }
         let first = node_of_commit(tail, cut, added);
-        self.stage_version(alloc, place, kept, cut, added, None, first)
+        self.stage_version(maker, alloc, place, kept, cut, added, None, first)
     }
 
     /// Makes the next board with a distillate, if the distillate may follow, whatever the kernel is.
-    fn stage_distillate(
+    fn stage_distillate<M: Maker>(
         &self,
+        maker: &M,
         alloc: Global,
         stream: u32,
         cut: &Ranges,
@@ -322,6 +340,7 @@ impl Board {
         reads: &Reads,
         tail: u64,
     ) -> Result<NextBoard, PushFault>
+        requires able { M.can_make }
         requires few { self.now.entries < 2 ^ 64 - 1 }
         requires tail { tail ≤ 2 ^ 32 }
         ensures allowed { (h : List EntrySpec) → IsBoardOf h self.now
@@ -342,18 +361,20 @@ impl Board {
         if !self.takes_reads(kept, reads) {
             return Err(PushFault::Rejected(Rejection::NotWritable));
         }
-        if let Some(why) = distillate_change_rejection(cut.as_slice(), added.as_slice()) {
+        if let Some(why) = distillate_change_rejection(cut, added) {
             return Err(PushFault::Rejected(why));
         }
         let first = node_of_distillate(tail, cut, added, reads);
-        self.stage_version(alloc, place, kept, cut, added, Some(*reads), first)
+        let reads = Some(*reads);
+        self.stage_version(maker, alloc, place, kept, cut, added, reads, first)
     }
 
     /// Makes the next board with one version more of the stream at a place, which is `kept`, if the stream may have it: a commit of
     /// this change, which has read these versions, or none if the stream is plain. All tests that look at no points have passed
     /// but that of the number of versions.
-    fn stage_version(
+    fn stage_version<M: Maker>(
         &self,
+        maker: &M,
         alloc: Global,
         place: usize,
         kept: &Stream,
@@ -362,6 +383,7 @@ impl Board {
         read: Option<Reads>,
         first: u64,
     ) -> Result<NextBoard, PushFault>
+        requires able { M.can_make }
         requires few { self.now.entries < 2 ^ 64 - 1 }
         requires there { slice_get self.now.streams place ≡ Some kept.now }
         requires grown { IsGrown kept.now }
@@ -380,7 +402,7 @@ impl Board {
         ensures writes { IfOk result (λ n. WritesCommit self.now first place (change cut.now added.now) read
             n.board n.nodes.items n.root) }
     {
-        let next = next_tree(alloc, &kept.trees, cut, added, first)?;
+        let next = next_tree(maker, alloc, &kept.trees, cut, added, first)?;
         let board = self.with_version(alloc, place, kept, next.tree, read)?;
         Ok(NextBoard {
             board,
@@ -431,7 +453,7 @@ impl Board {
         if kept.spec.is_some() {
             return Some(Rejection::NotWritable);
         }
-        if let Some(why) = change_rejection(cut.as_slice(), added.as_slice()) {
+        if let Some(why) = change_rejection(cut, added) {
             return Some(why);
         }
         version_refusal(kept)
@@ -454,7 +476,7 @@ impl Board {
         if !self.takes_reads(kept, reads) {
             return Some(Rejection::NotWritable);
         }
-        if let Some(why) = distillate_change_rejection(cut.as_slice(), added.as_slice()) {
+        if let Some(why) = distillate_change_rejection(cut, added) {
             return Some(why);
         }
         version_refusal(kept)
@@ -684,13 +706,15 @@ fn latest_reads(kept: &Stream, spec: &Spec) -> Reads
 
 /// Returns the tree of the next version of a stream with these trees, if the stream may have the version and its points, and what
 /// the version writes, from the block `first` on. The added points lie in the domain.
-fn next_tree(
+fn next_tree<M: Maker>(
+    maker: &M,
     alloc: Global,
     trees: &Trail<Tree>,
     cut: &Ranges,
     added: &Bag,
     first: u64,
 ) -> Result<NextVersion, PushFault>
+    requires able { M.can_make }
     requires some { 1 ≤ length trees.now }
     requires grown { AllByRecursion HasPast trees.now }
     requires times { AreInDomain added.now }
@@ -712,7 +736,8 @@ fn next_tree(
         unreachable!()
     };
     let mut steps = Steps::<StageWalk>::new();
-    match last.apply(alloc, cut, added, latest as u64 + 1, first, &mut steps) {
+    let version = latest as u64 + 1;
+    match maker.apply(alloc, last, cut, added, version, first, &mut steps) {
         Ok(applied) => {
             let root = applied.tree.root();
             Ok(NextVersion {

@@ -9,6 +9,7 @@ ghost use Rattle.btr_engine.specs.Step.{history_after, in_flight_after, IsBefore
 
 use crate::board::{PushFault, Receipt};
 use crate::engine::Engine;
+use crate::maker::Alone;
 use btr_disk::Disk;
 use btr_hist::{Entry, Rejection};
 use btr_log::AppendFault;
@@ -74,7 +75,7 @@ impl<D: Disk> Engine<D> {
         let Some(log) = self.take_log() else {
             unreachable!()
         };
-        let ready = match self.stage(alloc, &log, entry) {
+        let ready = match self.stage(&Alone, alloc, &log, entry) {
             Ok(ready) => ready,
             Err(fault) => {
                 self.settle(log, None, false);

@@ -14,8 +14,9 @@ ghost use Rattle.btr_engine.specs.Travel.{IsTaken, Settles, IsHomeAgain};
 use crate::board::{Receipt, Staged};
 use crate::engine::Engine;
 use crate::extent::encode_extent;
+use crate::maker::Maker;
 use crate::step::StepFault;
-use btr_disk::{BLOCK, Disk, Failed};
+use btr_disk::{BLOCK, Disk, Failed, Parts};
 use btr_hist::Entry;
 use btr_log::Log;
 use std::alloc::Global;
@@ -27,7 +28,7 @@ pub struct Ready {
     pub(crate) staged: Staged,
 
     /// The body of the entry with the pages of its nodes, and one block of zeros.
-    pub(crate) extent: Vec<u8>,
+    pub(crate) extent: Parts,
 }
 
 impl Ready {
@@ -75,8 +76,16 @@ impl<D: Disk> Engine<D> {
     }
 
     /// Tests an entry, and makes all that is needed to add it, for the log of this engine, which may be out. It takes all memory of a
-    /// step, calls no device, and changes nothing. Of several causes the one that stands first in [`StepFault`] is returned.
-    pub fn stage(&self, alloc: Global, log: &Log<D>, entry: &Entry) -> Result<Ready, StepFault>
+    /// step, calls no device, and changes nothing. Of several causes the one that stands first in [`StepFault`] is returned. What is large
+    /// is made by `maker`.
+    pub fn stage<M: Maker>(
+        &self,
+        maker: &M,
+        alloc: Global,
+        log: &Log<D>,
+        entry: &Entry,
+    ) -> Result<Ready, StepFault>
+        requires able { M.can_make }
         requires log { log.now ≡ log_of self.now }
         ensures stopped { IsTrue (is_stopped self.now) → result ≡ Err (Stopped (entries_of self.now)) }
         ensures ready { IfOk result (IsReadyOn self.now entry.now) }
@@ -90,7 +99,7 @@ impl<D: Disk> Engine<D> {
                 entries: self.board.entries(),
             });
         }
-        let ready = self.make_ready(alloc, log.tail(), entry)?;
+        let ready = self.make_ready(maker, alloc, log.tail(), entry)?;
         let need = (ready.extent.len() / BLOCK) as u64;
         let left = log.room();
         if need > left {
@@ -101,7 +110,14 @@ impl<D: Disk> Engine<D> {
 
     /// Tests an entry, but not if there is room for it, and makes all that is needed to add it. The gate before its extent is block
     /// `tail`.
-    fn make_ready(&self, alloc: Global, tail: u64, entry: &Entry) -> Result<Ready, StepFault>
+    fn make_ready<M: Maker>(
+        &self,
+        maker: &M,
+        alloc: Global,
+        tail: u64,
+        entry: &Entry,
+    ) -> Result<Ready, StepFault>
+        requires able { M.can_make }
         requires runs { is_stopped self.now ≡ false }
         requires tail { tail ≡ tail_of self.now }
         ensures made { IfOk result (IsMade entry.now) }
@@ -111,9 +127,10 @@ impl<D: Disk> Engine<D> {
         ensures cause { (h : List EntrySpec) → IsEngineOf h self.now → IfErr result (StepCause h self.now self.now entry.now) }
         ensures refused { IfErr result (λ fault. HasResult self.now self.now (Err fault)) }
     {
-        let staged = self.board.stage(alloc, entry, tail)?;
+        let staged = self.board.stage(maker, alloc, entry, tail)?;
         let receipt = staged.receipt;
         let extent = encode_extent(
+            maker,
             alloc,
             entry,
             receipt.number,

@@ -28,7 +28,7 @@ fn add(alloc: Global, board: &mut Board, entry: &Entry) -> Result<Receipt, PushF
     if board.entries() == u64::MAX {
         return Err(PushFault::Want);
     }
-    let staged = board.stage(alloc, entry, 4)?;
+    let staged = board.stage(&Alone, alloc, entry, 4)?;
     Ok(board.accept(staged))
 }
 

@@ -16,6 +16,8 @@ mod gate_tests;
 #[cfg(test)]
 mod log_tests;
 #[cfg(test)]
+mod maker_tests;
+#[cfg(test)]
 mod open_tests;
 #[cfg(test)]
 mod plan_tests;

@@ -7,7 +7,7 @@ ghost use Rattle.btr_log.specs.Append.{IsAppendRun};
 
 use crate::fixture::no_wrong;
 use btr_disk::bytes::put;
-use btr_disk::{BLOCK, Capacity, Disk, GATE_MARK, MemDisk, is_open_gate};
+use btr_disk::{BLOCK, Capacity, Disk, GATE_MARK, MemDisk, Parts, is_open_gate};
 use btr_log::laws::is_same_head;
 use btr_log::*;
 use std::alloc::{AllocError, Global};
@@ -83,13 +83,13 @@ fn body_of(alloc: Global, head: &Head) -> Result<Vec<u8>, AllocError>
 }
 
 /// A body with this head, and a block of zeros.
-fn run_of(alloc: Global, head: &Head) -> Result<Vec<u8>, AllocError>
+fn run_of(alloc: Global, head: &Head) -> Result<Parts, AllocError>
     requires head { IsHead head.now }
     requires few { head.now.n ≤ 2 ^ 20 }
-    ensures { IfOk result (λ run. IsAppendRun run.items) }
+    ensures { IfOk result (λ run. IsAppendRun run) }
 {
-    let mut run = body_of(alloc, head)?;
-    run.extend_from_slice(&[0; BLOCK])?;
+    let mut run = Parts::of(alloc, body_of(alloc, head)?)?;
+    run.push(vec![in alloc; 0; BLOCK]?)?;
     Ok(run)
 }
 

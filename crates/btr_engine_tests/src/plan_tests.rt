@@ -1,7 +1,7 @@
 //! Tests of sights and plans over small histories. The expected plans are worked out by hand.
 use crate::fixture::{Pairs, insert, no_wrong};
 use btr_base::{Bag, Ranges};
-use btr_engine::{Board, Snapshot};
+use btr_engine::{Alone, Board, Snapshot};
 use btr_hist::{Entry, Kernel, Reads, Spec};
 use btr_plan::{Next, next_plan, next_plan_shared, sight};
 use std::alloc::{AllocError, Global};
@@ -28,7 +28,7 @@ fn add(alloc: Global, board: &mut Board, entry: &Entry) -> Result<(), Fail> {
     if board.entries() == u64::MAX {
         return Err("too many entries".into());
     }
-    match board.stage(alloc, entry, 4) {
+    match board.stage(&Alone, alloc, entry, 4) {
         Ok(staged) => {
             board.accept(staged);
             Ok(())

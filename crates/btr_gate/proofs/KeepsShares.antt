@@ -40,8 +40,8 @@ module _ {T E X : Type 0} where
 
   -- After the look, the pass is in one history with what it and the other had seen.
   pub one_history : (v u : View E X) (out : List (ℕ × Option (Turn T E))) (found slots : ℕ) (met after : Seated T E X) → met ≡ (just_met v u, out) → Settles (step slots 0 0 0 maybe.none) met found after → HaveOneHistory v u after.0
-  one_history v u out found slots met after is told =
-      let t = told v.seen u.seen (met_stage v u out met is) in
+  one_history v u out found slots met after is reported =
+      let t = reported v.seen u.seen (met_stage v u out met is) in
       let h = t.1 in
       let e = ap (λ (m : Seated T E X). m.0.seen) t.0 ∙ ap (λ (m : Seated T E X). m.0.seen) is in record {
         this = subst (λ (l : List E). StartsWith l v.seen) (sym e) (longer_first h.0 v.seen u.seen h.1 h.2);

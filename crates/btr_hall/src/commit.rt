@@ -11,8 +11,10 @@ use btr_disk::Disk;
 use btr_engine::{Engine, Receipt, StepFault};
 use btr_hist::Entry;
 use std::alloc::Global;
+use std::marker::Sync;
 use std::snapshot::Snapshot as State;
 use std::sync::Wait;
+use std::thread::Threads;
 
 impl<D: Disk> Session<D> {
     /// Adds an entry to the history: [`Engine::step`] in a turn. The entry is no distillate; see [`Session::land`].
@@ -21,10 +23,10 @@ impl<D: Disk> Session<D> {
     /// entry if it was accepted, or with its halt if the device failed; the number of this item is then one of its own. After a
     /// halt each session's entries are refused as `Stopped`.
     ///
-    /// It waits until nobody else has the log, then for a turn, and then costs what a step costs. It sleeps if it waits long. Who
-    /// commits again at once may pass those who sleep, for about a millisecond. While the device writes others have their turns. The
-    /// result and the entry are those of a step after the list of the first turn: nobody adds an entry in between.
-    pub fn commit<R: Wait>(
+    /// It waits until nobody else has the log, then for a turn, and then costs what a step costs. It starts no thread. It sleeps if it
+    /// waits long. Who commits again at once may pass those who sleep, for about a millisecond. While the device writes others have their
+    /// turns. The result and the entry are those of a step after the list of the first turn: nobody adds an entry in between.
+    pub fn commit<R: Threads + Wait + Sync>(
         &mut self,
         rt: &R,
         alloc: Global,
@@ -39,7 +41,7 @@ impl<D: Disk> Session<D> {
         ensures alone { IsAlone self.old → IsStep (engine_of hall.now self.old) (engine_of hall.now self.new) entry.now result }
     {
         let turn = home_turn(rt, hall, &mut self.pass);
-        add_in(rt, alloc, hall, &mut self.pass, turn, entry)
+        add_in(rt, alloc, hall, &mut self.pass, turn, entry, 1)
     }
 }
 

@@ -16,7 +16,9 @@ use btr_distil::Plan;
 use btr_engine::{Receipt, StepFault};
 use btr_hist::Rejection;
 use std::alloc::Global;
+use std::marker::Sync;
 use std::sync::Wait;
+use std::thread::Threads;
 
 /// Why a plan was not landed. If several causes hold, the first in this order is returned. Only `Crowded` and `TooManyPoints`, which
 /// are found last, may be hidden by `Want`.
@@ -55,13 +57,15 @@ impl<D: Disk> Session<D> {
     /// If the output has another version since the one that the plan follows, the plan is superseded, and nothing is added. What
     /// was added to the inputs in between does not matter: the plan says which of their versions were read.
     ///
-    /// It waits and costs as [`Session::commit`] does.
-    pub fn land<R: Wait>(
+    /// It waits and costs as [`Session::commit`] does. At most `threads` threads make what is written, the calling one among them: if that
+    /// is one, or the plan is small, it starts no thread.
+    pub fn land<R: Threads + Wait + Sync>(
         &mut self,
         rt: &R,
         alloc: Global,
         hall: &Hall<D>,
         plan: &Plan,
+        threads: usize,
     ) -> Result<Receipt, LandFault>
         requires session { IsSessionOf hall.now self.old }
         requires planned { (h : List EntrySpec) → IsEngineOf h (opening_of hall.now) → IsPlanOf (history_of h (seen_of self.old)) plan.now }
@@ -75,7 +79,8 @@ impl<D: Disk> Session<D> {
             hall.lock.release();
             return Err(LandFault::Superseded { version });
         }
-        match add_in(rt, alloc, hall, &mut self.pass, turn, plan.entry()) {
+        let entry = plan.entry();
+        match add_in(rt, alloc, hall, &mut self.pass, turn, entry, threads) {
             Ok(receipt) => Ok(receipt),
             Err(fault) => Err(land_fault(fault)),
         }

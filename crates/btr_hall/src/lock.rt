@@ -13,7 +13,7 @@ const FREE_LOOKS: u32 = 8;
 /// How long a nap lasts, in microseconds.
 const NAP: u64 = 100;
 
-/// How often the first one in the queue naps before it asks that nobody passes it.
+/// How often the first one in the queue naps before it asks not to be passed.
 const NAPS: u32 = 10;
 
 /// The number of bells. With more sessions in the queue some share a bell, and wake for each other.
@@ -23,7 +23,7 @@ const BELLS: u64 = 16;
 ///
 /// Who finds the log free takes it, although others wait: a thread that runs goes on, where a thread that sleeps would have to be
 /// woken first. The others wait in the order of arrival, and all but the first one sleep, each at a bell of its own. The first one
-/// looks and naps in turn; after about a millisecond it asks, and then nobody passes it.
+/// looks and naps in turn; after about a millisecond it asks not to be passed. From then on nobody passes it but those who looked before.
 ///
 /// No clause speaks of it: what a hall promises, it promises without the lock too. Barging and waiting in a queue are those of a mutex
 /// that hands over to starving waiters; the queue is a ticket lock with a word for each one that waits: Anderson, 1990;
@@ -32,7 +32,7 @@ const BELLS: u64 = 16;
 pub(crate) struct LogLock {
     /// 1 while somebody has the log, and else 0.
     taken: AtomicU64,
-    /// 1 if the first one in the queue asks that nobody passes it, and else 0.
+    /// 1 if the first one in the queue asks not to be passed, and else 0.
     asked: AtomicU64,
     /// The number of the next one to come into the queue.
     next: AtomicU64,

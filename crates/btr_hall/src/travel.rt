@@ -14,13 +14,15 @@ use crate::item::Item;
 use crate::session::Hall;
 use crate::store::Store;
 use btr_disk::{Disk, Failed};
-use btr_engine::{Engine, Ready, Receipt, StepFault};
+use btr_engine::{Crew, Engine, Ready, Receipt, StepFault};
 use btr_gate::{Pass, Turn};
 use btr_hist::Entry;
 use btr_log::Log;
 use std::alloc::Global;
+use std::marker::Sync;
 use std::sync::Wait;
 use std::thread;
+use std::thread::Threads;
 
 /// Takes the lock of the log, and then waits for a turn in which the log is at home. Who holds the lock finds it at home in the first
 /// turn, which no clause says. In each turn in which it is out the pass adds nothing.
@@ -48,15 +50,17 @@ pub(crate) fn home_turn<R: Wait, D: Disk>(
     unreachable!()
 }
 
-/// Adds an entry in a turn in which the log is at home, ends the turn, and releases the lock. The log is out while the entry is written,
-/// and others have their turns. A second turn brings the log back. An entry that is refused needs no second turn.
-pub(crate) fn add_in<R: Wait, D: Disk>(
+/// Adds an entry in a turn in which the log is at home, ends the turn, and releases the lock. At most `threads` threads make what is
+/// written, this one among them. The log is out while the entry is written, and others have their turns. A second turn brings the log back.
+/// An entry that is refused needs no second turn.
+pub(crate) fn add_in<R: Threads + Wait + Sync, D: Disk>(
     rt: &R,
     alloc: Global,
     hall: &Hall<D>,
     pass: &mut Pass<Store<D>, Item<D>, Engine<D>>,
     turn: Turn<Store<D>, Item<D>>,
     entry: &Entry,
+    threads: usize,
 ) -> Result<Receipt, StepFault>
     requires own { IsPassOf hall.now.gate pass.old }
     requires turn { HasHomeTurn (opening_of hall.now) (view pass.old) turn }
@@ -64,7 +68,7 @@ pub(crate) fn add_in<R: Wait, D: Disk>(
     ensures adds { AddsIn (view pass.old) (view pass.new) turn.state entry.now result }
 {
     let mut turn = turn;
-    match turn.state.take(alloc, entry) {
+    match turn.state.take(rt, alloc, entry, threads) {
         Err(fault) => {
             hall.gate.leave(pass, turn);
             hall.lock.release();
@@ -84,8 +88,15 @@ pub(crate) fn add_in<R: Wait, D: Disk>(
 }
 
 impl<D: Disk> Store<D> {
-    /// Takes the log out, with all that is to be written to it for an entry. If the entry is refused the log stays.
-    fn take(&mut self, alloc: Global, entry: &Entry) -> Result<(Log<D>, Ready), StepFault>
+    /// Takes the log out, with all that is to be written to it for an entry, which at most `threads` threads make. If the entry is refused
+    /// the log stays.
+    fn take<R: Threads + Sync>(
+        &mut self,
+        rt: &R,
+        alloc: Global,
+        entry: &Entry,
+        threads: usize,
+    ) -> Result<(Log<D>, Ready), StepFault>
         requires home { is_home self.old.engine ≡ true }
         ensures refused { IfErr result (λ fault. Adds self.old self.new entry.now (Err fault) None) }
         ensures out { IfOk result (λ r. TakesOut self.old self.new entry.now r.0 r.1) }
@@ -93,7 +104,8 @@ impl<D: Disk> Store<D> {
         let Some(log) = self.engine.take_log() else {
             unreachable!()
         };
-        match self.engine.stage(alloc, &log, entry) {
+        let crew = Crew { rt, threads };
+        match self.engine.stage(&crew, alloc, &log, entry) {
             Ok(ready) => Ok((log, ready)),
             Err(fault) => {
                 self.engine.settle(log, None, false);

@@ -5,7 +5,7 @@ ghost use Rattle.btr_engine.specs.Engine.{is_home};
 ghost use Rattle.btr_hall.specs.Session.{IsSessionOf, share_of};
 
 use crate::fixture::{Stepped, first_super, wait_for};
-use btr_disk::{Capacity, Disk, Failed, MemDisk};
+use btr_disk::{Capacity, Disk, Failed, MemDisk, Parts};
 use btr_engine::{Board, Engine, Receipt};
 use btr_hall::{Hall, Session};
 use btr_hist::Entry;
@@ -79,6 +79,10 @@ impl<'a> Disk for WaitingDisk<'a> {
         self.disk.write(first, bytes)
     }
 
+    fn write_parts(&mut self, first: u64, bytes: &Parts) -> Result<(), Failed> {
+        self.disk.write_parts(first, bytes)
+    }
+
     fn sync(&mut self) -> Result<(), Failed> {
         self.signals.wait_in_sync();
         self.disk.sync()
@@ -113,7 +117,7 @@ fn waiting<'a>(alloc: Global, signals: &'a Signals) -> Result<Engine<WaitingDisk
 }
 
 /// Makes a stream.
-fn create<R: Wait, D: Disk>(
+fn create<R: Threads + Wait + Sync, D: Disk>(
     rt: &R,
     alloc: Global,
     hall: &Hall<D>,

@@ -36,7 +36,7 @@ fn insert(alloc: Global, stream: u32, pairs: &[(i64, i64)]) -> Result<Entry, All
 }
 
 /// Commits an entry. The helper says only what the tests need.
-fn commit<R: Wait>(
+fn commit<R: Threads + Wait + Sync>(
     rt: &R,
     alloc: Global,
     hall: &Place,
@@ -73,7 +73,7 @@ fn plan_now<R: Wait>(
 }
 
 /// Lands a plan. The helper says only what the tests need.
-fn land<R: Wait>(
+fn land<R: Threads + Wait + Sync>(
     rt: &R,
     alloc: Global,
     hall: &Place,
@@ -85,7 +85,7 @@ fn land<R: Wait>(
     ensures own { IsSessionOf hall.now user.new }
     ensures share { share_of user.new ≡ share_of user.old }
 {
-    user.land(rt, alloc, hall, plan)
+    user.land(rt, alloc, hall, plan, 1)
 }
 
 /// Returns the latest version of a stream and the number of its points from time 0 on.
@@ -118,7 +118,7 @@ fn latest<R: Wait>(
 }
 
 /// Adds points to a stream, and returns whether they were accepted.
-fn add_points<R: Wait>(
+fn add_points<R: Threads + Wait + Sync>(
     rt: &R,
     alloc: Global,
     hall: &Place,
@@ -134,7 +134,12 @@ fn add_points<R: Wait>(
 }
 
 /// Makes a plain stream with three points, and an output of their sums over 10 ns. Returns whether all was accepted.
-fn define<R: Wait>(rt: &R, alloc: Global, hall: &Place, user: &mut User) -> Result<bool, AllocError>
+fn define<R: Threads + Wait + Sync>(
+    rt: &R,
+    alloc: Global,
+    hall: &Place,
+    user: &mut User,
+) -> Result<bool, AllocError>
     requires { IsSessionOf hall.now user.old }
     ensures own { IsSessionOf hall.now user.new }
     ensures share { share_of user.new ≡ share_of user.old }
@@ -153,7 +158,7 @@ fn define<R: Wait>(rt: &R, alloc: Global, hall: &Place, user: &mut User) -> Resu
 }
 
 /// Makes a plain stream, and an output with its first version, and adds a point to the plain stream. Returns whether all was accepted.
-fn prepare<R: Wait>(
+fn prepare<R: Threads + Wait + Sync>(
     rt: &R,
     alloc: Global,
     hall: &Place,
@@ -176,7 +181,7 @@ fn prepare<R: Wait>(
 type Landed = Result<Receipt, LandFault>;
 
 /// Both users plan the next version of the output. The first one lands, and then the second one. Returns the results.
-fn both_land<R: Wait>(
+fn both_land<R: Threads + Wait + Sync>(
     rt: &R,
     alloc: Global,
     hall: &Place,
@@ -203,7 +208,7 @@ fn both_land<R: Wait>(
 type Planned = (bool, Option<(Landed, Landed)>, Option<(u64, usize)>);
 
 /// Both users plan and land after a change of the input, and the second one asks for the output.
-fn both_plan<R: Wait>(
+fn both_plan<R: Threads + Wait + Sync>(
     rt: &R,
     alloc: Global,
     hall: &Place,
@@ -221,7 +226,7 @@ fn both_plan<R: Wait>(
 }
 
 /// Splits the user, lets both plan and land, and lets them meet again.
-fn two_plan<R: Wait>(
+fn two_plan<R: Threads + Wait + Sync>(
     rt: &R,
     alloc: Global,
     hall: &Place,
@@ -238,7 +243,7 @@ fn two_plan<R: Wait>(
 }
 
 /// Returns what two users of a new hall found, and the number of its entries in the end.
-fn planned_by_two<R: Wait>(rt: &R, alloc: Global) -> Result<(Planned, u64), Fail> {
+fn planned_by_two<R: Threads + Wait + Sync>(rt: &R, alloc: Global) -> Result<(Planned, u64), Fail> {
     let (hall, mut user) = begun_empty(alloc, 64, &[])?;
     let outcome = two_plan(rt, alloc, &hall, &mut user);
     let engine = close(hall, user);
@@ -262,7 +267,7 @@ fn a_plan_of_an_output_that_has_moved_is_superseded(rt: HostRuntime) -> Result<(
 }
 
 /// Commits the next point of a stream and asks for the stream at once. Returns whether the answer has the commit.
-fn write_and_read<R: Wait>(
+fn write_and_read<R: Threads + Wait + Sync>(
     rt: &R,
     alloc: Global,
     hall: &Place,
@@ -288,7 +293,7 @@ fn write_and_read<R: Wait>(
 }
 
 /// Writes and reads so often. Returns the number of good answers.
-fn write_and_read_often<R: Wait>(
+fn write_and_read_often<R: Threads + Wait + Sync>(
     rt: &R,
     alloc: Global,
     hall: &Place,
@@ -341,7 +346,13 @@ fn two_write_and_read<R: Threads + Wait + Sync>(
 }
 
 /// Makes plain streams with these numbers as ids.
-fn create<R: Wait>(rt: &R, alloc: Global, hall: &Place, user: User, count: u32) -> (User, u32)
+fn create<R: Threads + Wait + Sync>(
+    rt: &R,
+    alloc: Global,
+    hall: &Place,
+    user: User,
+    count: u32,
+) -> (User, u32)
     requires { IsSessionOf hall.now user }
     ensures own { IsSessionOf hall.now result.0 }
     ensures share { share_of result.0 ≡ share_of user }
@@ -376,19 +387,19 @@ fn each_of_two_threads_reads_its_own_commits(rt: HostRuntime) -> Result<(), Fail
     Ok(())
 }
 
-/// What a thread was told of a commit: its number, its stream, and the time of its point.
+/// What a thread knows of its commit: its number, its stream, and the time of its point.
 #[derive(Clone, Copy, PartialEq, Eq)]
-struct Told {
+struct Reported {
     number: u64,
     stream: u32,
     time: i64,
 }
 
-/// What some threads were told, or nothing if a commit was refused or memory ran out.
-type List = Option<Vec<Told>>;
+/// What some threads know of their commits, or nothing if a commit was refused or memory ran out.
+type List = Option<Vec<Reported>>;
 
-/// Commits a point to a stream, and adds what was told to a list.
-fn tell<R: Wait>(
+/// Commits a point to a stream, and adds its receipt to a list.
+fn tell<R: Threads + Wait + Sync>(
     rt: &R,
     alloc: Global,
     hall: &Place,
@@ -405,7 +416,7 @@ fn tell<R: Wait>(
     let entry = insert(alloc, stream, &[(time, 1)]).ok()?;
     let receipt = commit(rt, alloc, hall, user, &entry).ok()?;
     let number = receipt.number;
-    list.push(Told {
+    list.push(Reported {
         number,
         stream,
         time,
@@ -417,8 +428,8 @@ fn tell<R: Wait>(
 /// The time between two points of a stream, `2^51` nanoseconds. A slot of the root has `2^56`, so it has at most 32 points and is a leaf.
 const APART: i64 = 2_251_799_813_685_248;
 
-/// Commits so many points to a stream, one after another.
-fn tell_often<R: Wait>(
+/// Commits this many points to a stream, one after another.
+fn tell_often<R: Threads + Wait + Sync>(
     rt: &R,
     alloc: Global,
     hall: &Place,
@@ -442,13 +453,13 @@ fn tell_often<R: Wait>(
 /// Both lists as one.
 fn both(first: List, second: List) -> List {
     let mut all = first?;
-    for told in second? {
-        all.push(told).ok()?;
+    for reported in second? {
+        all.push(reported).ok()?;
     }
     Some(all)
 }
 
-/// Lets so many threads commit 1250 points each, to as many streams from `first` on.
+/// Lets this many threads commit 1250 points each, to as many streams from `first` on.
 #[cycle(tell_by_threads)]
 fn tell_by_threads<R: Threads + Wait + Sync>(
     rt: &R,
@@ -499,9 +510,9 @@ fn commit_in(alloc: Global, body: &[u8], length: u64) -> Option<(u32, i64)> {
 }
 
 /// Returns what the body of an extent says, if it has a commit.
-fn told_in(alloc: Global, number: u64, body: &[u8], length: u64) -> Option<Told> {
+fn reported_in(alloc: Global, number: u64, body: &[u8], length: u64) -> Option<Reported> {
     let (stream, time) = commit_in(alloc, body, length)?;
-    Some(Told {
+    Some(Reported {
         number,
         stream,
         time,
@@ -529,7 +540,8 @@ fn commits_on(alloc: Global, disk: MemDisk) -> List {
                     return None;
                 }
                 if number > 8 {
-                    list.push(told_in(alloc, number, &body, head.length)?).ok()?;
+                    list.push(reported_in(alloc, number, &body, head.length)?)
+                        .ok()?;
                 }
                 gate = next;
             }
@@ -538,19 +550,19 @@ fn commits_on(alloc: Global, disk: MemDisk) -> List {
     None
 }
 
-/// Returns whether the commits in the log are those that the threads were told.
-fn is_log_of(log: &[Told], told: &mut [Told]) -> bool {
-    told.sort_unstable_by_key(|each| each.number);
-    log == told
+/// Returns whether the commits in the log are those of the receipts of the threads.
+fn is_log_of(log: &[Reported], reported: &mut [Reported]) -> bool {
+    reported.sort_unstable_by_key(|each| each.number);
+    log == reported
 }
 
-/// Lets eight threads commit ten thousand points to a new hall. Returns how many streams were made, what the threads were told, and the
+/// Lets eight threads commit ten thousand points to a new hall. Returns how many streams were made, the receipts of the threads, and the
 /// engine in the end.
 ///
 /// An entry needs its block, one for each new node, and one for the next gate. Of the 1250 commits of a stream, 252 have one new node,
 /// the leaf of all points. The next one has nine: eight leaves, since 253 points are in eight slots, and their root. Each of the other
 /// 997 has a leaf and the root. So a stream needs `252*3 + 11 + 997*4 = 4755` blocks beside the two of its create, and all need 38056.
-fn told_to_eight<R: Threads + Wait + Sync>(
+fn committed_by_eight<R: Threads + Wait + Sync>(
     rt: &R,
     alloc: Global,
 ) -> Result<(u32, List, Engine<MemDisk>), Fail>
@@ -558,35 +570,35 @@ fn told_to_eight<R: Threads + Wait + Sync>(
 {
     let (hall, user) = begun_empty(alloc, 40_000, &[])?;
     let (user, made) = create(rt, alloc, &hall, user, 8);
-    let (user, told) = tell_by_threads(rt, alloc, &hall, user, 0, 8);
+    let (user, reported) = tell_by_threads(rt, alloc, &hall, user, 0, 8);
     let engine = close(hall, user);
-    Ok((made, told, engine))
+    Ok((made, reported, engine))
 }
 
-/// Returns how many commits the threads were told and the log has, and whether they are the same.
-fn compared(alloc: Global, told: List, engine: Engine<MemDisk>) -> Option<(usize, usize, bool)>
+/// Returns how many commits the threads have receipts of, and how many the log has, and whether they are the same.
+fn compared(alloc: Global, reported: List, engine: Engine<MemDisk>) -> Option<(usize, usize, bool)>
     requires home { is_home engine ≡ true }
 {
-    let mut told = told?;
+    let mut reported = reported?;
     let log = commits_on(alloc, engine.into_disk())?;
-    let is_same = is_log_of(&log, &mut told);
-    Some((told.len(), log.len(), is_same))
+    let is_same = is_log_of(&log, &mut reported);
+    Some((reported.len(), log.len(), is_same))
 }
 
-/// Eight threads commit ten thousand points. The log of the device has each commit at the number that its thread was told.
+/// Eight threads commit ten thousand points. The log of the device has each commit at the number of its receipt.
 #[test]
-fn the_log_has_what_eight_threads_were_told(rt: HostRuntime) -> Result<(), Fail> {
+fn the_log_has_the_commits_of_eight_threads(rt: HostRuntime) -> Result<(), Fail> {
     let alloc = rt.alloc();
-    let (made, told, engine) = told_to_eight(&rt, alloc)?;
+    let (made, reported, engine) = committed_by_eight(&rt, alloc)?;
     let entries = engine.entries();
-    let compared = compared(alloc, told, engine);
+    let compared = compared(alloc, reported, engine);
     assert!(rt; (made, entries) == (8, 10_008));
     assert!(rt; compared == Some((10_000, 10_000, true)));
     Ok(())
 }
 
 /// Makes a stream as the first user, and adds a point as the second one. Returns whether both were accepted and the hall is not stopped.
-fn add_one<R: Wait>(
+fn add_one<R: Threads + Wait + Sync>(
     rt: &R,
     alloc: Global,
     hall: &Place,
@@ -607,7 +619,7 @@ fn add_one<R: Wait>(
 type Refused = [Option<StepFault>; 3];
 
 /// Adds a point as the second user, as the first one, and as the second one. Returns why each was refused.
-fn refused_thrice<R: Wait>(
+fn refused_thrice<R: Threads + Wait + Sync>(
     rt: &R,
     alloc: Global,
     hall: &Place,
@@ -651,7 +663,7 @@ fn sight_of<R: Wait>(rt: &R, alloc: Global, hall: &Place, user: &mut User) -> Si
 type Faulted = (bool, Refused, Sight, Sight);
 
 /// The device fails in the second user's step. Then no user's entry is accepted, but questions are answered.
-fn fail_and_go_on<R: Wait>(
+fn fail_and_go_on<R: Threads + Wait + Sync>(
     rt: &R,
     alloc: Global,
     hall: &Place,
@@ -670,7 +682,7 @@ fn fail_and_go_on<R: Wait>(
 }
 
 /// Splits the user, lets both go on over the fault, and lets them meet again.
-fn two_fail<R: Wait>(
+fn two_fail<R: Threads + Wait + Sync>(
     rt: &R,
     alloc: Global,
     hall: &Place,
@@ -688,7 +700,10 @@ fn two_fail<R: Wait>(
 
 /// Returns what two users of a hall saw whose device fails, and in the end the entries, whether the engine is stopped, and the faults of
 /// the device. Each entry takes four calls of the device. Of the third one, call 9 fails: its first sync.
-fn failed_for_two<R: Wait>(rt: &R, alloc: Global) -> Result<(Faulted, (u64, bool, u64)), Fail> {
+fn failed_for_two<R: Threads + Wait + Sync>(
+    rt: &R,
+    alloc: Global,
+) -> Result<(Faulted, (u64, bool, u64)), Fail> {
     let (hall, mut user) = begun_empty(alloc, 64, &[9])?;
     let outcome = two_fail(rt, alloc, &hall, &mut user);
     let engine = close(hall, user);
@@ -721,7 +736,7 @@ fn after_a_fault_of_the_device_questions_are_answered(rt: HostRuntime) -> Result
 }
 
 /// Makes a stream and adds a point by the only session of a hall.
-fn step_alone<R: Wait>(
+fn step_alone<R: Threads + Wait + Sync>(
     rt: &R,
     alloc: Global,
     hall: &Place,
@@ -756,7 +771,7 @@ fn sight_alone<R: Wait>(rt: &R, hall: &Place, user: &mut User) -> Result<AloneSi
 type Alone = (Option<Found>, [Stepped; 2], AloneSight);
 
 /// Uses a hall by its only session.
-fn use_alone<R: Wait>(
+fn use_alone<R: Threads + Wait + Sync>(
     rt: &R,
     alloc: Global,
     hall: &Place,
@@ -773,7 +788,7 @@ fn use_alone<R: Wait>(
 }
 
 /// Returns what the only session of a new hall saw, and in the end the entries and whether the engine is stopped.
-fn used_alone<R: Wait>(rt: &R, alloc: Global) -> Result<(Alone, u64, bool), Fail> {
+fn used_alone<R: Threads + Wait + Sync>(rt: &R, alloc: Global) -> Result<(Alone, u64, bool), Fail> {
     let (hall, mut user) = begun_empty(alloc, 64, &[])?;
     let outcome = use_alone(rt, alloc, &hall, &mut user);
     let engine = close(hall, user);

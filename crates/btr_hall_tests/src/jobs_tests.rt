@@ -61,7 +61,7 @@ fn makes(alloc: Global, ids: &[u128]) -> Result<Vec<Make>, AllocError> {
     Ok(jobs)
 }
 
-/// Does the jobs at a hall of their own, with at most so many workers. Returns the number of its entries in the end.
+/// Does the jobs at a hall of their own, with at most this many workers. Returns the number of its entries in the end.
 fn done<R: Threads + Wait + Sync, P: Pace + Sync>(
     rt: &R,
     alloc: Global,
@@ -77,7 +77,7 @@ fn done<R: Threads + Wait + Sync, P: Pace + Sync>(
 }
 
 /// Returns the numbers of the receipts of jobs, in rising order, and how many were refused since the stream existed.
-fn told(alloc: Global, jobs: &[Make]) -> Result<(Vec<u64>, u32), AllocError> {
+fn reported(alloc: Global, jobs: &[Make]) -> Result<(Vec<u64>, u32), AllocError> {
     let mut numbers = Vec::new(alloc);
     let mut refused = 0u32;
     for job in jobs {
@@ -93,11 +93,11 @@ fn told(alloc: Global, jobs: &[Make]) -> Result<(Vec<u64>, u32), AllocError> {
     Ok((numbers, refused))
 }
 
-/// Returns whether seven jobs make five streams by so many workers, with the numbers 1 to 5, and two of them are refused.
+/// Returns whether seven jobs make five streams by this many workers, with the numbers 1 to 5, and two of them are refused.
 fn makes_five<R: Threads + Wait + Sync>(rt: &R, alloc: Global, workers: u8) -> Result<bool, Fail> {
     let mut jobs = makes(alloc, &[7, 8, 9, 7, 10, 8, 11])?;
     let entries = done(rt, alloc, workers, 0, &mut jobs, &NoPace)?;
-    let (numbers, refused) = told(alloc, &jobs)?;
+    let (numbers, refused) = reported(alloc, &jobs)?;
     Ok((entries, refused) == (5, 2) && matches!(numbers.as_slice(), [1, 2, 3, 4, 5]))
 }
 
@@ -131,7 +131,7 @@ fn three_in_turn<R: Threads + Wait + Sync>(
 ) -> Result<(u64, bool, u32), Fail> {
     let mut jobs = makes(alloc, &[7, 8, 7])?;
     let entries = done(rt, alloc, 1, 0, &mut jobs, &NoPace)?;
-    let (numbers, refused) = told(alloc, &jobs)?;
+    let (numbers, refused) = reported(alloc, &jobs)?;
     Ok((entries, matches!(numbers.as_slice(), [1, 2]), refused))
 }
 
@@ -142,7 +142,7 @@ fn jobs_are_done_in_turn(rt: HostRuntime) -> Result<(), Fail> {
     Ok(())
 }
 
-/// Returns the number of entries after two jobs by so many workers, and what their meeting saw. The turns begin with `first`.
+/// Returns the number of entries after two jobs by this many workers, and what their meeting saw. The turns begin with `first`.
 fn met_by<R: Threads + Wait + Sync>(
     rt: &R,
     alloc: Global,

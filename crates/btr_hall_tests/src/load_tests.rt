@@ -44,7 +44,7 @@ const TWO_STREAMS: &str = "\
 ";
 
 /// Commits an entry.
-fn commit<R: Wait>(
+fn commit<R: Threads + Wait + Sync>(
     rt: &R,
     alloc: Global,
     hall: &Hall<MemDisk>,

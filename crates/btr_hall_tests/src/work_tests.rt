@@ -107,7 +107,7 @@ fn bring<R: Threads + Wait + Sync, P: Pace + Sync>(
 }
 
 /// The same without threads.
-fn bring_here<R: Wait>(
+fn bring_here<R: Threads + Wait + Sync>(
     rt: &R,
     alloc: Global,
     hall: &Hall<MemDisk>,
@@ -192,7 +192,7 @@ const LANDED: Refreshed = Refreshed::Landed { version: 1 };
 
 const CURRENT: Refreshed = Refreshed::Current { version: 1 };
 
-/// Returns whether both outputs are landed by so many workers, and are then current; and whether the output above has its points.
+/// Returns whether both outputs are landed by this many workers, and are then current; and whether the output above has its points.
 fn lands_both<R: Threads + Wait + Sync>(rt: &R, alloc: Global, workers: u8) -> Result<bool, Fail> {
     let engine = two_levels(alloc, 64)?;
     let twice = bring_twice(rt, alloc, engine, workers, &NoPace)?;
@@ -260,7 +260,7 @@ fn three_outputs(alloc: Global) -> Result<Engine<MemDisk>, Fail>
     Ok(engine)
 }
 
-/// Returns whether three outputs are landed by so many workers, whether turn 0 met another one, and the last turn.
+/// Returns whether three outputs are landed by this many workers, whether turn 0 met another one, and the last turn.
 fn met_by<R: Threads + Wait + Sync>(
     rt: &R,
     alloc: Global,

@@ -15,7 +15,8 @@ pub record PlainStore : Type 0 where
   pub history : List Entry
   pub left : ℕ
 
--- What becomes of an entry: it is added, with this receipt; the model rejects it; or it needs so many blocks, and only so many are left.
+-- What becomes of an entry: it is added, with this receipt; the model rejects it, with this rejection; or it needs more blocks, the first
+-- number, than are left, the second.
 pub data TakeResult : Type 0 where
   Taken : Receipt → TakeResult
   Rejected : Rejection → TakeResult

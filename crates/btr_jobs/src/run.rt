@@ -13,7 +13,7 @@ use std::marker::{Send, Sync};
 use std::sync::Wait;
 use std::thread::{Threads, join_mut};
 
-/// Does all jobs, with at most so many workers, each in a session of its own; 0 workers are 1. A job is done by one worker. If there
+/// Does all jobs, with at most this many workers, each in a session of its own; 0 workers are 1. A job is done by one worker. If there
 /// are more jobs than workers, each worker does jobs next to each other in the list, in order. One worker does all jobs one after
 /// another. The turns of `pace` are the jobs, from `first` on.
 ///
@@ -49,7 +49,7 @@ pub fn run_jobs<R: Threads + Wait + Sync, D: Disk + Send, J: Job + Send, P: Pace
     session.meet(hall, other);
 }
 
-/// Does all jobs with at most so many workers. With one of them they are done in turn, else each half of the workers does its part.
+/// Does all jobs with at most this many workers. With one of them they are done in turn, else each half of the workers does its part.
 #[cycle(workers)]
 fn share_out<R: Threads + Wait + Sync, D: Disk + Send, J: Job + Send, P: Pace + Sync>(
     rt: &R,
@@ -139,7 +139,7 @@ fn both_halves<R: Threads + Wait + Sync, D: Disk + Send, J: Job + Send, P: Pace 
     join_mut(rt, &mut left, &mut right);
 }
 
-/// Returns how many of so many jobs `here` of the workers do.
+/// Returns how many of this many jobs `here` of the workers do.
 fn part_of(jobs: usize, here: u8, workers: u8) -> usize
     requires { (here ≤ workers) × (0 < workers) }
     ensures { result ≤ jobs }
@@ -148,7 +148,7 @@ fn part_of(jobs: usize, here: u8, workers: u8) -> usize
     jobs / workers * here + jobs % workers * here / workers
 }
 
-/// Returns the number of the turn that is so many after this one. After the greatest number comes 0.
+/// Returns the number of the turn that is this many after this one. After the greatest number comes 0.
 fn turn_after(first: u32, count: usize) -> u32 {
     first.wrapping_add((count % (1 << 32)) as u32)
 }

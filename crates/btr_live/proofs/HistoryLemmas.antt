@@ -48,7 +48,7 @@ module _ (batch : ℕ) (script : List ScriptLine) (before after : List Part) (ha
 
   -- The parts did what all lanes and rounds do.
   pub lanes_ran : (materialize : Bool) → parties_of before ≡ one materialize → (replies : List LineReply) → length replies ≡ length script → ((k : ℕ) → of_lane k (lanes_of script) replies ≡ replies_at after k) → (start : StoreState) (log : LogState) (low : List Entry) (own : List ℕ) → StartsWith log.history low → AllDid PartDid start log low before after own → RanLanes batch materialize start log low script replies own
-  lanes_ran materialize parties replies each told start log low own starts did =
+  lanes_ran materialize parties replies each reported start log low own starts did =
       let ran : RanParts batch (length script) start log low before after own = ran_parts batch (length script) start log low starts before after own have did in record {
         mine = ran.mine;
         beside = ran.beside;
@@ -56,7 +56,7 @@ module _ (batch : ℕ) (script : List ScriptLine) (before after : List Part) (ha
           each = each;
           lasts = λ k. (ran.lanes k).0;
           lanes = λ k.
-              subst (λ rs. RunsLines batch start log (begun low) (lane_lines k script) rs (slice_index_or ran.mine k []) (ran.lanes k).0) (sym (told k))
+              subst (λ rs. RunsLines batch start log (begun low) (lane_lines k script) rs (slice_index_or ran.mine k []) (ran.lanes k).0) (sym (reported k))
               (subst (λ ls. RunsLines batch start log (begun low) ls (replies_at after k) (slice_index_or ran.mine k []) (ran.lanes k).0) (lines k) (ran.lanes k).1);
           parties = ran.parties;
         };

@@ -13,7 +13,7 @@ use Rattle.btr_live.specs.Lanes.{LaneState, begun, tells_failure, RunsLine, Runs
 use Rattle.btr_live.specs.LaneLaws.{lines_last}
 use Rattle.btr_live.specs.Serving.{LineAsks, Serves}
 use Rattle.btr_live.specs.Running.{RunsLane, RunsTo}
-use Rattle.btr_live.proofs.ToldLemmas.{has_failed, answers_tell, answers_told}
+use Rattle.btr_live.proofs.ReportedLemmas.{has_failed, answers_tell, answers_reported}
 
 either : (a b : Bool) (P : Type 0) → (a ≡ true → P) → (b ≡ true → P) → (a || b) ≡ true → P
 either true b P first second is = first refl
@@ -41,16 +41,16 @@ module _ (batch : ℕ) (start : StoreState) (late early : LogState) (low : List 
     begins = second.begins;
     asked = second.asked;
     means = subst (λ v. Means batch second.admitted v line second.asked) (sym first.waits) second.asks.0;
-    answers = answers_told start late saw_failure first.last.saw_failure (λ t. same ∙ first.failed t) second.admitted second.asked reply b second.replies.next second.replies.answers;
+    answers = answers_reported start late saw_failure first.last.saw_failure (λ t. same ∙ first.failed t) second.admitted second.asked reply b second.replies.next second.replies.answers;
     waiting = second.asks.1 ∙ ap (λ v. waiting_after v (fed second.admitted v line) second.asked reply) (sym first.waits);
     saw_failure = refl;
   }
 
-  told_before : has_failed start early ≡ true → has_failed start late ≡ true
-  told_before is = ap (λ c. has_failed start c) (on.ends is) ∙ is
+  reported_before : has_failed start early ≡ true → has_failed start late ≡ true
+  reported_before is = ap (λ c. has_failed start c) (on.ends is) ∙ is
 
-  told_now : tells_failure second.asked reply ≡ true → has_failed start late ≡ true
-  told_now tells =
+  reported_now : tells_failure second.asked reply ≡ true → has_failed start late ≡ true
+  reported_now tells =
       answers_tell start late saw_failure second.admitted second.asked reply b second.replies.next second.replies.answers tells
 
   -- The lines up to one, and this one.
@@ -60,7 +60,7 @@ module _ (batch : ℕ) (start : StoreState) (late early : LogState) (low : List 
     runs = lines_push batch start late (begun low) lines replies a first.last line reply b state_after (lines_last start late early on batch (begun low) lines replies a first.last first.runs) one_more;
     waits = refl;
     ends = second.replies.ends;
-    failed = either first.last.saw_failure (tells_failure second.asked reply) (has_failed start late ≡ true) (λ t. told_before (first.failed t)) told_now;
+    failed = either first.last.saw_failure (tells_failure second.asked reply) (has_failed start late ≡ true) (λ t. reported_before (first.failed t)) reported_now;
   }
 
 -- There is a reply to each line.

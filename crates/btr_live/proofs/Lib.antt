@@ -6,7 +6,7 @@ mod FeedLines
 mod OutputLines
 mod DeleteLines
 -- the turns of a line
-mod ToldLemmas
+mod ReportedLemmas
 mod ServeLemmas
 mod RefreshLines
 mod AskLines

@@ -232,16 +232,16 @@ module _ (start : StoreState) (log : LogState) (all : Follows log.history) where
         ]
 
     -- Lines add nothing after a reply said that the device failed.
-    lines_told : (n : ℕ) (old : LaneState) (lines : List (Option Line)) (replies : List LineReply) (own : List ℕ) (new : LaneState) → RunsLines batch start log old lines replies own new → old.saw_failure ≡ true → times n own ≡ 0
-    lines_told n old [] [] own new is heard = ap (times n) is.0
-    lines_told n old [] (reply ∷ replies) own new is heard = absurd is
-    lines_told n old (line ∷ lines) [] own new is heard = absurd is
-    lines_told n old (line ∷ lines) (reply ∷ replies) own new is heard =
+    lines_reported : (n : ℕ) (old : LaneState) (lines : List (Option Line)) (replies : List LineReply) (own : List ℕ) (new : LaneState) → RunsLines batch start log old lines replies own new → old.saw_failure ≡ true → times n own ≡ 0
+    lines_reported n old [] [] own new is heard = ap (times n) is.0
+    lines_reported n old [] (reply ∷ replies) own new is heard = absurd is
+    lines_reported n old (line ∷ lines) [] own new is heard = absurd is
+    lines_reported n old (line ∷ lines) (reply ∷ replies) own new is heard =
         let ran : RunsLine batch start log old line reply is.0 is.2 = is.4 in
         let turn : InTurn old.saw_failure ran.admitted ran.asked reply is.0 is.2.history = turn_of old line reply is.0 is.2 ran in
         let none : times n is.0 ≡ 0 = ap (times n) (turn.stops heard) in
         let still : is.2.saw_failure ≡ true = ran.saw_failure ∙ ap (λ t. t || tells_failure ran.asked reply) heard in
-        let rest = lines_told n is.2 lines replies is.1 new is.5 still in
+        let rest = lines_reported n is.2 lines replies is.1 new is.5 still in
         let sum = ap (times n) is.3 in
         let both = times_append n is.0 is.1 in
         omega (arith, none, rest, sum, both)
@@ -302,7 +302,7 @@ module _ (start : StoreState) (log : LogState) (all : Follows log.history) where
           let no_stop : stopped ≡ false → tells_failure ran.asked reply ≡ true → is.0 ≡ [] → log.history ≡ s.history → is_some log.failed ≡ true → ⊥ =
           λ not tells none.
           not_before s stopped own is.0 is.1 alone is.3 not none
-          (λ n. lines_told n after (map (λ (line : ScriptLine). line.line) script) replies is.1 new is.5 (ran.saw_failure ∙ or_right s.saw_failure (tells_failure ran.asked reply) tells)) in
+          (λ n. lines_reported n after (map (λ (line : ScriptLine). line.line) script) replies is.1 new is.5 (ran.saw_failure ∙ or_right s.saw_failure (tells_failure ran.asked reply) tells)) in
           let step : Stepped start log fits runs s.history stopped s.saw_failure ran.asked reply is.0 after.history =
           stepped start log fits runs s.history stopped s.saw_failure ran.asked reply is.0 after.history alone.begins alone.known no_stop done in
           let known : step.stops ≡ true → IsLast log after.history after.saw_failure = λ stops.

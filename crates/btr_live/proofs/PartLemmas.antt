@@ -23,7 +23,7 @@ use Rattle.btr_live.specs.OneHistory.{of_lane, IsParty}
 use Rattle.btr_live.proofs.RoundLemmas.{no_rounds}
 use Rattle.btr_live.specs.Parts.{PartDid, HaveLimits, parties_of, lines_at, replies_of, replies_in, replies_at, lane_with, list_in, list_at}
 
--- All parts together: each lane ran, and the other numbers are those of parties, which made at most so many rounds.
+-- All parts together: each lane ran, and the other numbers are those of parties, which made at most this many rounds.
 pub record RanParts (batch rounds : ℕ) (start : StoreState) (log : LogState) (low : List Entry) (before after : List Part) (own : List ℕ) : Type 0 where
   pub mine : List (List ℕ)
   pub beside : List (List ℕ)
@@ -129,8 +129,8 @@ replies-place (part ∷ all) zero d low = refl
 replies-place (part ∷ all) (suc k) d low = replies-place all k d (omega (arith, low))
 
 -- One part has given a reply.
-pub replies-told : (all : List Part) (lane : ℕ) (now : Part) (reply : LineReply) → lane < length all → replies_at all lane ≡ reply ∷ replies_of now → (k : ℕ) → replies_at all k ≡ of_lane k (lane ∷ []) (reply ∷ []) ++ replies_at (set all lane now) k
-replies-told all lane now reply low is k =
+pub replies-reported : (all : List Part) (lane : ℕ) (now : Part) (reply : LineReply) → lane < length all → replies_at all lane ≡ reply ∷ replies_of now → (k : ℕ) → replies_at all k ≡ of_lane k (lane ∷ []) (reply ∷ []) ++ replies_at (set all lane now) k
+replies-reported all lane now reply low is k =
     elim (lane == k) as (λ t. (lane == k) ≡ t → replies_at all k ≡ cond t (reply ∷ []) [] ++ replies_at (set all lane now) k) [
       | true ↦ λ e.
           let same : lane ≡ k = eqb-true lane k e in

@@ -24,7 +24,7 @@ use Rattle.btr_work.specs.declared.report.Refreshed.TheVariants as refreshed
 use Rattle.btr_work.specs.Report.{IsPlanLanded, IsRefreshed, IsOfStopped, KnowsStopped}
 use Rattle.btr_live.specs.Meaning.{Commits, Current, Refuses}
 use Rattle.btr_live.specs.Lanes.{reply_of_landing, Offers}
-use Rattle.btr_live.specs.Serving.{Serves, RefreshAsks, reply_of_refreshed, was_told, ServesIn}
+use Rattle.btr_live.specs.Serving.{Serves, RefreshAsks, reply_of_refreshed, was_reported, ServesIn}
 use Rattle.btr_live.proofs.OutputLines.{refresh-plan, refresh-up_to_date}
 
 module _ (start : StoreState) (log : LogState) where
@@ -63,13 +63,13 @@ module _ (start : StoreState) (log : LogState) where
         }
 
     never_so : (fault : LandFault) → (saw_failure ≡ true → ⊥) → SaysAgain (reply_of_landing (Err fault))
-    never_so fault none = λ told. absurd (none told)
+    never_so fault none = λ reported. absurd (none reported)
 
     -- What became of the output is replied.
     by_refreshed : (result : Refreshed) → StartsWith log.history low → (saw_failure ≡ true → IsOfStopped result) → IsRefreshed start log low stream result own → Serves start log saw_failure low (RefreshAsks stream) (reply_of_refreshed result) own
     by_refreshed (refreshed.Landed version) begins stopped is =
         subst (λ v. Serves start log saw_failure low (RefreshAsks stream) (replies.Done v) own) (sym is.1)
-        (plan_serves (Ok is.0) (λ told. absurd (stopped told)) is.2)
+        (plan_serves (Ok is.0) (λ reported. absurd (stopped reported)) is.2)
     by_refreshed (refreshed.Current version) begins stopped is = record {
       admitted = is.at;
       after = is.after;
@@ -90,7 +90,7 @@ module _ (start : StoreState) (log : LogState) where
       asks = inr refl;
       replies = record { next = low; answers = (refl, record { own = is; next = refl }); ends = begins };
     }
-    by_refreshed (refreshed.Refused (faults.Stopped entries)) begins stopped is = plan_serves (Err (faults.Stopped entries)) (λ told. (entries, refl)) is
+    by_refreshed (refreshed.Refused (faults.Stopped entries)) begins stopped is = plan_serves (Err (faults.Stopped entries)) (λ reported. (entries, refl)) is
     by_refreshed (refreshed.Refused (faults.Superseded version)) begins stopped is =
         plan_serves (Err (faults.Superseded version)) (never_so (faults.Superseded version) stopped) is
     by_refreshed (refreshed.Refused faults.VersionLimit) begins stopped is = plan_serves (Err faults.VersionLimit) (never_so faults.VersionLimit stopped) is
@@ -107,6 +107,6 @@ refreshed_serves hall old new stream result does stopped = (
   does.0,
   does.1,
   λ h of.
-      by_refreshed (start_of h hall) (log_seen h new) (was_told hall old) (log_seen h old).history stream does.0 result
-      (history_goes_on h new old does.1.seen) (λ told. stopped (h, of, told)) (does.2 h of),
+      by_refreshed (start_of h hall) (log_seen h new) (was_reported hall old) (log_seen h old).history stream does.0 result
+      (history_goes_on h new old does.1.seen) (λ reported. stopped (h, of, reported)) (does.2 h of),
 )

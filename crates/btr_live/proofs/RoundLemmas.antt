@@ -24,7 +24,7 @@ pub suc_one : (n : ℕ) → suc n ≡ n + 1
 suc_one n = omega arith
 
 module _ (start : StoreState) where
-  -- Nothing was added in so many rounds.
+  -- Nothing was added in this many rounds.
   pub no_rounds : (count : ℕ) (log : LogState) (low : List Entry) (own : List ℕ) → StartsWith log.history low → ((n : ℕ) → times n own ≡ 0) → MakesRounds start count low log own
   no_rounds zero log low own starts none = (starts, none)
   no_rounds (suc count) log low own starts none = (
@@ -38,7 +38,7 @@ module _ (start : StoreState) where
     λ n. omega arith,
   )
 
-  -- What was done in at most so many rounds was done in at most more.
+  -- What was done in at most this many rounds was done in at most more.
   pub rounds_most : (count more : ℕ) (log : LogState) (low : List Entry) (own : List ℕ) → count ≤ more → MakesRounds start count low log own → MakesRounds start more low log own
   rounds_most zero more log low own least is = no_rounds more log low own is.0 is.1
   rounds_most (suc count) zero log low own least is = absurd (omega (arith, least))

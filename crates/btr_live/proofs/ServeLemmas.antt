@@ -31,8 +31,8 @@ use Rattle.btr_jobs.proofs.StateLemmas.{history_goes_on}
 use Rattle.btr_jobs.proofs.TurnLemmas.{commit_turn, land_turn, look_turn}
 use Rattle.btr_live.specs.Meaning.{Meaning, Commits as CommitsEntry, Holds, Current, Refuses}
 use Rattle.btr_live.specs.Lanes.{reply_of_step, reply_of_landing, Offers, Answers}
-use Rattle.btr_live.specs.Serving.{Asking, Serves, Knows, was_told, RepliesIn, ServesIn}
-use Rattle.btr_live.proofs.ToldLemmas.{answers_told, stopped_longer}
+use Rattle.btr_live.specs.Serving.{Asking, Serves, Knows, was_reported, RepliesIn, ServesIn}
+use Rattle.btr_live.proofs.ReportedLemmas.{answers_reported, stopped_longer}
 
 -- ---- entries
 
@@ -47,7 +47,7 @@ module _ {D : Type 0} {disk : Ghosts D} (hall : Hall D disk) where
   -- ---- replies
 
   -- A reply that takes no turn.
-  pub here_replies : (s : Session D disk) (m : Meaning) (reply : LineReply) → ((h : List Entry) → IsEngineOf h (opening_of hall) → Answers (start_of h hall) (log_seen h s) (was_told hall s) (log_seen h s).history m reply [] (log_seen h s).history) → RepliesIn hall s s m reply
+  pub here_replies : (s : Session D disk) (m : Meaning) (reply : LineReply) → ((h : List Entry) → IsEngineOf h (opening_of hall) → Answers (start_of h hall) (log_seen h s) (was_reported hall s) (log_seen h s).history m reply [] (log_seen h s).history) → RepliesIn hall s s m reply
   here_replies s m reply answers = (
     [],
     goes_none s,
@@ -76,11 +76,11 @@ module _ {D : Type 0} {disk : Ghosts D} (hall : Hall D disk) where
         does.1,
         λ h of.
             let said = does.2 h of in
-            record { next = said.0; answers = offers (start_of h hall) (log_seen h new) (was_told hall old) (log_seen h old).history e result does.0 said.0 user said.1 (λ saw_failure. (length (history_of h commits.before), ap reply_of_step (commits.stopped (stopped_longer (opening_of hall) commits.before (seen_of old) commits.grows saw_failure) h of))); ends = said.2 },
+            record { next = said.0; answers = offers (start_of h hall) (log_seen h new) (was_reported hall old) (log_seen h old).history e result does.0 said.0 user said.1 (λ saw_failure. (length (history_of h commits.before), ap reply_of_step (commits.stopped (stopped_longer (opening_of hall) commits.before (seen_of old) commits.grows saw_failure) h of))); ends = said.2 },
       )
 
   -- An entry of a user was refused after a look.
-  pub look_commits : (old new : Session D disk) (e : Entry) (result : Result Receipt StepFault) → is_distillate e ≡ false → Looks hall old new → ((h : List Entry) → IsEngineOf h (opening_of hall) → Committed (start_of h hall) (log_seen h new) (log_seen h new).history e result [] (log_seen h new).history) → ((h : List Entry) → IsEngineOf h (opening_of hall) → was_told hall new ≡ true → (count : ℕ) × (reply_of_step result ≡ No (reasons.Stopped count))) → RepliesIn hall old new (CommitsEntry e) (reply_of_step result)
+  pub look_commits : (old new : Session D disk) (e : Entry) (result : Result Receipt StepFault) → is_distillate e ≡ false → Looks hall old new → ((h : List Entry) → IsEngineOf h (opening_of hall) → Committed (start_of h hall) (log_seen h new) (log_seen h new).history e result [] (log_seen h new).history) → ((h : List Entry) → IsEngineOf h (opening_of hall) → was_reported hall new ≡ true → (count : ℕ) × (reply_of_step result ≡ No (reasons.Stopped count))) → RepliesIn hall old new (CommitsEntry e) (reply_of_step result)
   look_commits old new e result user looks says again =
       let does = look_turn hall old new looks (λ _. Unit {0}) (λ h of. tt) in (
         does.0,
@@ -89,7 +89,7 @@ module _ {D : Type 0} {disk : Ghosts D} (hall : Hall D disk) where
             let seen = (log_seen h new).history in
             let none : [] ≡ does.0 = sym (does.2 h of).0 in record {
               next = seen;
-              answers = offers (start_of h hall) (log_seen h new) (was_told hall old) (log_seen h old).history e result does.0 seen user
+              answers = offers (start_of h hall) (log_seen h new) (was_reported hall old) (log_seen h old).history e result does.0 seen user
                   (seen, history_goes_on h new old looks.grows, starts_refl seen, subst (λ own. Committed (start_of h hall) (log_seen h new) seen e result own seen) none (says h of))
                   (λ saw_failure. again h of (stopped_longer (opening_of hall) (seen_of new) (seen_of old) looks.grows saw_failure));
               ends = starts_refl seen;
@@ -118,8 +118,8 @@ module _ {D : Type 0} {disk : Ghosts D} (hall : Hall D disk) where
   after_look old mid new asking reply at looks serves =
       does_then hall old mid new
       (λ start log low own. (own ≡ []) × StartsWith log.history low × Unit {0})
-      (λ start log low own. Serves start log (was_told hall mid) low asking reply own)
-      (λ start log low own. Serves start log (was_told hall old) low asking reply own)
+      (λ start log low own. Serves start log (was_reported hall mid) low asking reply own)
+      (λ start log low own. Serves start log (was_reported hall old) low asking reply own)
       at
       (λ start late early low a b on starts first second. record {
         admitted = second.admitted;
@@ -129,8 +129,8 @@ module _ {D : Type 0} {disk : Ghosts D} (hall : Hall D disk) where
         asks = second.asks;
         replies = record {
           next = second.replies.next;
-          answers = subst (λ l. Answers start late (was_told hall old) second.admitted second.asked reply l second.replies.next) (sym (ap (λ l. l ++ b) first.0))
-              (answers_told start late (was_told hall mid) (was_told hall old) (stopped_longer (opening_of hall) (seen_of mid) (seen_of old) looks.grows) second.admitted second.asked reply b second.replies.next second.replies.answers);
+          answers = subst (λ l. Answers start late (was_reported hall old) second.admitted second.asked reply l second.replies.next) (sym (ap (λ l. l ++ b) first.0))
+              (answers_reported start late (was_reported hall mid) (was_reported hall old) (stopped_longer (opening_of hall) (seen_of mid) (seen_of old) looks.grows) second.admitted second.asked reply b second.replies.next second.replies.answers);
           ends = second.replies.ends;
         };
       })

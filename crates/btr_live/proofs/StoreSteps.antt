@@ -26,7 +26,7 @@ use Rattle.btr_live.specs.Replies.{reply_of_answer, reply_of_commit}
 use Rattle.btr_live.specs.Lanes.{reply_of_step, is_failure, tells_failure}
 use Rattle.btr_live.specs.Script.{store_with_entry, after_commit, IsModel, IsDeviceFault, RepliesTo}
 use Rattle.btr_live.specs.OneLane.{FitsLeft}
-use Rattle.btr_live.proofs.ToldLemmas.{rejection_tells}
+use Rattle.btr_live.proofs.ReportedLemmas.{rejection_tells}
 use Rattle.btr_live.proofs.TurnEntries.{device_apart}
 
 -- Nothing is true and false.
@@ -39,9 +39,9 @@ right_if true b is_not is = absurd (cc)
 right_if false b is_not is = is
 
 -- Who saw the device fail before a line has seen it after that line.
-told_still : (a b : Bool) → a ≡ true → (a || b) ≡ true
-told_still true b is = refl
-told_still false b is = absurd (cc)
+reported_still : (a b : Bool) → a ≡ true → (a || b) ≡ true
+reported_still true b is = refl
+reported_still false b is = absurd (cc)
 
 -- What was done in a turn at the history to which the line was admitted. Who saw the device fail gets a reply that says so again.
 abbrev pub IsDone : StoreState → LogState → Bool → List Entry → Meaning → LineReply → List ℕ → List Entry → Type 0
@@ -125,7 +125,7 @@ module _ (start : StoreState) (log : LogState) (fits : FitsLeft start log) (runs
         let l = known is in record {
           last = l.last ∙ sym idle.next;
           failed = l.failed;
-          saw_failure = told_still saw_failure (tells_failure m reply) l.saw_failure;
+          saw_failure = reported_still saw_failure (tells_failure m reply) l.saw_failure;
         };
     moves = inl (idle.own, ap (λ x. length x + one stopped) idle.next);
   }

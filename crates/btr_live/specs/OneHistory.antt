@@ -29,7 +29,7 @@ lane_lines k script = of_lane k (lanes_of script) (map (λ line. line.line) scri
 
 -- ---- all lanes
 
--- What a party beside the lanes did, after all of `low` had been seen: it made at most so many rounds. `own` are the numbers of what it
+-- What a party beside the lanes did, after all of `low` had been seen: it made at most this many rounds. `own` are the numbers of what it
 -- added.
 abbrev pub IsParty : StoreState → LogState → List Entry → ℕ → List ℕ → Type 0
 IsParty start log low rounds own = MakesRounds start rounds low log own

@@ -56,7 +56,7 @@ party_of (parts.Rounds rounds) = 1
 abbrev pub parties_of : List Part → ℕ
 parties_of all = total party_of all
 
--- The feeds of a lane are due with `batch` points, and rounds are at most so many.
+-- The feeds of a lane are due with `batch` points, and rounds are at most this many.
 abbrev pub HasLimits : ℕ → ℕ → Part → Type 0
 HasLimits batch count (parts.Lane lane) = lane.batch ≡ batch
 HasLimits batch count (parts.Rounds rounds) = rounds.count ≡ count

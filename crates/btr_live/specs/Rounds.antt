@@ -12,7 +12,7 @@ use Rattle.btr_work.specs.Report.{Refreshes}
 abbrev pub MakesRound : StoreState → LogState → List Entry → List ℕ → Type 0
 MakesRound start log low own = ((report : List ReportLine) × Refreshes start log low report own) ⊎ ((n : ℕ) → times n own ≡ 0)
 
--- At most so many rounds, one after another. `middle` is the log at the end of a round. Of it the round is said, and the next round
+-- At most this many rounds, one after another. `middle` is the log at the end of a round. Of it the round is said, and the next round
 -- was made after all of its history had been seen. `own` are the numbers of what was added.
 abbrev pub MakesRounds : StoreState → ℕ → List Entry → LogState → List ℕ → Type 0
 MakesRounds start zero low late own = StartsWith late.history low × ((n : ℕ) → times n own ≡ 0)

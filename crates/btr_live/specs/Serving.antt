@@ -84,18 +84,18 @@ module _ {D : Type 0} {disk : Ghosts D} where
   Knows hall s Fact = (h : List Entry) → IsEngineOf h (opening_of hall) → Fact (history_of h (seen_of s))
 
   -- Whether the session has seen that the store is stopped.
-  abbrev pub was_told : Hall D disk → Session D disk → Bool
-  was_told hall s = stopped_in (opening_of hall) (seen_of s)
+  abbrev pub was_reported : Hall D disk → Session D disk → Bool
+  was_reported hall s = stopped_in (opening_of hall) (seen_of s)
 
   -- What was asked for, at what the session had seen, had this reply.
   abbrev pub RepliesIn : Hall D disk → Session D disk → Session D disk → Meaning → LineReply → Type 0
   RepliesIn hall old new m reply =
-      Does hall old new (λ start log low own. HasReply start log (was_told hall old) low m reply own)
+      Does hall old new (λ start log low own. HasReply start log (was_reported hall old) low m reply own)
 
   -- What was asked for, at what the session had then seen, had this reply.
   abbrev pub ServesIn : Hall D disk → Session D disk → Session D disk → Asking → LineReply → Type 0
   ServesIn hall old new asking reply =
-      Does hall old new (λ start log low own. Serves start log (was_told hall old) low asking reply own)
+      Does hall old new (λ start log low own. Serves start log (was_reported hall old) low asking reply own)
 
   -- The line, at what the session had then seen and with the points that waited in the feeds, had this reply.
   abbrev pub ServesLine : Hall D disk → Session D disk → Session D disk → FeedsValue → FeedsValue → Option Line → LineReply → Type 0

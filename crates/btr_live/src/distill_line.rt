@@ -17,10 +17,12 @@ use btr_hist::{Entry, Kernel, Spec};
 use btr_text::{LineReply, Reason};
 use btr_work::{Refreshed, refresh_output};
 use std::alloc::Global;
+use std::marker::Sync;
 use std::sync::Wait;
+use std::thread::Threads;
 
 /// `distiller ID KERNEL LEAD GRAIN ID [ID]`: defines an output, whose inputs are the streams with the ids `first` and `second`.
-pub(crate) fn define<R: Wait, D: Disk>(
+pub(crate) fn define<R: Threads + Wait + Sync, D: Disk>(
     rt: &R,
     alloc: Global,
     hall: &Hall<D>,
@@ -55,7 +57,7 @@ pub(crate) fn define<R: Wait, D: Disk>(
 }
 
 /// Defines an output with one more input, the stream with the id `second`.
-fn define_of_two<R: Wait, D: Disk>(
+fn define_of_two<R: Threads + Wait + Sync, D: Disk>(
     rt: &R,
     alloc: Global,
     hall: &Hall<D>,
@@ -82,7 +84,7 @@ fn define_of_two<R: Wait, D: Disk>(
 }
 
 /// `refresh ID`: brings the output with this id up to date.
-pub(crate) fn refresh<R: Wait, D: Disk>(
+pub(crate) fn refresh<R: Threads + Wait + Sync, D: Disk>(
     rt: &R,
     alloc: Global,
     hall: &Hall<D>,
@@ -105,7 +107,7 @@ pub(crate) fn refresh<R: Wait, D: Disk>(
 
 /// Brings an output up to date, and returns the reply. Its cost follows what has changed in the inputs since the latest version of the
 /// output.
-fn refresh_stream<R: Wait, D: Disk>(
+fn refresh_stream<R: Threads + Wait + Sync, D: Disk>(
     rt: &R,
     alloc: Global,
     hall: &Hall<D>,
@@ -116,7 +118,7 @@ fn refresh_stream<R: Wait, D: Disk>(
     ensures at { IsAt hall.now session.new }
     ensures serves { ServesIn hall.now session.old session.new (RefreshAsks stream) result }
 {
-    let refreshed = refresh_output(rt, alloc, hall, session, stream);
+    let refreshed = refresh_output(rt, alloc, hall, session, stream, 1);
     reply_of_refreshed(refreshed)
 }
 

@@ -19,10 +19,12 @@ use btr_hall::{Found, Hall, Session};
 use btr_hist::Entry;
 use btr_text::{LineReply, Reason};
 use std::alloc::Global;
+use std::marker::Sync;
 use std::sync::Wait;
+use std::thread::Threads;
 
 /// `feed ID T V ..`: adds points to the feed of the stream with this id, and commits all if they are then due. An output takes none.
-pub(crate) fn feed<R: Wait, D: Disk>(
+pub(crate) fn feed<R: Threads + Wait + Sync, D: Disk>(
     rt: &R,
     alloc: Global,
     hall: &Hall<D>,
@@ -49,7 +51,7 @@ pub(crate) fn feed<R: Wait, D: Disk>(
 }
 
 /// Adds points to the feed of a stream, and commits all if they are then due.
-fn feed_stream<R: Wait, D: Disk>(
+fn feed_stream<R: Threads + Wait + Sync, D: Disk>(
     rt: &R,
     alloc: Global,
     hall: &Hall<D>,
@@ -83,7 +85,7 @@ fn reason_of(fault: FeedFault) -> Reason
 }
 
 /// `flush ID`: commits the points that wait for the stream with this id.
-pub(crate) fn flush<R: Wait, D: Disk>(
+pub(crate) fn flush<R: Threads + Wait + Sync, D: Disk>(
     rt: &R,
     alloc: Global,
     hall: &Hall<D>,
@@ -135,7 +137,7 @@ pub(crate) fn discard<R: Wait, D: Disk>(
 
 /// Commits the points that wait for a stream, as one insert. It sorts them, and so takes time n log n. If the commit is
 /// refused, they wait still, in order.
-fn commit_feed<R: Wait, D: Disk>(
+fn commit_feed<R: Threads + Wait + Sync, D: Disk>(
     rt: &R,
     alloc: Global,
     hall: &Hall<D>,

@@ -121,7 +121,7 @@ impl Job for Lane {
 }
 
 /// Runs lines in order, and adds their replies, for which there is room.
-fn run_lines<R: Wait, D: Disk>(
+fn run_lines<R: Threads + Wait + Sync, D: Disk>(
     rt: &R,
     alloc: Global,
     hall: &Hall<D>,

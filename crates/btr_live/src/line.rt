@@ -23,10 +23,12 @@ use btr_hall::{Found, Hall, Session};
 use btr_hist::{Entry, Query, StreamQuery};
 use btr_text::{Line, LineReply, Reason};
 use std::alloc::{AllocError, Global};
+use std::marker::Sync;
 use std::sync::Wait;
+use std::thread::Threads;
 
 /// Does what a line asks for, and returns the reply.
-pub(crate) fn answer_line<R: Wait, D: Disk>(
+pub(crate) fn answer_line<R: Threads + Wait + Sync, D: Disk>(
     rt: &R,
     alloc: Global,
     hall: &Hall<D>,
@@ -68,7 +70,7 @@ pub(crate) fn answer_line<R: Wait, D: Disk>(
 }
 
 /// Commits points to the stream with this id.
-fn insert<R: Wait, D: Disk>(
+fn insert<R: Threads + Wait + Sync, D: Disk>(
     rt: &R,
     alloc: Global,
     hall: &Hall<D>,
@@ -97,7 +99,7 @@ fn insert<R: Wait, D: Disk>(
 }
 
 /// Commits the removal of the points of a range from the stream with this id.
-fn delete<R: Wait, D: Disk>(
+fn delete<R: Threads + Wait + Sync, D: Disk>(
     rt: &R,
     alloc: Global,
     hall: &Hall<D>,
@@ -121,7 +123,7 @@ fn delete<R: Wait, D: Disk>(
 }
 
 /// Commits the removal of the points of a range from a stream that was found.
-fn delete_range<R: Wait, D: Disk>(
+fn delete_range<R: Threads + Wait + Sync, D: Disk>(
     rt: &R,
     alloc: Global,
     hall: &Hall<D>,
@@ -185,7 +187,7 @@ fn one_range(alloc: Global, range: Range) -> Result<Ranges, AllocError>
 }
 
 /// Commits an entry, which is no distillate.
-pub(crate) fn commit<R: Wait, D: Disk>(
+pub(crate) fn commit<R: Threads + Wait + Sync, D: Disk>(
     rt: &R,
     alloc: Global,
     hall: &Hall<D>,

@@ -45,7 +45,7 @@ impl Job for Rounds {
 }
 
 /// Makes at most `count` rounds, one after another, while lanes run.
-fn make_rounds<R: Wait, D: Disk>(
+fn make_rounds<R: Threads + Wait + Sync, D: Disk>(
     rt: &R,
     alloc: Global,
     hall: &Hall<D>,
@@ -64,7 +64,7 @@ fn make_rounds<R: Wait, D: Disk>(
 
 /// Brings each output up to date once, unless all lanes have ended. What is refused, also when memory runs out, is left to a later
 /// round.
-fn make_round<R: Wait, D: Disk>(
+fn make_round<R: Threads + Wait + Sync, D: Disk>(
     rt: &R,
     alloc: Global,
     hall: &Hall<D>,

@@ -453,11 +453,11 @@ others_nothing x (s ∷ streams) other =
     omega (arith, rest, outcome_nothing x (batches_of s.batch s.rows.points) s.outcome other.0, total_append (commit_of x) here (batch_entries streams))
 
 pub loads_alike : LoadsAlike
-loads_alike start log low rows batch told numbers follows distinct mine loads fits =
-    let streams = told.streams in
+loads_alike start log low rows batch reported numbers follows distinct mine loads fits =
+    let streams = reported.streams in
     let mid = loads.middle in
     let h = log.history in
-    let sound = load_sound start log low rows batch told numbers follows distinct mine loads in
+    let sound = load_sound start log low rows batch reported numbers follows distinct mine loads in
     let creates = all_open_plain start log low low batch rows.streams streams loads.created mid loads.opens fits in
     let ts = targets low low rows.streams in
     let fit = all_fit start log low mid sound.mid_low low low batch rows.streams ts streams loads.created loads.committed mid loads.opens creates.1 loads.commits sound.named sound.once sound.only fits in

@@ -100,14 +100,14 @@ did_long start log low stream (batch ∷ batches) (result ∷ results) own last 
 pub batches_push : (start : StoreState) (log : LogState) (low : List Entry) (stream : ℕ) (batches : List (List NumberedPoint)) (results : List (Result Receipt StepFault)) (own : List ℕ) (mid : List Entry) (batch : List NumberedPoint) (result : Result Receipt StepFault) (more : List ℕ) (last : List Entry) → BatchesDid start log low stream batches results own mid → BatchDid start log mid (batch_entry stream batch) result more last → BatchesDid start log low stream (batches ++ batch ∷ []) (results ++ result ∷ []) (own ++ more) last
 batches_push start log low stream [] [] own mid batch result more last did one =
     (more, [], last, ap (λ l. l ++ more) did.own ∙ sym (append-nil more), subst (λ l. BatchDid start log l (batch_entry stream batch) result more last) did.next one, record { own = refl; next = refl })
-batches_push start log low stream [] (told ∷ results) own mid batch result more last did one = absurd did
+batches_push start log low stream [] (reported ∷ results) own mid batch result more last did one = absurd did
 batches_push start log low stream (first ∷ batches) [] own mid batch result more last did one = absurd did
-batches_push start log low stream (first ∷ batches) (told ∷ results) own mid batch result more last did one =
+batches_push start log low stream (first ∷ batches) (reported ∷ results) own mid batch result more last did one =
     (did.0, did.1 ++ more, did.2, ap (λ l. l ++ more) did.3 ∙ append_assoc did.0 did.1 more, did.4, batches_push start log did.2 stream batches results did.1 mid batch result more last did.5 one)
 
 -- ---- some of the batches of a stream
 
--- The batches that have these results were committed, if there are so many. `rest` are the points that are left, and what the last
+-- The batches that have these results were committed, if there are this many. `rest` are the points that are left, and what the last
 -- batch had seen has happened.
 pub record IsDone (start : StoreState) (log : LogState) (low : List Entry) (stream size : ℕ) (points rest : List NumberedPoint) (results : List (Result Receipt StepFault)) (own : List ℕ) : Type 0 where
   pub done : List (List NumberedPoint)
@@ -165,9 +165,9 @@ done_all start log low stream size points rest places results own long was some 
     (all.last, subst (λ b. BatchesDid start log low stream b results own all.last) (sym whole ∙ all.all) all.did)
 
 -- The same of a batch and of lists that are these.
-pub done_step : (start : StoreState) (late early : LogState) (low : List Entry) (stream size : ℕ) (points rest here after : List NumberedPoint) (results told : List (Result Receipt StepFault)) (result : Result Receipt StepFault) (own more : List ℕ) → here ≡ take size rest → after ≡ drop size rest → told ≡ results ++ result ∷ [] → GoesOn start late early → SomeDone start early low stream size points rest results own → OneBatchDid start late early.history stream here result more → SomeDone start late low stream size points after told (own ++ more)
-done_step start late early low stream size points rest here after results told result own more is_here is_after is_told on was one =
-    subst (λ l. SomeDone start late low stream size points after l (own ++ more)) (sym is_told)
+pub done_step : (start : StoreState) (late early : LogState) (low : List Entry) (stream size : ℕ) (points rest here after : List NumberedPoint) (results reported : List (Result Receipt StepFault)) (result : Result Receipt StepFault) (own more : List ℕ) → here ≡ take size rest → after ≡ drop size rest → reported ≡ results ++ result ∷ [] → GoesOn start late early → SomeDone start early low stream size points rest results own → OneBatchDid start late early.history stream here result more → SomeDone start late low stream size points after reported (own ++ more)
+done_step start late early low stream size points rest here after results reported result own more is_here is_after is_reported on was one =
+    subst (λ l. SomeDone start late low stream size points after l (own ++ more)) (sym is_reported)
     (subst (λ l. SomeDone start late low stream size points l (results ++ result ∷ []) (own ++ more)) (sym is_after)
     (done_push start late early low stream size points rest results result own more on was (subst (λ l. OneBatchDid start late early.history stream l result more) is_here one)))
 

@@ -1,4 +1,4 @@
--- Lemmas on the room that a load needs: if the most that its rows need is left, nothing is refused for want of room.
+-- Lemmas on the room that a load needs: if the most that its rows need is left, nothing is refused for lack of room.
 use Rattle.std.specs.Prelude.{◌≡◌, ℕ, ◌+◌, ◌≤◌, List, [], ◌∷◌, ◌++◌, length, Option, Some, None, Result, Ok, Err}
 use Rattle.std.specs.List.{AllByRecursion}
 use Rattle.std.specs.Option.{is_some}
@@ -81,9 +81,9 @@ module _ (start : StoreState) (log : LogState) (low : List Entry) where
 
   created_past : (follows : Follows low) (p : List Entry) (id : ℕ) (result : Result Receipt StepFault) (own : List ℕ) (next : List Entry) (stream : ℕ) (results : List (Result Receipt StepFault)) (last : ℕ) → StartsWith p low → turns.Committed start log p (Create id) result own next → OutcomeOfCreated result (Committed stream results last) → commits low stream ≡ []
   created_past follows p id (Ok receipt) own next stream results last starts turn is =
-      let told = turn.1.stream in
+      let reported = turn.1.stream in
       let long : length (ids p) ≡ length (ids low) + length (ids starts.0) = ap (λ l. length (ids l)) starts.1 ∙ streams-append low starts.0 in
-      let none = unknown low receipt.stream follows (omega (arith, told, long)) in
+      let none = unknown low receipt.stream follows (omega (arith, reported, long)) in
       ap (commits low) is.0 ∙ nothing_left (commits low receipt.stream) (omega (arith, none))
   created_past follows p id (Err fault) own next stream results last starts turn is = absurd (cc)
 
@@ -316,11 +316,11 @@ module _ (start : StoreState) (log : LogState) where
 -- ---- the law
 
 pub loads_fit : LoadsFit
-loads_fit start log rows batch told numbers follows distinct mine loads fits =
+loads_fit start log rows batch reported numbers follows distinct mine loads fits =
     let low = start.history in
     let mid = loads.middle in
-    let streams = told.streams in
-    let sound = load_sound start log low rows batch told numbers follows distinct mine loads in
+    let streams = reported.streams in
+    let sound = load_sound start log low rows batch reported numbers follows distinct mine loads in
     let keeps : (stream : ℕ) → commits mid stream ≡ commits low stream = λ stream.
     all_open_keep start log low low batch rows.streams streams loads.created mid stream loads.opens in
     let own = all_own start log low mid follows sound.mid_low keeps low batch rows.streams streams loads.created loads.committed mid (starts_refl low) loads.opens loads.commits sound.named sound.only in

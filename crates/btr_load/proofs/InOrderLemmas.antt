@@ -160,9 +160,9 @@ module _ (start : StoreState) (log : LogState) (ran : RunsThrough start log) whe
   committed_exact : (d : PlainStore) (low : List Entry) (batches : List (List NumberedPoint)) (stream of version latest : ℕ) (results : List (Result Receipt StepFault)) (own : List ℕ) (last : List Entry) → of ≡ stream → latest ≡ last_version version results → Holds start d low → StartsWith log.history low → length log.history ≤ length low + total each (accepted of batches results) → AllByRecursion HadMemory results → BatchesDid start log low of batches results own last → (Committed of results latest ≡ Committed stream (results_all d (map (batch_entry stream) batches)) (last_version version (results_all d (map (batch_entry stream) batches)))) × Holds start (store_after_all d (map (batch_entry stream) batches)) log.history
   committed_exact d low batches stream of version latest results own last same is holds starts most memory did =
       let exact = batches_exact d low of batches results own last holds starts most memory did in
-      let told : results ≡ results_all d (map (batch_entry stream) batches) = exact.0 ∙ ap (λ n. results_all d (map (batch_entry n) batches)) same in
-      let end : latest ≡ last_version version (results_all d (map (batch_entry stream) batches)) = is ∙ ap (last_version version) told in (
-        (λ i. Committed (same i) (told i) (end i)),
+      let reported : results ≡ results_all d (map (batch_entry stream) batches) = exact.0 ∙ ap (λ n. results_all d (map (batch_entry n) batches)) same in
+      let end : latest ≡ last_version version (results_all d (map (batch_entry stream) batches)) = is ∙ ap (last_version version) reported in (
+        (λ i. Committed (same i) (reported i) (end i)),
         subst (λ n. Holds start (store_after_all d (map (batch_entry n) batches)) log.history) same exact.1,
       )
 
@@ -292,17 +292,17 @@ module _ (start : StoreState) (log : LogState) (ran : RunsThrough start log) (lo
 -- ---- the law
 
 pub loads_in_order : LoadsInOrder
-loads_in_order start log rows batch told numbers ran mine turn memory =
+loads_in_order start log rows batch reported numbers ran mine turn memory =
     let low = start.history in
     let first = first_store start in
-    let streams = told.streams in
+    let streams = reported.streams in
     let loads = turn.loads in
     let opened = all_open_exact start log ran low first low batch rows.streams streams loads.created loads.middle (first_holds start) memory loads.opens in
     let begins = starts_trans log.history loads.middle low loads.begins opened.begins in
     let since = begins.0 in
     let sum : total each since ≡ total each (create_entries low streams ++ batch_entries streams) =
     sym (entries_sum each log.history low since (one (is_some log.failed)) numbers begins.1 mine)
-    ∙ load_sum each start log low rows batch told numbers loads in
+    ∙ load_sum each start log low rows batch reported numbers loads in
     let both = total_append each (create_entries low streams) (batch_entries streams) in
     let grown : length log.history ≡ length low + length since = ap (length {A = Entry}) begins.1 ∙ length-append low since in
     let count = opened.count in

@@ -100,15 +100,15 @@ module _ (start : StoreState) (log : LogState) (stream : ℕ) where
   batch_accepted low batch receipt own next (inl turn) =
       let p = turn.0 in
       let e = batch_entry stream batch in
-      let told = turn.3.1 in
+      let reported = turn.3.1 in
       let added = turn.3.2 in
-      let number : receipt.number ≡ length p + 1 = told.number in
+      let number : receipt.number ≡ length p + 1 = reported.number in
       let split : log.history ≡ p ++ e ∷ added.follows.0 = added.follows.1 ∙ append_assoc p (e ∷ []) added.follows.0 in
       let here : history.latest next stream ≡ history.latest p stream + 1 = ap (λ l. history.latest l stream) added.next ∙ latest_push p stream batch in
       record {
         seen = subst (StartsWith log.history) (sym added.next) added.follows;
         there = (omega (arith, number), ap (λ k. slice_get k (receipt.number - 1)) split ∙ get_middle p added.follows.0 e (receipt.number - 1) (omega (arith, number)));
-        version = told.version ∙ sym here;
+        version = reported.version ∙ sym here;
         more = omega (arith, here, latest_grows p low stream turn.1);
       }
 
@@ -267,14 +267,14 @@ module _ (start : StoreState) (log : LogState) (low : List Entry) (follows : Fol
   created_named : (p : List Entry) (id : ℕ) (result : Result Receipt StepFault) (outcome : RowsOutcome) (own : List ℕ) (next : List Entry) → StartsWith p low → turns.Committed start log p (entries.Create id) result own next → OutcomeOfCreated result outcome → OutcomeIsNamed low next id outcome
   created_named p id (Err fault) outcome own next starts turn is = refused_named low next id outcome fault is
   created_named p id (Ok receipt) outcome own next starts turn is =
-      let told = turn.1.stream in
+      let reported = turn.1.stream in
       let after : next ≡ p ++ entries.Create id ∷ [] = turn.2.next in
       let all : ids next ≡ ids p ++ id ∷ [] = ap ids after ∙ ids-append p (entries.Create id ∷ []) in
       let place : slice_get (ids next) receipt.stream ≡ Some id =
-      ap (λ l. slice_get l receipt.stream) all ∙ get_middle (ids p) [] id receipt.stream told in
+      ap (λ l. slice_get l receipt.stream) all ∙ get_middle (ids p) [] id receipt.stream reported in
       let long : length (ids p) ≡ length (ids low) + length (ids starts.0) =
       ap (length {A = ℕ}) (ap ids starts.1 ∙ ids-append low starts.0) ∙ length-append (ids low) (ids starts.0) in
-      let none = unknown low receipt.stream follows (omega (arith, told, long)) in
+      let none = unknown low receipt.stream follows (omega (arith, reported, long)) in
       to_named low next id receipt.stream 0 outcome place (sym none) is
 
   opens_named : (p : List Entry) (id : ℕ) (o : Option ℕ) (outcome : RowsOutcome) (own : List ℕ) (next : List Entry) → stream_of low id ≡ o → StartsWith p low → CreatesIfNew start log low p id o outcome own next → OutcomeIsNamed low next id outcome

@@ -144,7 +144,7 @@ pub record IsAlike (h low : List Entry) (rows : List StreamValue) (batch : ℕ) 
 -- Any number of workers does what the plain load does.
 abbrev pub LoadsAlike : Type 0
 LoadsAlike =
-    (start : StoreState) (log : LogState) (low : List Entry) (rows : RowListValue) (batch : ℕ) (told : LoadedValue) (numbers : List ℕ)
-    → Follows low → AreDistinct rows.streams → OnlyOwn log low numbers → Loads start log low rows batch told numbers
-    → AllByRecursion (λ s. IsPlainOutcome s.outcome) told.streams
-    → IsAlike log.history low rows.streams batch told.streams
+    (start : StoreState) (log : LogState) (low : List Entry) (rows : RowListValue) (batch : ℕ) (reported : LoadedValue) (numbers : List ℕ)
+    → Follows low → AreDistinct rows.streams → OnlyOwn log low numbers → Loads start log low rows batch reported numbers
+    → AllByRecursion (λ s. IsPlainOutcome s.outcome) reported.streams
+    → IsAlike log.history low rows.streams batch reported.streams

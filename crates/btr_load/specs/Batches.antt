@@ -8,7 +8,7 @@ use Rattle.btr_rows.specs.declared.row.NumberedPoint.{NumberedPoint}
 use Rattle.btr_engine.specs.declared.board.Receipt.{Receipt}
 use Rattle.btr_engine.specs.declared.step.StepFault.{StepFault}
 
--- At most so many batches of a list. Each has `size` items, and the last one what is left.
+-- At most this many batches of a list. Each has `size` items, and the last one what is left.
 abbrev pub some_batches : {A : Type 0} → ℕ → ℕ → List A → List (List A)
 some_batches zero size items = []
 some_batches (suc count) size [] = []

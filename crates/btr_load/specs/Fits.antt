@@ -1,4 +1,4 @@
--- How much room a load needs: the most that its creates and its batches need. If there is so much, nothing is refused for want of room.
+-- How much room a load needs: the most that its creates and its batches need. If there is so much, nothing is refused for lack of room.
 use Rattle.std.specs.Prelude.{ℕ, ◌+◌, ◌≤◌, max, List, [], ◌∷◌, ◌++◌, Option, Some, None, Result, Ok, Err}
 use Rattle.std.specs.List.{AllByRecursion}
 use Rattle.btr_base.specs.Commit.{Change}
@@ -57,12 +57,12 @@ OutcomeHadRoom Output = Unit {0}
 OutcomeHadRoom (NotCreated fault) = HadRoom (Err fault)
 OutcomeHadRoom (Committed stream results latest) = AllByRecursion HadRoom results
 
--- Nothing is refused for want of room if the most blocks that the rows need were left when the hall began, no id stands twice, and the
+-- Nothing is refused for lack of room if the most blocks that the rows need were left when the hall began, no id stands twice, and the
 -- load is the first that is added to it.
 abbrev pub LoadsFit : Type 0
 LoadsFit =
-    (start : StoreState) (log : LogState) (rows : RowListValue) (batch : ℕ) (told : LoadedValue) (numbers : List ℕ)
+    (start : StoreState) (log : LogState) (rows : RowListValue) (batch : ℕ) (reported : LoadedValue) (numbers : List ℕ)
     → Follows start.history → AreDistinct rows.streams → OnlyOwn log start.history numbers
-    → Loads start log start.history rows batch told numbers
+    → Loads start log start.history rows batch reported numbers
     → rows_need start.history batch rows.streams ≤ start.left
-    → AllByRecursion (λ s. OutcomeHadRoom s.outcome) told.streams
+    → AllByRecursion (λ s. OutcomeHadRoom s.outcome) reported.streams

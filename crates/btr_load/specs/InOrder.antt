@@ -126,8 +126,8 @@ pub record IsLoadedInOrder (start : StoreState) (log : LogState) (rows : List St
 -- If nobody else added anything since the hall began, and memory and device did not fail, one worker leaves just this.
 abbrev pub LoadsInOrder : Type 0
 LoadsInOrder =
-    (start : StoreState) (log : LogState) (rows : RowListValue) (batch : ℕ) (told : LoadedValue) (numbers : List ℕ)
+    (start : StoreState) (log : LogState) (rows : RowListValue) (batch : ℕ) (reported : LoadedValue) (numbers : List ℕ)
     → RunsThrough start log → OnlyOwn log start.history numbers
-    → LoadsInTurn start log start.history rows batch told numbers
-    → AllByRecursion (λ s. OutcomeHadMemory s.outcome) told.streams
-    → IsLoadedInOrder start log rows.streams batch told.streams
+    → LoadsInTurn start log start.history rows batch reported numbers
+    → AllByRecursion (λ s. OutcomeHadMemory s.outcome) reported.streams
+    → IsLoadedInOrder start log rows.streams batch reported.streams

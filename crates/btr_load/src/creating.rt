@@ -13,10 +13,12 @@ use btr_engine::{Receipt, Snapshot, StepFault};
 use btr_hall::{Hall, Session};
 use btr_hist::Entry;
 use std::alloc::Global;
+use std::marker::Sync;
 use std::sync::Wait;
+use std::thread::Threads;
 
 /// Opens the streams, in order.
-pub(crate) fn create_streams<R: Wait, D: Disk>(
+pub(crate) fn create_streams<R: Threads + Wait + Sync, D: Disk>(
     rt: &R,
     alloc: Global,
     hall: &Hall<D>,
@@ -37,7 +39,7 @@ pub(crate) fn create_streams<R: Wait, D: Disk>(
 }
 
 /// Creates the stream of these rows, if the snapshot has none of this id.
-fn create_stream<R: Wait, D: Disk>(
+fn create_stream<R: Threads + Wait + Sync, D: Disk>(
     rt: &R,
     alloc: Global,
     hall: &Hall<D>,
@@ -62,10 +64,10 @@ fn create_stream<R: Wait, D: Disk>(
 }
 
 /// Sets the outcome of rows after the create of their stream returned this.
-fn settle(outcome: &mut RowsOutcome, told: Result<Receipt, StepFault>)
-    ensures { outcome.new ≡ settled_outcome outcome.old told }
+fn settle(outcome: &mut RowsOutcome, reported: Result<Receipt, StepFault>)
+    ensures { outcome.new ≡ settled_outcome outcome.old reported }
 {
-    match told {
+    match reported {
         Ok(receipt) => {
             if let RowsOutcome::Committed { stream, .. } = outcome {
                 *stream = receipt.stream;

@@ -17,7 +17,7 @@ use std::sync::Wait;
 use std::thread::Threads;
 
 /// Loads rows: creates each stream whose id the store does not have, in the order of the rows, and then commits the points of each
-/// stream in batches of this many points. The streams are shared among at most so many workers; one worker commits them one after
+/// stream in batches of this many points. The streams are shared among at most this many workers; one worker commits them one after
 /// another. The batches of a stream are committed in order, by one worker; a refused batch does not stop later ones. The rows of an
 /// output are not committed. The turns of `pace` are the streams, from 0 on.
 ///

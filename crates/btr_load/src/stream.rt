@@ -70,7 +70,7 @@ impl Job for LoadedStream {
 }
 
 /// Commits the batches of a stream, in order, and sets the result of each. A refused batch does not stop later ones.
-fn commit_batches<R: Wait, D: Disk>(
+fn commit_batches<R: Threads + Wait + Sync, D: Disk>(
     rt: &R,
     alloc: Global,
     hall: &Hall<D>,
@@ -95,7 +95,7 @@ fn commit_batches<R: Wait, D: Disk>(
 }
 
 /// Commits a batch: one entry, which adds its points.
-fn commit_batch<R: Wait, D: Disk>(
+fn commit_batch<R: Threads + Wait + Sync, D: Disk>(
     rt: &R,
     alloc: Global,
     hall: &Hall<D>,

@@ -157,13 +157,15 @@ fn times_that_are_covered(rt: HostRuntime) -> Result<(), Fail> {
     Ok(())
 }
 
-/// A lead, ranges, and the ranges with the lead.
+/// A lead, ranges, and the times of the ranges when each is lengthened by the lead.
 struct Led(u64, Pairs, Pairs);
 
 impl Row for Led {
     fn holds(&self, alloc: Global) -> Result<bool, Fail> {
-        let ranges = ranges_of(alloc, self.1)?;
-        let longer = ranges.with_lead(alloc, self.0)?;
+        let mut longer = Ranges::none(alloc);
+        for range in ranges_of(alloc, self.1)?.as_slice() {
+            longer.add(range.lengthened(self.0))?;
+        }
         Ok(have_bounds(&longer, self.2))
     }
 }
@@ -188,7 +190,7 @@ const LED: &[Led] = &[
 ];
 
 #[test]
-fn ranges_with_a_lead(rt: HostRuntime) -> Result<(), Fail> {
+fn ranges_lengthened_by_a_lead(rt: HostRuntime) -> Result<(), Fail> {
     all_hold(rt.alloc(), LED)
 }
 

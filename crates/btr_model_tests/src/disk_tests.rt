@@ -2,7 +2,7 @@
 ghost use Rattle.std.specs.Prelude.{◌≡◌, IfOk, length};
 
 use btr_disk::laws::{sync_and_write, write_elsewhere, write_sync_read, write_two, write_unsynced};
-use btr_disk::{BLOCK, Capacity, Disk, Fill, FuseDisk, MemDisk, publish};
+use btr_disk::{BLOCK, Capacity, Disk, Fill, FuseDisk, MemDisk, Parts, publish};
 use std::alloc::{AllocError, Global};
 use std::process::Abort;
 use std::test::Fail;
@@ -49,6 +49,45 @@ fn what_is_written_is_read(rt: HostRuntime) -> Result<(), Fail> {
     assert!(rt; (is_done, read) == (true, 7));
     assert!(rt; (disk.blocks(), disk.calls(), disk.faults()) == (8, 3, 0));
     assert!(rt; bytes_of(disk, [12287, 12288, 16384]) == (32768, [Some(0), Some(7), Some(0)]));
+    Ok(())
+}
+
+/// Two blocks in parts of 10, 4086 and 4096 bytes: ones, twos and threes.
+fn three_parts(alloc: Global) -> Result<Parts, AllocError>
+    ensures { IfOk result (λ parts. length parts ≡ 8192) }
+{
+    let mut parts = Parts::of(alloc, vec![in alloc; 1; 10]?)?;
+    parts.push(vec![in alloc; 2; 4086]?)?;
+    parts.push(vec![in alloc; 3; 4096]?)?;
+    Ok(parts)
+}
+
+#[test]
+fn parts_are_written_one_after_the_other(rt: HostRuntime) -> Result<(), Fail> {
+    let alloc = rt.alloc();
+    let mut disk = disk(alloc, Vec::new(alloc))?;
+    let parts = three_parts(alloc)?;
+    let is_written = disk.write_parts(3, &parts).is_ok();
+    assert!(rt; (is_written, disk.calls(), disk.faults()) == (true, 1, 0));
+    let mut buf = vec![in alloc; 9; 8192]?;
+    let is_read = disk.read(3, &mut buf).is_ok();
+    let read = (buf[0], buf[9], buf[10], buf[4095], buf[4096], buf[8191]);
+    assert!(rt; (is_read, read) == (true, (1, 1, 2, 2, 3, 3)));
+    assert!(rt; bytes_of(disk, [12287, 20479, 20480]) == (32768, [Some(0), Some(3), Some(0)]));
+    Ok(())
+}
+
+#[test]
+fn parts_are_joined_in_order(rt: HostRuntime) -> Result<(), Fail> {
+    let alloc = rt.alloc();
+    let none = Parts::none(alloc);
+    assert!(rt; (none.len(), none.as_slices().len()) == (0, 0));
+    let parts = three_parts(alloc)?;
+    let lengths = match parts.as_slices() {
+        [first, second, third] => Some((first.len(), second.len(), third.len())),
+        _ => None,
+    };
+    assert!(rt; (parts.len(), lengths) == (8192, Some((10, 4086, 4096))));
     Ok(())
 }
 
@@ -117,7 +156,7 @@ fn an_unsynced_block_is_old_or_new_or_neither(rt: HostRuntime) -> Result<(), Fai
 /// list fail. Returns the first byte of each of the three blocks, and the number of faults.
 fn published(rt: &impl Abort, alloc: Global, failing: Vec<u64>) -> Result<(u8, u8, u8, u64), Fail> {
     let mut disk = disk(alloc, failing)?;
-    let body = vec![in alloc; 3; 8192]?;
+    let body = Parts::of(alloc, vec![in alloc; 3; 8192]?)?;
     let outcome = publish(&mut disk, 1, &body, 0, &block(alloc, 2)?);
     let faults = disk.faults();
     assert!(rt; outcome.is_ok() == (faults == 0));
@@ -181,6 +220,29 @@ fn a_fuse_passes_its_calls_and_then_fails(rt: HostRuntime) -> Result<(), Fail> {
     assert!(rt; after_the_fuse(alloc, 5, false)? == (true, Some(7), 2, 0));
     // A write that fails reaches the other device.
     assert!(rt; after_the_fuse(alloc, 5, true)? == (true, Some(5), 3, 0));
+    Ok(())
+}
+
+/// The first byte of each of blocks 1 and 2, and the number of calls and of faults of the other device, after a write of parts at
+/// block 1, a sync, and a write of parts at block 2 that fails.
+fn parts_after_the_fuse(alloc: Global) -> Result<(bool, [Option<u8>; 2], u64, u64), AllocError> {
+    let mut fuse = fuse(alloc)?;
+    let parts = three_parts(alloc)?;
+    let passed = fuse.write_parts(1, &parts).is_ok() && fuse.sync().is_ok();
+    let cut_off = fuse.write_parts(2, &parts).is_err();
+    let disk = fuse.into_disk();
+    let calls = disk.calls();
+    let faults = disk.faults();
+    let bytes = disk.into_bytes();
+    let found = [bytes.get(4096).copied(), bytes.get(8192).copied()];
+    Ok((passed && cut_off, found, calls, faults))
+}
+
+#[test]
+fn a_write_of_parts_is_one_call_of_the_fuse(rt: HostRuntime) -> Result<(), Fail> {
+    let found = parts_after_the_fuse(rt.alloc())?;
+    // The write that fails reaches the other device.
+    assert!(rt; found == (true, [Some(1), Some(1)], 3, 0));
     Ok(())
 }
 

@@ -3,7 +3,7 @@ ghost use Rattle.btr_entry.specs.Grammar.{IsWithinBounds};
 
 use super::fixture::{Row, all_hold};
 use btr_base::{END, FIRST, Point};
-use btr_entry::{decode, encode, one_spelling, spelling_length};
+use btr_entry::{append_entry, decode, one_spelling, spelling_length};
 use btr_hist::{Entry, Kernel, Reads, Spec};
 use std::alloc::{AllocError, Global};
 use std::test::Fail;
@@ -86,7 +86,8 @@ fn is_spelling(alloc: Global, entry: &Entry, bytes: &[u8]) -> Result<bool, Alloc
     requires { IsWithinBounds entry.now }
 {
     let length = spelling_length(entry);
-    let again = encode(alloc, entry)?;
+    let mut again = Vec::new(alloc);
+    append_entry(&mut again, entry)?;
     Ok(again.as_slice() == bytes && length == bytes.len() as u64)
 }
 

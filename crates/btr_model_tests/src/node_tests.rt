@@ -157,6 +157,32 @@ fn inner_node_has_its_bytes(rt: HostRuntime) -> Result<(), Fail> {
     Ok(())
 }
 
+#[test]
+fn leaf_has_its_fields(rt: HostRuntime) -> Result<(), Fail> {
+    let page = decode(&block(LEAF)?).ok_or("a page")?;
+    let front = page.front();
+    assert!(rt; front.start == FIRST && front.height == 10);
+    assert!(rt; front.stream == 0 && front.version == 1 && front.count == 3);
+    let span = page.span();
+    assert!(rt; span.start == FIRST && span.height == 10);
+    assert!(rt; page.slots().len() == 0);
+    Ok(())
+}
+
+#[test]
+fn inner_node_has_its_fields(rt: HostRuntime) -> Result<(), Fail> {
+    let page = decode(&block(INNER)?).ok_or("a page")?;
+    let front = page.front();
+    assert!(rt; front.start == 0 && front.height == 1);
+    assert!(rt; front.stream == 258 && front.version == 9 && front.count == 253);
+    let span = page.span();
+    assert!(rt; span.start == 0 && span.height == 1);
+    let slots = page.slots();
+    assert!(rt; slots.len() == 64);
+    assert!(rt; slots[0].count() == 252 && slots[1].count() == 0 && slots[63].count() == 1);
+    Ok(())
+}
+
 /// A block, the places of those of its bytes that are other ones, and whether it is then a page.
 struct Changed(&'static [At], &'static [(usize, u8)], bool);
 
@@ -203,7 +229,7 @@ const NO_LEAVES: &[Changed] = &[
     // no point, and more points than places
     Changed(&[At(0, &LEAF_FIELDS)], &[(39, 0)], false),
     Changed(LEAF, &[(39, 253)], false),
-    // bytes that are not zero behind the count
+    // bytes that are not zero after the count
     Changed(LEAF, &[(40, 1)], false),
     Changed(LEAF, &[(63, 1)], false),
     // points out of order, by time and by value
@@ -212,7 +238,7 @@ const NO_LEAVES: &[Changed] = &[
     // a point at the end of the span, and one before its start
     Changed(LEAF, &[(8, 0), (19, 0)], false),
     Changed(LEAF, &[(8, 0), (15, 4), (19, 0)], false),
-    // places behind the points that are not zero
+    // places after the points that are not zero
     Changed(LEAF, &[(39, 2)], false),
     Changed(LEAF, &[(4087, 1)], false),
     Changed(LEAF, &[(4095, 1)], false),
@@ -277,7 +303,7 @@ const NO_INNER_NODES: &[Changed] = &[
     // counts of the slots that add up to another one
     Changed(INNER, &[(39, 254)], false),
     Changed(WITHOUT_LAST, &[], false),
-    // bytes that are not zero behind the count and behind the slots
+    // bytes that are not zero after the count and after the slots
     Changed(INNER, &[(40, 1)], false),
     Changed(INNER, &[(3648, 1)], false),
     Changed(INNER, &[(4095, 1)], false),

@@ -65,7 +65,7 @@ one_more {X = X} item Fits once bytes count xs ys r s each parts less h none =
     let next = next_of item Fits xs prefix.others r s (omega (arith, all, h.long, less)) prefix.fit prefix.follow in
     none next.0 next.1 next.2 next.3
 
--- The bytes are at least as many as so many items take.
+-- The bytes are at least as many as this many items take.
 pub items_long : {X : Type 0} (item : X → List ℕ) (least : ℕ) → ((x : X) → least ≤ length (item x)) → (xs : List X) → least * length xs ≤ length (flat_map item xs)
 items_long item least long [] = omega arith
 items_long item least long (x ∷ xs) =

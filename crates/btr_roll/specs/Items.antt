@@ -7,7 +7,7 @@ use Rattle.btr_hist.specs.declared.kernel.Spec.{Spec}
 use Rattle.btr_entry.specs.Grammar.{number, IsSpec}
 use Rattle.btr_roll.specs.Roll.{kind_bytes}
 
--- The bytes are those of so many items that fit, then `rest`.
+-- The bytes are those of this many items that fit, then `rest`.
 pub record AreItems {X : Type 0} (item : X → List ℕ) (Fits : X → Type 0) (count : ℕ)
     (bytes : List ℕ) (xs : List X) (rest : List ℕ) : Type 0 where
   pub each : AllByRecursion Fits xs

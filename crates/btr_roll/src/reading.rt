@@ -16,7 +16,7 @@ use btr_hist::{Reads, Spec};
 use std::alloc::{AllocError, Global};
 
 /// Reads this many streams from the first bytes, and returns them with the bytes after them. Returns `None` if the bytes do
-/// not begin with so many streams that fit. An `Err` means out of memory.
+/// not begin with this many streams that fit. An `Err` means out of memory.
 pub fn read_streams(
     alloc: Global,
     bytes: &[u8],
@@ -102,7 +102,7 @@ fn read_kind(bytes: &[u8]) -> Option<(Option<Spec>, &[u8])>
 }
 
 /// Reads this many versions, of an output or of a plain stream, from the first bytes, and returns them with the bytes after
-/// them. Returns `None` if the bytes do not begin with so many versions that fit. An `Err` means out of memory.
+/// them. Returns `None` if the bytes do not begin with this many versions that fit. An `Err` means out of memory.
 fn read_versions(
     alloc: Global,
     bytes: &[u8],

@@ -98,20 +98,20 @@ module _ {D : Type 0} {disk : Ghosts D} where
       (does.0, does.1, λ h of. record { did = record { report = None; refreshes = does.2 h of; says = tt }; in_turn = tt })
 
 -- What was said holds of what is said in the end: the same, or that memory ran out.
-still_says : (h : List Entry) (report : Option (List refreshed.ReportLine)) (said told : Result Transcript AllocError) → IfOk told (λ t. said ≡ Ok t) → SaysReport h report said → SaysReport h report told
+still_says : (h : List Entry) (report : Option (List refreshed.ReportLine)) (said reported : Result Transcript AllocError) → IfOk reported (λ t. said ≡ Ok t) → SaysReport h report said → SaysReport h report reported
 still_says h report said (Err error) is says = tt
 still_says h report said (Ok transcript) is says = subst (λ (s : Result Transcript AllocError). SaysReport h report s) is says
 
-pub distils_told : (start : StoreState) (log : LogState) (low : List Entry) (said told : Result Transcript AllocError) (own : List ℕ) → IfOk told (λ t. said ≡ Ok t) → Distils start log low said own → Distils start log low told own
-distils_told start log low said told own is did =
-    record { report = did.report; refreshes = did.refreshes; says = still_says log.history did.report said told is did.says }
+pub distils_reported : (start : StoreState) (log : LogState) (low : List Entry) (said reported : Result Transcript AllocError) (own : List ℕ) → IfOk reported (λ t. said ≡ Ok t) → Distils start log low said own → Distils start log low reported own
+distils_reported start log low said reported own is did =
+    record { report = did.report; refreshes = did.refreshes; says = still_says log.history did.report said reported is did.says }
 
-pub turn_told : (start : StoreState) (log : LogState) (low : List Entry) (said told : Result Transcript AllocError) (own : List ℕ) → IfOk told (λ t. said ≡ Ok t) → DistilsInTurn start log low said own → DistilsInTurn start log low told own
-turn_told start log low said told own is turn = record {
+pub turn_reported : (start : StoreState) (log : LogState) (low : List Entry) (said reported : Result Transcript AllocError) (own : List ℕ) → IfOk reported (λ t. said ≡ Ok t) → DistilsInTurn start log low said own → DistilsInTurn start log low reported own
+turn_reported start log low said reported own is turn = record {
   did = record {
     report = turn.did.report;
     refreshes = turn.did.refreshes;
-    says = still_says log.history turn.did.report said told is turn.did.says;
+    says = still_says log.history turn.did.report said reported is turn.did.says;
   };
   in_turn = turn.in_turn;
 }

@@ -37,22 +37,22 @@ module _ (start : StoreState) (log : LogState) where
   committed_allowed a e result own next computed is = allows_committed start log is.0 e result own next (computed is.0) is.3
 
   -- A distillate is that of a plan.
-  offers_allowed : (told : Bool) (a : List Entry) (e : Entry) (reply : LineReply) (own : List ℕ) (next : List Entry) → Offers start log told a e reply own next → AddsAllowed log own
-  offers_allowed told a (entries.Create id) reply own next is = committed_allowed a (entries.Create id) is.0 own next (λ p. tt) is.1
-  offers_allowed told a (entries.Define id spec) reply own next is = committed_allowed a (entries.Define id spec) is.0 own next (λ p. tt) is.1
-  offers_allowed told a (entries.Commit stream cut added) reply own next is = committed_allowed a (entries.Commit stream cut added) is.0 own next (λ p. tt) is.1
-  offers_allowed told a (entries.Distillate stream cut added reads) reply own next is =
+  offers_allowed : (reported : Bool) (a : List Entry) (e : Entry) (reply : LineReply) (own : List ℕ) (next : List Entry) → Offers start log reported a e reply own next → AddsAllowed log own
+  offers_allowed reported a (entries.Create id) reply own next is = committed_allowed a (entries.Create id) is.0 own next (λ p. tt) is.1
+  offers_allowed reported a (entries.Define id spec) reply own next is = committed_allowed a (entries.Define id spec) is.0 own next (λ p. tt) is.1
+  offers_allowed reported a (entries.Commit stream cut added) reply own next is = committed_allowed a (entries.Commit stream cut added) is.0 own next (λ p. tt) is.1
+  offers_allowed reported a (entries.Distillate stream cut added reads) reply own next is =
       allows_landed start log a is.0 is.3 own next is.1.of is.4
 
   idle_allowed : (a : List Entry) (own : List ℕ) (next : List Entry) → IsIdle a own next → AddsAllowed log own
   idle_allowed a own next is = allows_nothing log own is.own
 
-  answers_allowed : (told : Bool) (a : List Entry) (m : Meaning) (reply : LineReply) (own : List ℕ) (next : List Entry) → Answers start log told a m reply own next → AddsAllowed log own
-  answers_allowed told a (Commits e) reply own next is = offers_allowed told a e reply own next is
-  answers_allowed told a (Asks query) reply own next is = idle_allowed a own next is.1
-  answers_allowed told a (Holds count) reply own next is = idle_allowed a own next is.1
-  answers_allowed told a (Current version) reply own next is = idle_allowed a own next is.1
-  answers_allowed told a (Refuses reason) reply own next is = idle_allowed a own next is.1
+  answers_allowed : (reported : Bool) (a : List Entry) (m : Meaning) (reply : LineReply) (own : List ℕ) (next : List Entry) → Answers start log reported a m reply own next → AddsAllowed log own
+  answers_allowed reported a (Commits e) reply own next is = offers_allowed reported a e reply own next is
+  answers_allowed reported a (Asks query) reply own next is = idle_allowed a own next is.1
+  answers_allowed reported a (Holds count) reply own next is = idle_allowed a own next is.1
+  answers_allowed reported a (Current version) reply own next is = idle_allowed a own next is.1
+  answers_allowed reported a (Refuses reason) reply own next is = idle_allowed a own next is.1
 
   -- ---- a lane, and a landing
 

@@ -57,13 +57,13 @@ module _ {D : Type 0} {disk : Ghosts D} (batch : ℕ) (materialize : Bool) (scri
       ([], goes_none old, λ h of. record { report = None; runs = refl; says = tt })
 
 -- What was said holds of what is said in the end: the same, or that memory ran out.
-still_says : (log : LogState) (report : Option LiveReport) (said told : Result Transcript AllocError) → IfOk told (λ t. said ≡ Ok t) → SaysScript log report said → SaysScript log report told
+still_says : (log : LogState) (report : Option LiveReport) (said reported : Result Transcript AllocError) → IfOk reported (λ t. said ≡ Ok t) → SaysScript log report said → SaysScript log report reported
 still_says log report said (Err error) is says = tt
 still_says log report said (Ok transcript) is says = subst (λ (s : Result Transcript AllocError). SaysScript log report s) is says
 
-pub lives_told : (batch : ℕ) (materialize : Bool) (script : List ScriptLine) (start : StoreState) (log : LogState) (low : List Entry) (said told : Result Transcript AllocError) (own : List ℕ) → IfOk told (λ t. said ≡ Ok t) → Lives batch materialize script start log low said own → Lives batch materialize script start log low told own
-lives_told batch materialize script start log low said told own is did =
-    record { report = did.report; runs = did.runs; says = still_says log did.report said told is did.says }
+pub lives_reported : (batch : ℕ) (materialize : Bool) (script : List ScriptLine) (start : StoreState) (log : LogState) (low : List Entry) (said reported : Result Transcript AllocError) (own : List ℕ) → IfOk reported (λ t. said ≡ Ok t) → Lives batch materialize script start log low said own → Lives batch materialize script start log low reported own
+lives_reported batch materialize script start log low said reported own is did =
+    record { report = did.report; runs = did.runs; says = still_says log did.report said reported is did.says }
 
 -- ---- what it adds is allowed
 

@@ -75,17 +75,17 @@ module _ {D : Type 0} {disk : Ghosts D} (hall : Hall D disk) (old new : Session 
       }) refused
 
 -- What was said holds of what is said in the end: the same, or that memory ran out.
-still_says : (loaded : Option LoadedValue) (said told : Result Transcript AllocError) → IfOk told (λ t. said ≡ Ok t) → SaysLoaded loaded said → SaysLoaded loaded told
+still_says : (loaded : Option LoadedValue) (said reported : Result Transcript AllocError) → IfOk reported (λ t. said ≡ Ok t) → SaysLoaded loaded said → SaysLoaded loaded reported
 still_says loaded said (Err error) is says = tt
 still_says loaded said (Ok transcript) is says = subst (λ (s : Result Transcript AllocError). SaysLoaded loaded s) is says
 
-pub loads_told : (start : StoreState) (log : LogState) (low : List Entry) (rows : RowListValue) (batch : ℕ) (said told : Result Transcript AllocError) (own : List ℕ) → IfOk told (λ t. said ≡ Ok t) → LoadsRows start log low rows batch said own → LoadsRows start log low rows batch told own
-loads_told start log low rows batch said told own is did =
-    record { loaded = did.loaded; loads = did.loads; says = still_says did.loaded said told is did.says }
+pub loads_reported : (start : StoreState) (log : LogState) (low : List Entry) (rows : RowListValue) (batch : ℕ) (said reported : Result Transcript AllocError) (own : List ℕ) → IfOk reported (λ t. said ≡ Ok t) → LoadsRows start log low rows batch said own → LoadsRows start log low rows batch reported own
+loads_reported start log low rows batch said reported own is did =
+    record { loaded = did.loaded; loads = did.loads; says = still_says did.loaded said reported is did.says }
 
-pub turn_told : (start : StoreState) (log : LogState) (low : List Entry) (rows : RowListValue) (batch : ℕ) (said told : Result Transcript AllocError) (own : List ℕ) → IfOk told (λ t. said ≡ Ok t) → LoadsRowsInTurn start log low rows batch said own → LoadsRowsInTurn start log low rows batch told own
-turn_told start log low rows batch said told own is turn = record {
-  did = record { loaded = turn.did.loaded; loads = turn.did.loads; says = still_says turn.did.loaded said told is turn.did.says };
+pub turn_reported : (start : StoreState) (log : LogState) (low : List Entry) (rows : RowListValue) (batch : ℕ) (said reported : Result Transcript AllocError) (own : List ℕ) → IfOk reported (λ t. said ≡ Ok t) → LoadsRowsInTurn start log low rows batch said own → LoadsRowsInTurn start log low rows batch reported own
+turn_reported start log low rows batch said reported own is turn = record {
+  did = record { loaded = turn.did.loaded; loads = turn.did.loads; says = still_says turn.did.loaded said reported is turn.did.says };
   in_turn = turn.in_turn;
 }
 

@@ -50,7 +50,7 @@ prefix_of_log size h more failed c holds =
     (λ one. inr one)
     holds
 
-module _ {D : Type 0} {disk : Ghosts D} (told : disk.is_observable) (only_now : (d : D) (c : Image) → disk.images_since d (disk.calls d) c → disk.images_now d c) (counts_now : (d : D) (t : ℕ) (c : Image) → t ≤ disk.calls d → disk.images_now d c → disk.images_since d t c) (size : ℕ) where
+module _ {D : Type 0} {disk : Ghosts D} (reported : disk.is_observable) (only_now : (d : D) (c : Image) → disk.images_since d (disk.calls d) c → disk.images_now d c) (counts_now : (d : D) (t : ℕ) (c : Image) → t ≤ disk.calls d → disk.images_now d c → disk.images_since d t c) (size : ℕ) where
   -- An engine at rest, on a device of this size.
   record Rests (h : List Entry) (x : Engine D disk) : Type 0 where
     rest : IsAtRest h x
@@ -62,14 +62,14 @@ module _ {D : Type 0} {disk : Ghosts D} (told : disk.is_observable) (only_now : 
 
   rests_next : (h : List Entry) (x y : Engine D disk) (e : Entry) (receipt : Receipt) → Rests h x → IsStep x y e (Ok receipt) → Rests (h ++ e ∷ []) y
   rests_next h x y e receipt at step = record {
-    rest = step.at_rest told h at.rest;
+    rest = step.at_rest reported h at.rest;
     same_size = step.kept.device_kept.same_size ∙ at.same_size;
   }
 
   -- the moments of a step, by the number of blocks
   step_moments : (h : List Entry) (x y : Engine D disk) (e : Entry) (result : Result Receipt StepFault) → Rests h x → IsStep x y e result → Leaves disk.calls disk.images_since (device x) (device y) (IsBeforeOrAfter size h e)
   step_moments h x y e result at step =
-      subst (λ (n : ℕ). Leaves disk.calls disk.images_since (device x) (device y) (IsBeforeOrAfter n h e)) at.same_size (step.moments told h at.rest)
+      subst (λ (n : ℕ). Leaves disk.calls disk.images_since (device x) (device y) (IsBeforeOrAfter n h e)) at.same_size (step.moments reported h at.rest)
 
   -- nothing follows a step in which the device failed
   nothing_after : (h : List Entry) (x y : Engine D disk) (e : Entry) (l : List (Item D disk)) → Rests h x → IsStep x y e (Err DeviceFault) → IsTrace y l → l ≡ []
@@ -141,7 +141,7 @@ module _ {D : Type 0} {disk : Ghosts D} (told : disk.is_observable) (only_now : 
       (one_failed size h e c (moments.each c (counts_now (device y) (disk.calls (device x)) c moments.later here)))
 
 -- After each entry there is a device, and what a crash leaves from then on has the entries so far.
-module _ {D : Type 0} (disk : Ghosts D) (told : disk.is_observable) (only_now : (d : D) (c : Image) → disk.images_since d (disk.calls d) c → disk.images_now d c) (counts_now : (d : D) (t : ℕ) (c : Image) → t ≤ disk.calls d → disk.images_now d c → disk.images_since d t c) (new : D) (log : LogState) where
+module _ {D : Type 0} (disk : Ghosts D) (reported : disk.is_observable) (only_now : (d : D) (c : Image) → disk.images_since d (disk.calls d) c → disk.images_now d c) (counts_now : (d : D) (t : ℕ) (c : Image) → t ≤ disk.calls d → disk.images_now d c → disk.images_since d t c) (new : D) (log : LogState) where
   abbrev size : ℕ
   size = disk.size new
 
@@ -150,18 +150,18 @@ module _ {D : Type 0} (disk : Ghosts D) (told : disk.is_observable) (only_now : 
     now = λ c left. subst (λ (n : ℕ). HoldsHistory n c h) same (holds_in h x rest c (rest.only.each c left));
     since = subst (λ (k : LogState). Leaves disk.calls disk.images_since (device x) new (HoldsPrefix size (length h) k)) (sym is)
         (subst (λ (d : D). Leaves disk.calls disk.images_since (device x) d (HoldsPrefix size (length h) (log_at h l))) (sym ends)
-        (steps_leave told only_now counts_now size h x l rest same trace));
+        (steps_leave reported only_now counts_now size h x l rest same trace));
   }
 
   -- The device of a step, from here on.
   moments_here : (h : List Entry) (x y : Engine D disk) (e : Entry) (result : Result Receipt StepFault) → IsAtRest h x → disk.size (device x) ≡ size → IsStep x y e result → Leaves disk.calls disk.images_since (device x) (device y) (IsBeforeOrAfter size h e)
   moments_here h x y e result rest same step =
-      subst (λ (n : ℕ). Leaves disk.calls disk.images_since (device x) (device y) (IsBeforeOrAfter n h e)) same (step.moments told h rest)
+      subst (λ (n : ℕ). Leaves disk.calls disk.images_since (device x) (device y) (IsBeforeOrAfter n h e)) same (step.moments reported h rest)
 
   -- The same, by the device after the step.
   moments_last : (h : List Entry) (x y : Engine D disk) (e : Entry) → IsAtRest h x → IsStep x y e (Err DeviceFault) → Leaves disk.calls disk.images_since (device x) (device y) (IsBeforeOrAfter (disk.size (device y)) h e)
   moments_last h x y e rest step =
-      subst (λ (n : ℕ). Leaves disk.calls disk.images_since (device x) (device y) (IsBeforeOrAfter n h e)) (sym step.kept.device_kept.same_size) (step.moments told h rest)
+      subst (λ (n : ℕ). Leaves disk.calls disk.images_since (device x) (device y) (IsBeforeOrAfter n h e)) (sym step.kept.device_kept.same_size) (step.moments reported h rest)
 
   -- The end of a state of the log with this failure.
   ends_here : (failed : Option Entry) (d : D) (h : List Entry) → log.failed ≡ failed → EndsAt disk failed new d h → EndsAt disk log.failed new d h
@@ -182,7 +182,7 @@ module _ {D : Type 0} (disk : Ghosts D) (told : disk.is_observable) (only_now : 
         device y,
         stepped.called,
         moments_here h x y e (Ok trace.0.0) rest same step,
-        keeps_each (h ++ e ∷ []) y l (step.at_rest told h rest) sized trace.1 ends next,
+        keeps_each (h ++ e ∷ []) y l (step.at_rest reported h rest) sized trace.1 ends next,
       )
   keeps_each h x (Halted entry engine ∷ l) rest same trace ends is =
       let y : Engine D disk = engine.value in

@@ -158,27 +158,27 @@ module _ (number streams points : ℕ) where
       record { none = none; same = same; says = subst (λ (n : ℕ). IfOk said (SaysLines (lines.Used n ∷ []))) is says }
 
   -- What was said holds of what is said in the end: the same, or that memory ran out.
-  still_says : (h : List Entry) (loaded : Option LoadedValue) (outputs : List DefinedOutput) (report : Option (List refreshed.ReportLine)) (said told : Result Transcript AllocError) → IfOk told (λ t. said ≡ Ok t) → SaysSample streams h loaded outputs report said → SaysSample streams h loaded outputs report told
+  still_says : (h : List Entry) (loaded : Option LoadedValue) (outputs : List DefinedOutput) (report : Option (List refreshed.ReportLine)) (said reported : Result Transcript AllocError) → IfOk reported (λ t. said ≡ Ok t) → SaysSample streams h loaded outputs report said → SaysSample streams h loaded outputs report reported
   still_says h loaded outputs report said (Err error) is says = tt
   still_says h loaded outputs report said (Ok transcript) is says =
       subst (λ (s : Result Transcript AllocError). SaysSample streams h loaded outputs report s) is says
 
-  still_used : (P : Transcript → Type 0) (said told : Result Transcript AllocError) → IfOk told (λ t. said ≡ Ok t) → IfOk said P → IfOk told P
+  still_used : (P : Transcript → Type 0) (said reported : Result Transcript AllocError) → IfOk reported (λ t. said ≡ Ok t) → IfOk said P → IfOk reported P
   still_used P said (Err error) is says = tt
   still_used P said (Ok transcript) is says = subst (λ (s : Result Transcript AllocError). IfOk s P) is says
 
-  pub samples_told : (start : StoreState) (log : LogState) (low : List Entry) (said told : Result Transcript AllocError) (own : List ℕ) → IfOk told (λ t. said ≡ Ok t) → Samples number streams points start log low said own → Samples number streams points start log low told own
-  samples_told start log [] said told own is did = record {
+  pub samples_reported : (start : StoreState) (log : LogState) (low : List Entry) (said reported : Result Transcript AllocError) (own : List ℕ) → IfOk reported (λ t. said ≡ Ok t) → Samples number streams points start log low said own → Samples number streams points start log low reported own
+  samples_reported start log [] said reported own is did = record {
     loaded = did.loaded;
     outputs = did.outputs;
     report = did.report;
     work = did.work;
-    says = still_says log.history did.loaded did.outputs did.report said told is did.says;
+    says = still_says log.history did.loaded did.outputs did.report said reported is did.says;
   }
-  samples_told start log (e ∷ low) said told own is did = record {
+  samples_reported start log (e ∷ low) said reported own is did = record {
     none = did.none;
     same = did.same;
-    says = still_used (SaysLines (lines.Used (length (e ∷ low)) ∷ [])) said told is did.says;
+    says = still_used (SaysLines (lines.Used (length (e ∷ low)) ∷ [])) said reported is did.says;
   }
 
   -- The store was empty.
@@ -225,7 +225,7 @@ module _ (number streams points : ℕ) where
         load define
 
     -- Memory ran out when outputs were defined.
-    pub filled_two : (old new : Session D disk) (loaded : LoadedValue) (result : Result (Vec DefinedOutput Global) AllocError) (told : Result Filled AllocError) → IsErr told → Does hall old new (λ start log low own. Two loaded result start log low own) → Does hall old new (λ start log low own. IsFilledInPart number streams points start log low told own)
+    pub filled_two : (old new : Session D disk) (loaded : LoadedValue) (result : Result (Vec DefinedOutput Global) AllocError) (reported : Result Filled AllocError) → IsErr reported → Does hall old new (λ start log low own. Two loaded result start log low own) → Does hall old new (λ start log low own. IsFilledInPart number streams points start log low reported own)
     filled_two old new loaded result (Ok filled) failed does = absurd (cc)
     filled_two old new loaded result (Err error) failed does =
         does_implied hall old new
@@ -234,7 +234,7 @@ module _ (number streams points : ℕ) where
         (λ start log low own is. (Some loaded, is.0, None, work_two start log low loaded is.0 own is.1)) does
 
     -- Memory ran out before any output was brought up to date.
-    pub filled_three : (old mid new : Session D disk) (loaded : LoadedValue) (result : Result (Vec DefinedOutput Global) AllocError) (told : Result Filled AllocError) → IsErr told → IsAt hall new → Does hall old mid (λ start log low own. Two loaded result start log low own) → Does hall mid new (λ start log low own. (n : ℕ) → times n own ≡ 0) → Does hall old new (λ start log low own. IsFilledInPart number streams points start log low told own)
+    pub filled_three : (old mid new : Session D disk) (loaded : LoadedValue) (result : Result (Vec DefinedOutput Global) AllocError) (reported : Result Filled AllocError) → IsErr reported → IsAt hall new → Does hall old mid (λ start log low own. Two loaded result start log low own) → Does hall mid new (λ start log low own. (n : ℕ) → times n own ≡ 0) → Does hall old new (λ start log low own. IsFilledInPart number streams points start log low reported own)
     filled_three old mid new loaded result (Ok filled) failed at two none = absurd (cc)
     filled_three old mid new loaded result (Err error) failed at two none =
         does_then hall old mid new
@@ -282,7 +282,7 @@ module _ (number streams points : ℕ) where
     )
 
     -- Memory ran out.
-    pub fills_none : (old new : Session D disk) (error : AllocError) (told : Result Transcript AllocError) → IsErr told → Does hall old new (λ start log low own. IsFilledInPart number streams points start log low (Err error) own) → Does hall old new (λ start log low own. Fills number streams points start log low told own)
+    pub fills_none : (old new : Session D disk) (error : AllocError) (reported : Result Transcript AllocError) → IsErr reported → Does hall old new (λ start log low own. IsFilledInPart number streams points start log low (Err error) own) → Does hall old new (λ start log low own. Fills number streams points start log low reported own)
     fills_none old new error (Ok transcript) failed does = absurd (cc)
     fills_none old new error (Err other) failed does =
         does_implied hall old new
@@ -292,7 +292,7 @@ module _ (number streams points : ℕ) where
 
     -- ---- the store
 
-    pub sampled_none : (old new : Session D disk) (told : Result Transcript AllocError) → IsErr told → Does hall old new (λ start log low own. (own ≡ []) × (log.history ≡ low) × Unit {0}) → Does hall old new (λ start log low own. Samples number streams points start log low told own)
+    pub sampled_none : (old new : Session D disk) (reported : Result Transcript AllocError) → IsErr reported → Does hall old new (λ start log low own. (own ≡ []) × (log.history ≡ low) × Unit {0}) → Does hall old new (λ start log low own. Samples number streams points start log low reported own)
     sampled_none old new (Ok transcript) failed does = absurd (cc)
     sampled_none old new (Err error) failed does =
         does_implied hall old new

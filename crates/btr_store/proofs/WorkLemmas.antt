@@ -57,8 +57,8 @@ module _ {D : Type 0} {disk : Ghosts D} where
 
 -- The history that the device held before the opening.
 pub held_before : {D : Type 0} (disk : Ghosts D) (old : D) (first : Engine D disk) → IsOpenedEngine disk old first → (h : List Entry) → IsAtRest h first → disk.is_observable → HoldsHistoryTo (disk.size old) (disk.contents old) (blocks_of first) (tail_of first) h
-held_before {D} disk old first opened h rest told =
-    let bytes : disk.contents (device first) ≡ disk.contents old = Same-is (disk.contents old) (disk.contents (device first)) (opened.kept.unwritten told).same in
+held_before {D} disk old first opened h rest reported =
+    let bytes : disk.contents (device first) ≡ disk.contents old = Same-is (disk.contents old) (disk.contents (device first)) (opened.kept.unwritten reported).same in
     let sized = subst (λ (n : ℕ). HoldsHistoryTo n (disk.contents (device first)) (blocks_of first) (tail_of first) h) opened.kept.counts.same_size rest.holds in
     subst (λ (c : Image). HoldsHistoryTo (disk.size old) c (blocks_of first) (tail_of first) h) bytes sized
 

@@ -118,11 +118,11 @@ module _ {D : Type 0} (disk : Ghosts D) (only_now : disk.is_observable → (d : 
 
     -- What a crash leaves after each entry.
     keeps : disk.is_observable → disk.size (device x) ≡ disk.size (device y) → (more : List Entry) × (log.history ≡ h ++ more) × KeepsEach disk log (device y) (device x) h more
-    keeps told same_size =
+    keeps reported same_size =
         let is : log ≡ log_at h trace.steps = log_is h x l trace in (
           entries_in trace.steps,
           ap (λ (k : LogState). k.history) is,
-          keeps_each disk told (only_now told) (counts_now told) (device y) log h x trace.steps rest same_size trace.trace (ap (λ (e : Engine D disk). device e) (engine_is x l trace)) is,
+          keeps_each disk reported (only_now reported) (counts_now reported) (device y) log h x trace.steps rest same_size trace.trace (ap (λ (e : Engine D disk). device e) (engine_is x l trace)) is,
         )
 
     -- The entries need no more blocks than there were.
@@ -135,16 +135,16 @@ module _ {D : Type 0} (disk : Ghosts D) (only_now : disk.is_observable → (d : 
         omega (arith, all, parts, steps_fit h x trace.steps rest.of trace.trace)
 
     crash : disk.is_observable → CrashLeavesLog disk (start_with h x) log old (device y)
-    crash told =
+    crash reported =
         let a : D = device x in
         let z : D = device y in
         let size : ℕ = disk.size z in
         let R : Image → Type 0 = HoldsPrefix size (length h) log in
         let Q : Image → Type 0 = λ c. disk.images_now old c ⊎ R c in
         let same_size : disk.size a ≡ size = sym kept.device_kept.same_size in
-        let unwritten : IsUnwritten disk.calls disk.contents disk.images_now disk.images_since old a = opened.kept.unwritten told in
+        let unwritten : IsUnwritten disk.calls disk.contents disk.images_now disk.images_since old a = opened.kept.unwritten reported in
         let steps : Leaves disk.calls disk.images_since a (device (engine_after x trace.steps)) (HoldsPrefix size (length h) (log_at h trace.steps)) =
-        steps_leave told (only_now told) (counts_now told) size h x trace.steps rest same_size trace.trace in
+        steps_leave reported (only_now reported) (counts_now reported) size h x trace.steps rest same_size trace.trace in
         let leaves : Leaves disk.calls disk.images_since a z R =
         subst (λ (e : Engine D disk). Leaves disk.calls disk.images_since a (device e) R) (sym (engine_is x l trace))
         (subst (λ (k : LogState). Leaves disk.calls disk.images_since a (device (engine_after x trace.steps)) (HoldsPrefix size (length h) k)) (sym (log_is h x l trace)) steps) in
@@ -154,18 +154,18 @@ module _ {D : Type 0} (disk : Ghosts D) (only_now : disk.is_observable → (d : 
           moments = composes disk.calls disk.images_since old a z Q
               (weakens disk.calls disk.images_since old a (disk.images_now old) Q (λ c left. inl left) unwritten.moments)
               (weakens disk.calls disk.images_since a z R Q (λ c holds. inr holds) leaves);
-          each_entry = keeps told same_size;
+          each_entry = keeps reported same_size;
           now = λ c left.
               let here : disk.images_now (device (engine_after x trace.steps)) c = subst (λ (e : Engine D disk). disk.images_now (device e) c) (engine_is x l trace) left in
               subst (λ (k : LogState). HoldsLog size k c) (sym (log_is h x l trace))
-              (steps_end told (only_now told) (counts_now told) size h x trace.steps rest same_size trace.trace c here);
+              (steps_end reported (only_now reported) (counts_now reported) size h x trace.steps rest same_size trace.trace c here);
         }
 
     safe : disk.is_observable → log.failed ≡ None → HoldsSafely disk (device y) log.history
-    safe told none =
+    safe reported none =
         let halt : has_halt l ≡ false = sym (failed_halt l) ∙ none_failed (failed_in l) none in
         let runs : is_stopped y ≡ false = stopped_of_list x l trace ∙ runs_if (is_stopped x) (has_halt l) opened.runs halt in
-        let last : IsAtRest log.history y = at_rest_of_list told h x l rest trace runs in record {
+        let last : IsAtRest log.history y = at_rest_of_list reported h x l rest trace runs in record {
           holds = record { blocks = blocks_of y; tail = tail_of y; holds = last.holds };
           only = last.only;
         }
@@ -198,10 +198,10 @@ module _ {D : Type 0} (disk : Ghosts D) (only_now : disk.is_observable → (d : 
           legal = λ adds legal. work_legal (start_with h x) log own begins once adds legal;
           right = λ adds legal. legal-right log.history (work_legal (start_with h x) log own begins once adds legal);
           in_flight = λ adds legal. work_in_flight (start_with h x) log own begins once adds legal;
-          before = λ told. record {
+          before = λ reported. record {
             blocks = blocks_of x;
             tail = tail_of x;
-            holds = held_before disk old x opened h rest told;
+            holds = held_before disk old x opened h rest reported;
             same_left = refl;
           };
           after = safe;

@@ -103,7 +103,7 @@ abbrev pub AreRefreshedInOrder : StoreState → LogState → List refreshed.Repo
 AreRefreshedInOrder start log report =
     (levels : List (List ℕ)) → AreLevels start.history levels → IsRefreshedInOrder start log levels report
 
--- Each output was brought up to date once by so many workers on a store that nobody else used, and this was said of them. `own` are the
+-- Each output was brought up to date once by this many workers on a store that nobody else used, and this was said of them. `own` are the
 -- numbers of what was added.
 pub record DistilsStore (start : StoreState) (log : LogState) (workers : ℕ) (said : Result Transcript AllocError) (own : List ℕ)
     : Type 0 where

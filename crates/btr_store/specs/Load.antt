@@ -47,7 +47,7 @@ ArePlain loaded = AllByRecursion (λ s. IsPlainOutcome s.outcome) loaded.streams
 abbrev pub HadMemoryForAll : LoadedValue → Type 0
 HadMemoryForAll loaded = AllByRecursion (λ s. OutcomeHadMemory s.outcome) loaded.streams
 
--- Rows were loaded by so many workers into a store that nobody else used, and this was said of them. `own` are the numbers of what was
+-- Rows were loaded by this many workers into a store that nobody else used, and this was said of them. `own` are the numbers of what was
 -- added.
 pub record LoadsStore (start : StoreState) (log : LogState) (rows : RowListValue) (batch workers : ℕ) (said : Result Transcript AllocError)
     (own : List ℕ) : Type 0 where

@@ -12,7 +12,9 @@ use btr_hist::{Entry, Kernel, Spec};
 use btr_live::reason_of_step;
 use btr_text::Reason;
 use std::alloc::{AllocError, Global};
+use std::marker::Sync;
 use std::sync::Wait;
+use std::thread::Threads;
 
 /// An output of a sample, and why it was refused, if it was.
 #[derive(Clone, Copy)]
@@ -22,7 +24,7 @@ pub(crate) struct DefinedOutput {
 }
 
 /// Defines an output for each stream of a sample, in order. An `Err` means out of memory; some were defined then.
-pub(crate) fn define_outputs<R: Wait, D: Disk>(
+pub(crate) fn define_outputs<R: Threads + Wait + Sync, D: Disk>(
     rt: &R,
     alloc: Global,
     hall: &Hall<D>,
@@ -44,7 +46,7 @@ pub(crate) fn define_outputs<R: Wait, D: Disk>(
 }
 
 /// Defines the output of a stream of a sample.
-fn define<R: Wait, D: Disk>(
+fn define<R: Threads + Wait + Sync, D: Disk>(
     rt: &R,
     alloc: Global,
     hall: &Hall<D>,

@@ -1,7 +1,7 @@
 //! What no contract can say: a file and a pipe hold what was written to them, and a locked file is refused.
-ghost use Rattle.std.specs.Prelude.{◌≡◌, ◌+◌, ◌*◌, ◌^◌, ◌<◌, ◌≤◌, IfOk, vec_len};
+ghost use Rattle.std.specs.Prelude.{◌≡◌, ◌+◌, ◌*◌, ◌^◌, ◌<◌, ◌≤◌, length, IfOk, vec_len};
 
-use btr_disk::Disk;
+use btr_disk::{Disk, Parts};
 use btr_host::*;
 use btr_io::{ReadAllFault, Sink, Source, read_all, write_all};
 use std::alloc::{AllocError, Global};
@@ -85,6 +85,43 @@ fn a_file_keeps_blocks(rt: HostRuntime) -> Result<(), Fail> {
     Ok(())
 }
 
+/// Two blocks in parts of 10, 4086 and 4096 bytes: fives, sixes and sevens.
+fn three_parts(alloc: Global) -> Result<Parts, AllocError>
+    ensures { IfOk result (λ parts. length parts ≡ 8192) }
+{
+    let mut parts = Parts::of(alloc, vec![in alloc; 5; 10]?)?;
+    parts.push(vec![in alloc; 6; 4086]?)?;
+    parts.push(vec![in alloc; 7; 4096]?)?;
+    Ok(parts)
+}
+
+/// Makes a file, writes blocks 1 and 2 to it in three parts, and syncs.
+fn is_written_in_parts(rt: &HostRuntime, path: &str) -> Result<bool, Fail> {
+    let parts = three_parts(rt.alloc())?;
+    let mut disk = FileDisk::open(rt, path, Lock::Exclusive)?;
+    Ok(disk.write_parts(1, &parts).is_ok() && disk.sync().is_ok())
+}
+
+/// How often the four blocks of a file from 0 on have a byte, and the place of the first.
+fn found(rt: &HostRuntime, path: &str, byte: u8) -> Result<(usize, Option<usize>), Fail> {
+    let mut disk = FileDisk::open(rt, path, Lock::Shared)?;
+    let four = read_blocks(rt.alloc(), &mut disk, 0, 4)?;
+    let place = four.iter().position(|b| *b == byte);
+    Ok((count(&four, byte), place))
+}
+
+/// A file keeps the parts of a write, one after the other.
+#[test]
+fn a_file_keeps_parts(rt: HostRuntime) -> Result<(), Fail> {
+    let path = path_for(&rt, "parts")?;
+    assert!(rt; is_written_in_parts(&rt, &path)?);
+    assert!(rt; found(&rt, &path, 5)? == (10, Some(4096)));
+    assert!(rt; found(&rt, &path, 6)? == (4086, Some(4106)));
+    assert!(rt; found(&rt, &path, 7)? == (4096, Some(8192)));
+    fs::remove_file(&rt, &path)?;
+    Ok(())
+}
+
 /// Whether a file can be opened under the second lock while it is open under the first.
 fn opens_beside(rt: &HostRuntime, path: &str, first: Lock, second: Lock) -> io::Result<bool> {
     let held = FileDisk::open(rt, path, first)?;
@@ -117,13 +154,15 @@ fn what_is_no_file_is_refused(rt: HostRuntime) -> Result<(), Fail> {
 
 /// Each call on the missing device fails.
 #[test]
-fn no_disk_fails_each_call(rt: HostRuntime) {
+fn no_disk_fails_each_call(rt: HostRuntime) -> Result<(), Fail> {
     let mut disk = NoDisk::new();
     let mut block = [0; 4096];
     assert!(rt; disk.blocks() == 4294967296);
     let read = disk.read(0, &mut block).is_err();
     let write = disk.write(0, &block).is_err();
-    assert!(rt; read && write && disk.sync().is_err());
+    let parts = disk.write_parts(0, &three_parts(rt.alloc())?).is_err();
+    assert!(rt; read && write && parts && disk.sync().is_err());
+    Ok(())
 }
 
 /// Whether a text goes into a sink and is passed on.

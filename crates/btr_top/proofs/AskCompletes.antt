@@ -20,9 +20,9 @@ use Rattle.btr_top.specs.Run.{IsPlainStatus}
 use Rattle.btr_top.proofs.BenignStatuses.{benign_code, benign_answers}
 use Rattle.btr_top.proofs.PlainStatuses.{benign_input}
 
-module _ {S D : Type 0} (source : SourceGhosts S) (disk : Ghosts D) (given rest : S) (old new : D) (sound : HeldIsSound) (can : CanAsk source disk given old) (source_told : source.is_observable) (told : disk.is_observable) (source_works : StreamRose (source.faults given) (source.faults rest) → ⊥) (device_works : Rose (disk.faults old) (disk.faults new) → ⊥) where
+module _ {S D : Type 0} (source : SourceGhosts S) (disk : Ghosts D) (given rest : S) (old new : D) (sound : HeldIsSound) (can : CanAsk source disk given old) (source_reported : source.is_observable) (reported : disk.is_observable) (source_works : StreamRose (source.faults given) (source.faults rest) → ⊥) (device_works : Rose (disk.faults old) (disk.faults new) → ⊥) where
   not_too_long : ExceedsInputLimit source given rest → ⊥
-  not_too_long exceeds = omega (arith, exceeds source_told, can.0)
+  not_too_long exceeds = omega (arith, exceeds source_reported, can.0)
 
   benign_cause : (lines : List ScriptLine) → (e : Ending) → QuestionsCause disk lines old new e → IsPlainStatus (status_of e)
   benign_cause lines Usage why = absurd why.0
@@ -30,9 +30,9 @@ module _ {S D : Type 0} (source : SourceGhosts S) (disk : Ghosts D) (given rest 
   benign_cause lines TooLong why = absurd why.0
   benign_cause lines OutOfMemory why = inr (inr refl)
   benign_cause lines NoDevice why = absurd (device_works why.0)
-  benign_cause lines NoStore why = absurd ((sound (disk.size old) 0 (disk.contents old) can.1.history (record { blocks = can.1.blocks; tail = can.1.tail; holds = can.1.holds })).0 (why.0 told))
+  benign_cause lines NoStore why = absurd ((sound (disk.size old) 0 (disk.contents old) can.1.history (record { blocks = can.1.blocks; tail = can.1.tail; holds = can.1.holds })).0 (why.0 reported))
   benign_cause lines (Damaged block) why =
-      absurd ((sound (disk.size old) block (disk.contents old) can.1.history (record { blocks = can.1.blocks; tail = can.1.tail; holds = can.1.holds })).1 (why.0 told))
+      absurd ((sound (disk.size old) block (disk.contents old) can.1.history (record { blocks = can.1.blocks; tail = can.1.tail; holds = can.1.holds })).1 (why.0 reported))
   benign_cause lines Occupied why = absurd why.0
   benign_cause lines (TooSmall asked has) why = absurd why.0
   benign_cause lines (Formatted blocks) why = absurd why.0
@@ -40,7 +40,7 @@ module _ {S D : Type 0} (source : SourceGhosts S) (disk : Ghosts D) (given rest 
   benign_cause lines (Stands entries) why = absurd why.0
   benign_cause lines (Full need room) why = absurd why.0
   benign_cause lines (Replied transcript) why =
-      let all = why.answers told can.1.history (record { blocks = can.1.blocks; tail = can.1.tail; holds = can.1.holds }) in
+      let all = why.answers reported can.1.history (record { blocks = can.1.blocks; tail = can.1.tail; holds = can.1.holds }) in
       subst (λ (s : Status). IsPlainStatus (code_of s)) (sym all.is_transcript.same_status) (benign_code (status_of_replies all.replies) (benign_answers all.history lines all.replies all.answers))
 
   pub benign_ask : (e : Ending) → AskCause source disk given rest old new e → IsPlainStatus (status_of e)

@@ -43,18 +43,18 @@ module _ {D : Type 0} (disk : Ghosts D) (old : D) (engine : Engine D disk) (open
     history = h;
     replies = has.replies;
     follows = on.at_rest.of.follows;
-    holds = λ told. held;
+    holds = λ reported. held;
     answers = has.answers;
     is_transcript = has.is_transcript;
     kept = opened.kept.unwritten;
-    durable = λ told. on.held.now;
+    durable = λ reported. on.held.now;
   }
 
   were_answered : (lines : List ScriptLine) (transcript : Transcript) → (transcript.status ≡ DeviceFault → ⊥) → ((h : List Entry) → IsEngineOf h engine → HasAnswered h lines transcript) → WereAnswered disk lines old (device engine) transcript
   were_answered lines transcript sound has = record {
     plain = record { same_size = opened.kept.counts.same_size; faulted = λ failed. absurd (sound failed) };
     kept = opened.kept.unwritten;
-    answers = λ told h held. let on = opened.stood told h held in answers_all lines transcript h held on (has h on.at_rest.of);
+    answers = λ reported h held. let on = opened.stood reported h held in answers_all lines transcript h held on (has h on.at_rest.of);
   }
 
   pub ended_unanswered : (lines : List ScriptLine) (new : D) (e : Ending) → e ≡ OutOfMemory → new ≡ device engine → QuestionsCause disk lines old new e

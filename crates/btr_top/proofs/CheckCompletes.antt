@@ -9,7 +9,7 @@ use Rattle.btr_top.specs.Ending.{status_of}
 use Rattle.btr_top.specs.Check.{CheckCause, CheckEnds, HoldsLegalStore}
 use Rattle.btr_top.specs.Run.{IsPlainStatus}
 
-module _ {D : Type 0} (disk : Ghosts D) (old new : D) (can : HoldsLegalStore disk old) (told : disk.is_observable) (device_works : Rose (disk.faults old) (disk.faults new) → ⊥) where
+module _ {D : Type 0} (disk : Ghosts D) (old new : D) (can : HoldsLegalStore disk old) (reported : disk.is_observable) (device_works : Rose (disk.faults old) (disk.faults new) → ⊥) where
   pub benign_check : (e : Ending) → CheckEnds disk old new e → IsPlainStatus (status_of e)
   benign_check e ends =
       ⊎_elim
@@ -19,4 +19,4 @@ module _ {D : Type 0} (disk : Ghosts D) (old new : D) (can : HoldsLegalStore dis
       (λ failed. absurd (device_works (subst (λ (x : Ending). CheckCause disk old new x) failed ends.cause)))
       (λ short. subst (λ (x : Ending). IsPlainStatus (status_of x)) (sym short) (inr (inr refl)))
       ended)
-      (ends.by_verdict told (verdicts.Stands (length can.0)) (can.0, can.1, refl))
+      (ends.by_verdict reported (verdicts.Stands (length can.0)) (can.0, can.1, refl))

@@ -40,18 +40,18 @@ module _ {D : Type 0} (disk : Ghosts D) where
   abbrev pub LeftSince : List Entry → D → Image → Type 0
   LeftSince h old c = disk.images_now old c ⊎ HoldsHistory (disk.size old) c h
 
-  module _ (counts_now : CountsNow) (told : disk.is_observable) (h : List Entry) (old new : D) where
+  module _ (counts_now : CountsNow) (reported : disk.is_observable) (h : List Entry) (old new : D) where
     -- What lasts at each moment lasts now.
     pub lasts : Leaves disk.calls disk.images_since old new (LeftSince h old) → Lasts disk h old new
     lasts leaves = record {
       moments = leaves;
-      now = left_now disk.calls disk.images_since old new (LeftSince h old) (disk.images_now new) (counts_now told new) leaves;
+      now = left_now disk.calls disk.images_since old new (LeftSince h old) (disk.images_now new) (counts_now reported new) leaves;
     }
 
     -- A device that is kept leaves what it might have left before.
     pub kept_lasts : IsKept disk old new → Lasts disk h old new
     kept_lasts kept =
-        lasts (weakens disk.calls disk.images_since old new (disk.images_now old) (LeftSince h old) (λ c left. inl left) (kept told).moments)
+        lasts (weakens disk.calls disk.images_since old new (disk.images_now old) (LeftSince h old) (λ c left. inl left) (kept reported).moments)
 
   module _ (counts_now : CountsNow) (old new : D) where
     -- The store was not opened.
@@ -60,7 +60,7 @@ module _ {D : Type 0} (disk : Ghosts D) where
     refused_cause NoSource why kept = absurd why
     refused_cause TooLong why kept = absurd why
     refused_cause OutOfMemory why kept = kept
-    refused_cause NoDevice why kept = (why, λ told h blocks tail holds. kept_lasts counts_now told h old new kept)
+    refused_cause NoDevice why kept = (why, λ reported h blocks tail holds. kept_lasts counts_now reported h old new kept)
     refused_cause NoStore why kept = (why, kept)
     refused_cause (Damaged block) why kept = (why, kept)
     refused_cause Occupied why kept = absurd why
@@ -77,15 +77,15 @@ module _ {D : Type 0} (disk : Ghosts D) (counts_now : CountsNow disk) (old : D) 
   LeavesHistory new =
       disk.is_observable → (h : List Entry) → IsAtRest h engine → EngineLeaves engine new (λ c. HoldsHistory (disk.size (device engine)) c h)
 
-  module _ (told : disk.is_observable) (h : List Entry) (blocks tail : ℕ) (holds : HoldsHistoryTo (disk.size old) (disk.contents old) blocks tail h) where
+  module _ (reported : disk.is_observable) (h : List Entry) (blocks tail : ℕ) (holds : HoldsHistoryTo (disk.size old) (disk.contents old) blocks tail h) where
     rests : IsAtRest h engine
-    rests = (opened.stood told h (record { blocks = blocks; tail = tail; holds = holds })).at_rest
+    rests = (opened.stood reported h (record { blocks = blocks; tail = tail; holds = holds })).at_rest
 
     -- The device of the engine holds the same store.
     same_store : AreOne blocks tail h holds.leads.roots (blocks_of engine) (tail_of engine) h rests.holds.leads.roots
     same_store =
         one_store (disk.size old) (disk.contents old) blocks tail h holds (disk.size (device engine)) (disk.contents (device engine)) (sym opened.kept.counts.same_size)
-        (sym (Same-is (disk.contents old) (disk.contents (device engine)) (opened.kept.unwritten told).same)) (blocks_of engine) (tail_of engine) h rests.holds
+        (sym (Same-is (disk.contents old) (disk.contents (device engine)) (opened.kept.unwritten reported).same)) (blocks_of engine) (tail_of engine) h rests.holds
 
     need_is : need_of_board (board_of engine) ≡ need_of_checkpoint h holds.leads.roots
     need_is =
@@ -100,11 +100,11 @@ module _ {D : Type 0} (disk : Ghosts D) (counts_now : CountsNow disk) (old : D) 
     lasts_through : (new : Engine D disk) → LeavesHistory new → Lasts disk h old (device new)
     lasts_through new leaves =
         let sized : disk.size (device engine) ≡ disk.size old = opened.kept.counts.same_size in
-        lasts disk counts_now told h old (device new)
+        lasts disk counts_now reported h old (device new)
         (composes disk.calls disk.images_since old (device engine) (device new) (LeftSince disk h old)
-        (weakens disk.calls disk.images_since old (device engine) (disk.images_now old) (LeftSince disk h old) (λ c left. inl left) (opened.kept.unwritten told).moments)
+        (weakens disk.calls disk.images_since old (device engine) (disk.images_now old) (LeftSince disk h old) (λ c left. inl left) (opened.kept.unwritten reported).moments)
         (weakens disk.calls disk.images_since (device engine) (device new) (λ c. HoldsHistory (disk.size (device engine)) c h) (LeftSince disk h old)
-        (λ c held. inr (subst (λ (n : ℕ). HoldsHistory n c h) sized held)) (leaves told h rests)))
+        (λ c held. inr (subst (λ (n : ℕ). HoldsHistory n c h) sized held)) (leaves reported h rests)))
 
     adds : (new : Engine D disk) (entries : ℕ) → IsCheckpointed engine new entries → KeepsOpening engine new → IsAtRest h new → ((c : Image) → disk.images_now (device new) c → IsNamed (disk.size (device new)) c (blocks_of new) (tail_of new) h) → LeavesHistory new → AddsCheckpoint disk entries old (device new) h holds.leads.roots blocks tail
     adds new entries is kept after named leaves =
@@ -126,9 +126,9 @@ module _ {D : Type 0} (disk : Ghosts D) (counts_now : CountsNow disk) (old : D) 
   pub added_cause : (new : Engine D disk) (end : D) (entries : ℕ) → end ≡ device new → IsCheckpointed engine new entries → KeepsOpening engine new → (disk.is_observable → (h : List Entry) → IsAtRest h engine → IsAtRest h new) → (disk.is_observable → (h : List Entry) → IsAtRest h engine → (c : Image) → disk.images_now (device new) c → IsNamed (disk.size (device new)) c (blocks_of new) (tail_of new) h) → LeavesHistory new → CheckpointEnds disk old end (Checkpointed entries)
   added_cause new end entries same is kept after named leaves =
       subst (λ (d : D). CheckpointEnds disk old d (Checkpointed entries)) (sym same)
-      (λ told h blocks tail holds.
-      let before = rests told h blocks tail holds in
-      adds told h blocks tail holds new entries is kept (after told h before) (named told h before) leaves)
+      (λ reported h blocks tail holds.
+      let before = rests reported h blocks tail holds in
+      adds reported h blocks tail holds new entries is kept (after reported h before) (named reported h before) leaves)
 
   -- The engine is as the opening left it.
   unchanged : (new : Engine D disk) (end : D) → end ≡ device new → new ≡ engine → IsKept disk old end
@@ -144,7 +144,7 @@ module _ {D : Type 0} (disk : Ghosts D) (counts_now : CountsNow disk) (old : D) 
   full_cause new end need room same why = (
     why.3,
     unchanged new end same why.4,
-    λ told h blocks tail holds. (why.1 ∙ need_is told h blocks tail holds, why.2 ∙ room_is told h blocks tail holds),
+    λ reported h blocks tail holds. (why.1 ∙ need_is reported h blocks tail holds, why.2 ∙ room_is reported h blocks tail holds),
   )
 
   -- The device failed.
@@ -152,5 +152,5 @@ module _ {D : Type 0} (disk : Ghosts D) (counts_now : CountsNow disk) (old : D) 
   fault_cause new end same why leaves =
       subst (λ (d : D). CheckpointEnds disk old d NoDevice) (sym same) (
         rose_since (disk.faults old) (disk.faults (device engine)) (disk.faults (device new)) opened.kept.counts.more_faults why.2.rose,
-        λ told h blocks tail holds. lasts_through told h blocks tail holds new leaves,
+        λ reported h blocks tail holds. lasts_through reported h blocks tail holds new leaves,
       )

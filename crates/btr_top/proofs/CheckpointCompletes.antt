@@ -10,7 +10,7 @@ use Rattle.btr_top.specs.Ending.{status_of}
 use Rattle.btr_top.specs.Checkpoint.{CheckpointEnds, CanCheckpoint}
 use Rattle.btr_top.specs.Run.{IsPlainStatus}
 
-module _ {D : Type 0} (disk : Ghosts D) (old new : D) (sound : HeldIsSound) (can : CanCheckpoint disk old) (told : disk.is_observable) (device_works : Rose (disk.faults old) (disk.faults new) → ⊥) where
+module _ {D : Type 0} (disk : Ghosts D) (old new : D) (sound : HeldIsSound) (can : CanCheckpoint disk old) (reported : disk.is_observable) (device_works : Rose (disk.faults old) (disk.faults new) → ⊥) where
   held : HoldsHistory (disk.size old) (disk.contents old) can.history
   held = record { blocks = can.blocks; tail = can.tail; holds = can.holds }
 
@@ -20,14 +20,14 @@ module _ {D : Type 0} (disk : Ghosts D) (old new : D) (sound : HeldIsSound) (can
   benign_checkpoint TooLong why = absurd why.0
   benign_checkpoint OutOfMemory why = inr (inr refl)
   benign_checkpoint NoDevice why = absurd (device_works why.0)
-  benign_checkpoint NoStore why = absurd ((sound (disk.size old) 0 (disk.contents old) can.history held).0 (why.0 told))
-  benign_checkpoint (Damaged block) why = absurd ((sound (disk.size old) block (disk.contents old) can.history held).1 (why.0 told))
+  benign_checkpoint NoStore why = absurd ((sound (disk.size old) 0 (disk.contents old) can.history held).0 (why.0 reported))
+  benign_checkpoint (Damaged block) why = absurd ((sound (disk.size old) block (disk.contents old) can.history held).1 (why.0 reported))
   benign_checkpoint Occupied why = absurd why.0
   benign_checkpoint (TooSmall asked has) why = absurd why.0
   benign_checkpoint (Formatted blocks) why = absurd why.0
   benign_checkpoint (Checkpointed entries) why = inl refl
   benign_checkpoint (Stands entries) why = absurd why.0
   benign_checkpoint (Full need room) why =
-      let is = why.2 told can.history can.blocks can.tail can.holds in
+      let is = why.2 reported can.history can.blocks can.tail can.holds in
       absurd (omega (arith, why.0, is.0, is.1, can.fits))
   benign_checkpoint (Replied transcript) why = absurd why.0

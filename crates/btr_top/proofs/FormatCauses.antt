@@ -31,9 +31,9 @@ module _ {T D : Type 0} (disk : Ghosts D) where
 
   -- where a store was made none was there
   was_free : (blocks : ℕ) (old new : D) (x : T) → disk.is_observable → FormatFacts blocks old new (Ok x) → blocks ≤ disk.size old → HasClosedGates (disk.contents old)
-  was_free blocks old new x told facts le =
+  was_free blocks old new x reported facts le =
       let none : (block : ℕ) → IsOccupied (disk.contents old) block → ⊥ =
-      λ block is. let e : Ok x ≡ Err (faults.Occupied block) = (facts.occupied told le (λ f. cc) block).1 is in cc in
+      λ block is. let e : Ok x ≡ Err (faults.Occupied block) = (facts.occupied reported le (λ f. cc) block).1 is in cc in
       record {
         first = λ opened. none 0 (inl (refl, opened));
         second = λ opened. none 2 (inr (refl, (λ first. none 0 (inl (refl, first))), opened));
@@ -45,10 +45,10 @@ module _ {T D : Type 0} (disk : Ghosts D) where
         refl,
         le,
         calls,
-        λ told. record {
-          was_free = was_free blocks old new x told facts le;
-          made = facts.formatted told;
-          durable = facts.synced told;
+        λ reported. record {
+          was_free = was_free blocks old new x reported facts le;
+          made = facts.formatted reported;
+          durable = facts.synced reported;
         },
       )
 
@@ -62,10 +62,10 @@ module _ {T D : Type 0} (disk : Ghosts D) where
       let facts = subst (λ f. FormatFacts blocks old new (Err f)) e given in
       let le : blocks ≤ disk.size old = fits blocks old new (Err (faults.Occupied block)) facts (λ e. cc) in (
         le,
-        λ told. record {
+        λ reported. record {
           block = block;
-          was_there = (facts.occupied told le (λ f. cc) block).0 refl;
-          kept = facts.refused told block refl;
+          was_there = (facts.occupied reported le (λ f. cc) block).0 refl;
+          kept = facts.refused reported block refl;
         },
       )
 

@@ -20,7 +20,7 @@ use Rattle.btr_top.specs.Run.{Cause, RunCause, DeviceAndSinkWork}
 none_there : (image : Image) (block : ℕ) → format.HasClosedGates image → format.IsOccupied image block → ⊥
 none_there image block closed is = ⊎_elim (λ first. closed.first first.1) (λ second. closed.second second.2) is
 
-module _ {D : Type 0} (disk : Ghosts D) (old new : D) (told : disk.is_observable) (works : Rose (disk.faults old) (disk.faults new) → ⊥) (blocks : ℕ) (can : CanFormat disk blocks old) where
+module _ {D : Type 0} (disk : Ghosts D) (old new : D) (reported : disk.is_observable) (works : Rose (disk.faults old) (disk.faults new) → ⊥) (blocks : ℕ) (can : CanFormat disk blocks old) where
   made : (e : Ending) → FormatCause disk blocks old new e → status_of e ≡ 0
   made Usage why = absurd why
   made NoSource why = absurd why
@@ -30,7 +30,7 @@ module _ {D : Type 0} (disk : Ghosts D) (old new : D) (told : disk.is_observable
   made NoStore why = absurd why
   made (Damaged block) why = absurd why
   made Occupied why =
-      let kept = why.1 told in
+      let kept = why.1 reported in
       absurd (none_there (disk.contents old) kept.block can.is_free kept.was_there)
   made (TooSmall asked has) why = let fits = can.fits in absurd (omega (arith, fits, why.0, why.1, why.2))
   made (Formatted blocks) why = refl
@@ -44,10 +44,10 @@ module _ {K : Type 0} (sink : SinkGhosts K) (before after : K) (works : StreamRo
   written text wanted status writes = ⊎_elim (λ all. all.same_status) (λ failed. absurd (works failed.rose)) writes
 
 pub formats_shown : {S K D : Type 0} (source : SourceGhosts S) (sink : SinkGhosts K) (disk : Ghosts D) (given rest : S) (before after : K) (old new : D) (command : Option Command) (blocks : ℕ) → command ≡ Some (Format blocks) → disk.is_observable → CanFormat disk blocks old → DeviceAndSinkWork sink disk before after old new → (e : Ending) (status : ℕ) → RunCause source disk command given rest old new e → Shows sink e before after status → (status ≡ 0) ⊎ (status ≡ 9)
-formats_shown source sink disk given rest before after old new command blocks is told can works e status why shows =
+formats_shown source sink disk given rest before after old new command blocks is reported can works e status why shows =
     let wanted : (status_of e ≡ 0) ⊎ (status_of e ≡ 9) =
     ⊎_elim
-    (λ cause. inl (made disk old new told works.device_works blocks can e (subst (λ (c : Option Command). Cause source disk c given rest old new e) is cause).1))
+    (λ cause. inl (made disk old new reported works.device_works blocks can e (subst (λ (c : Option Command). Cause source disk c given rest old new e) is cause).1))
     (λ lacks. inr (ap status_of lacks.0))
     why in
     ⊎_elim

@@ -66,7 +66,7 @@ module _ (batch rounds : ℕ) (script : List ScriptLine) (start : StoreState) (l
 
   -- ---- one line
 
-  -- What a line did, at this place of the script, in a lane in which these places waited. A refusal for want of room is excluded if no
+  -- What a line did, at this place of the script, in a lane in which these places waited. A refusal for lack of room is excluded if no
   -- entry could have been refused.
   record LineServes (lane place : ℕ) (old : LaneState) (pending : List Pending) (reply : LineReply) (own : List ℕ) (new : LaneState) : Type 0 where
     waiting : List Pending

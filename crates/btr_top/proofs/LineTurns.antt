@@ -1,4 +1,4 @@
--- What became of an entry that a line asked for, if the device does not fail: it was added, or it was refused, for want of room or for a
+-- What became of an entry that a line asked for, if the device does not fail: it was added, or it was refused, for lack of room or for a
 -- reason with a benign status.
 use Rattle.std.specs.Prelude.{◌≡◌, ◌⊎◌, ℕ, ◌+◌, Bool, true, false, ◌||◌, List, [], ◌∷◌, ◌++◌, length, Option, Some, None, Result, Ok, Err}
 use Rattle.std.specs.Option.{is_some}

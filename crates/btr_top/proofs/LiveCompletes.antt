@@ -92,24 +92,24 @@ no_last batch start log script report own is = by report.last refl
     by (Some result) some =
         absurd (subst (λ (l : LastResult). runs.LastRound start log is.middle.history false l is.lastly) some is.last)
 
-module _ {S D : Type 0} (source : SourceGhosts S) (disk : Ghosts D) (batch : ℕ) (materialize : Bool) (given rest : S) (old new : D) (sound : HeldIsSound) (one : OneHistoryIsHeld) (can : CanLive source disk batch materialize given old) (source_told : source.is_observable) (told : disk.is_observable) (source_works : StreamRose (source.faults given) (source.faults rest) → ⊥) (device_works : Rose (disk.faults old) (disk.faults new) → ⊥) where
+module _ {S D : Type 0} (source : SourceGhosts S) (disk : Ghosts D) (batch : ℕ) (materialize : Bool) (given rest : S) (old new : D) (sound : HeldIsSound) (one : OneHistoryIsHeld) (can : CanLive source disk batch materialize given old) (source_reported : source.is_observable) (reported : disk.is_observable) (source_works : StreamRose (source.faults given) (source.faults rest) → ⊥) (device_works : Rose (disk.faults old) (disk.faults new) → ⊥) where
   not_too_long : ExceedsInputLimit source given rest → ⊥
-  not_too_long exceeds = omega (arith, exceeds source_told, can.0)
+  not_too_long exceeds = omega (arith, exceeds source_reported, can.0)
 
   abbrev store : StoreState
-  store = opened disk old new can.1.history can.1.blocks can.1.tail can.1.holds sound one told device_works
+  store = opened disk old new can.1.history can.1.blocks can.1.tail can.1.holds sound one reported device_works
 
   module _ (lines : List ScriptLine) (all : lines ≡ script_of (source.left given)) (transcript : Transcript) (does : DoesRightly disk (λ start log own. LivesStore batch materialize lines start log (Ok transcript) own) old new) where
     abbrev What : StoreState → LogState → List ℕ → Type 0
     What start log own = LivesStore batch materialize lines start log (Ok transcript) own
 
     sound_end : does.log.failed ≡ None
-    sound_end = no_failure disk old new can.1.history can.1.blocks can.1.tail can.1.holds sound one told device_works What does
+    sound_end = no_failure disk old new can.1.history can.1.blocks can.1.tail can.1.holds sound one reported device_works What does
 
     -- The room of the store, as the run found it.
     room_here : HasRoomForScript batch materialize does.first lines
     room_here =
-        let same : does.first ≡ store = began disk old new can.1.history can.1.blocks can.1.tail can.1.holds sound one told device_works What does in
+        let same : does.first ≡ store = began disk old new can.1.history can.1.blocks can.1.tail can.1.holds sound one reported device_works What does in
         subst (λ (s : StoreState). HasRoomForScript batch materialize s lines) (sym same)
         (subst (λ (ls : List ScriptLine). HasRoomForScript batch materialize store ls) (sym all) can.1.room)
 
@@ -151,8 +151,8 @@ module _ {S D : Type 0} (source : SourceGhosts S) (disk : Ghosts D) (batch : ℕ
   benign_cause : (input : List ℕ) → HasRead source input given rest → (e : Ending) → ScriptCause disk batch materialize (script_of input) old new e → IsPlainStatus (status_of e)
   benign_cause input read e why =
       let lines : List ScriptLine = script_of input in
-      let all : lines ≡ script_of (source.left given) = ap (λ (i : List ℕ). script_of i) (read.all source_told) in
-      plain_work disk old new can.1.history can.1.blocks can.1.tail can.1.holds sound one told device_works
+      let all : lines ≡ script_of (source.left given) = ap (λ (i : List ℕ). script_of i) (read.all source_reported) in
+      plain_work disk old new can.1.history can.1.blocks can.1.tail can.1.holds sound one reported device_works
       (λ said start log own. LivesStore batch materialize lines start log said own)
       (λ transcript does. benign_transcript lines all transcript does)
       e why

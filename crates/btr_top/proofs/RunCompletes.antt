@@ -17,21 +17,21 @@ use Rattle.btr_top.proofs.WorkCompletes.{benign_load, benign_distil, benign_samp
 use Rattle.btr_top.proofs.CheckpointCompletes.{benign_checkpoint}
 use Rattle.btr_top.proofs.CheckCompletes.{benign_check}
 
-module _ {S D : Type 0} (source : SourceGhosts S) (disk : Ghosts D) (given rest : S) (old new : D) (sound : HeldIsSound) (one : OneHistoryIsHeld) (source_told : source.is_observable) (told : disk.is_observable) (source_works : StreamRose (source.faults given) (source.faults rest) → ⊥) (device_works : Rose (disk.faults old) (disk.faults new) → ⊥) where
+module _ {S D : Type 0} (source : SourceGhosts S) (disk : Ghosts D) (given rest : S) (old new : D) (sound : HeldIsSound) (one : OneHistoryIsHeld) (source_reported : source.is_observable) (reported : disk.is_observable) (source_works : StreamRose (source.faults given) (source.faults rest) → ⊥) (device_works : Rose (disk.faults old) (disk.faults new) → ⊥) where
   plain_cause : (command : Option Command) → CanRun source disk command given old → (e : Ending) → Cause source disk command given rest old new e → IsPlainStatus (status_of e)
   plain_cause None can e why = absurd can
   plain_cause (Some (Format blocks)) can e why = absurd can
   plain_cause (Some (Live batch materialize)) can e why =
-      benign_live source disk batch materialize given rest old new sound one can source_told told source_works device_works e why
+      benign_live source disk batch materialize given rest old new sound one can source_reported reported source_works device_works e why
   plain_cause (Some Ask) can e why =
-      benign_ask source disk given rest old new sound can source_told told source_works device_works e why
+      benign_ask source disk given rest old new sound can source_reported reported source_works device_works e why
   plain_cause (Some (Load workers batch)) can e why =
-      benign_load source disk workers batch given rest old new sound one can source_told told source_works device_works e why
-  plain_cause (Some (Distil workers)) can e why = benign_distil disk workers old new sound one can told device_works e why.1
+      benign_load source disk workers batch given rest old new sound one can source_reported reported source_works device_works e why
+  plain_cause (Some (Distil workers)) can e why = benign_distil disk workers old new sound one can reported device_works e why.1
   plain_cause (Some (Sample number streams points)) can e why =
-      benign_sample disk number streams points old new sound one can told device_works e why.1
-  plain_cause (Some Checkpoint) can e why = benign_checkpoint disk old new sound can told device_works e why.1
-  plain_cause (Some Check) can e why = benign_check disk old new can told device_works e why.1
+      benign_sample disk number streams points old new sound one can reported device_works e why.1
+  plain_cause (Some Checkpoint) can e why = benign_checkpoint disk old new sound can reported device_works e why.1
+  plain_cause (Some Check) can e why = benign_check disk old new can reported device_works e why.1
 
   pub plain_run : (command : Option Command) → CanRun source disk command given old → (e : Ending) → RunCause source disk command given rest old new e → IsPlainStatus (status_of e)
   plain_run command can e why =

@@ -24,7 +24,7 @@ none_if : {A : Type 0} (o : Option A) → (is_some o ≡ true → ⊥) → o ≡
 none_if None not = refl
 none_if (Some x) not = absurd (not refl)
 
-module _ {D : Type 0} (disk : Ghosts D) (old new : D) (history : List Entry) (blocks tail : ℕ) (holds : HoldsHistoryTo (disk.size old) (disk.contents old) blocks tail history) (sound : HeldIsSound) (one : OneHistoryIsHeld) (told : disk.is_observable) (device_works : Rose (disk.faults old) (disk.faults new) → ⊥) where
+module _ {D : Type 0} (disk : Ghosts D) (old new : D) (history : List Entry) (blocks tail : ℕ) (holds : HoldsHistoryTo (disk.size old) (disk.contents old) blocks tail history) (sound : HeldIsSound) (one : OneHistoryIsHeld) (reported : disk.is_observable) (device_works : Rose (disk.faults old) (disk.faults new) → ⊥) where
   held : HoldsHistory (disk.size old) (disk.contents old) history
   held = record { blocks = blocks; tail = tail; holds = holds }
 
@@ -51,7 +51,7 @@ module _ {D : Type 0} (disk : Ghosts D) (old new : D) (history : List Entry) (bl
 
   -- Work began with this store.
   pub began : (What : StoreState → LogState → List ℕ → Type 0) (does : DoesRightly disk What old new) → does.first ≡ opened
-  began What does = same_start does.first does.works.not_stopped (does.works.before told)
+  began What does = same_start does.first does.works.not_stopped (does.works.before reported)
 
   -- No step failed.
   pub no_failure : (What : StoreState → LogState → List ℕ → Type 0) (does : DoesRightly disk What old new) → does.log.failed ≡ None
@@ -64,12 +64,12 @@ module _ {D : Type 0} (disk : Ghosts D) (old new : D) (history : List Entry) (bl
   plain_work What benign TooLong why = absurd why.0
   plain_work What benign OutOfMemory why = inr (inr refl)
   plain_work What benign NoDevice why = absurd (device_works why.0)
-  plain_work What benign NoStore why = absurd ((sound (disk.size old) 0 (disk.contents old) history held).0 (why.0 told))
-  plain_work What benign (Damaged block) why = absurd ((sound (disk.size old) block (disk.contents old) history held).1 (why.0 told))
+  plain_work What benign NoStore why = absurd ((sound (disk.size old) 0 (disk.contents old) history held).0 (why.0 reported))
+  plain_work What benign (Damaged block) why = absurd ((sound (disk.size old) block (disk.contents old) history held).1 (why.0 reported))
   plain_work What benign Occupied why = absurd why.0
   plain_work What benign (TooSmall asked has) why = absurd why.0
   plain_work What benign (Formatted made) why = absurd why.0
   plain_work What benign (Checkpointed entries) why = absurd why.0
   plain_work What benign (Stands entries) why = absurd why.0
   plain_work What benign (Full need room) why = absurd why.0
-  plain_work What benign (Replied transcript) why = benign_code transcript.status (benign transcript (why.rightly told history held))
+  plain_work What benign (Replied transcript) why = benign_code transcript.status (benign transcript (why.rightly reported history held))

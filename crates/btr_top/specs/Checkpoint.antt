@@ -21,7 +21,7 @@ abbrev pub need_of_checkpoint : List Entry → List ℕ → ℕ
 need_of_checkpoint h roots = content_blocks (length (roll_bytes (roll_of h roots))) + 1
 
 module _ {D : Type 0} (disk : Ghosts D) where
-  -- The device is observable, and as it reads it holds this history in a store of so many blocks, up to the gate at the tail. `P` is true
+  -- The device is observable, and as it reads it holds this history in a store of this many blocks, up to the gate at the tail. `P` is true
   -- of the history, the roots of its entries, the blocks and the tail.
   abbrev pub OfHeld : D → (List Entry → List ℕ → ℕ → ℕ → Type 0) → Type 0
   OfHeld old P =

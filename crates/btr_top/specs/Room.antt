@@ -114,7 +114,7 @@ pub record CommitsFeeds (script : List ScriptLine) (p : List Entry) (e : Entry) 
 
 -- ---- histories
 
--- The entry, which follows `p`, is there for this, in a script with so many rounds.
+-- The entry, which follows `p`, is there for this, in a script with this many rounds.
 abbrev pub IsFor : ℕ → ℕ → List ScriptLine → List Entry → List Entry → Entry → Purpose → Type 0
 IsFor batch rounds script low p e (OfLine place) = IsAtPlace batch low p e (slice_get script place)
 IsFor batch rounds script low p e (OfFeeds places) = CommitsFeeds script p e places
@@ -134,7 +134,7 @@ pub record IsServed (batch rounds : ℕ) (script : List ScriptLine) (low h : Lis
   pub same_number : s.number ≡ length before + 1
   pub is_for : IsFor batch rounds script low before entry s.purpose
 
--- The history goes on from `low` by what the lines of a script ask for, and by landings of so many rounds, in any order. Each entry
+-- The history goes on from `low` by what the lines of a script ask for, and by landings of this many rounds, in any order. Each entry
 -- after `low` may follow those before it. It is there for one thing, and no line and no landing has two entries.
 pub record ServesScript (batch rounds : ℕ) (script : List ScriptLine) (low h : List Entry) : Type 0 where
   pub begins : StartsWith h low

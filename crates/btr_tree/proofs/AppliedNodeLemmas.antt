@@ -6,14 +6,14 @@ use Rattle.std.proofs.lemmas.Int.{ints}
 use Rattle.std.proofs.lemmas.Bool.Decides.{nat_tests}
 use Rattle.btr_base.specs.declared.point.Point.{Point}
 use Rattle.btr_base.specs.Range.{RangeValue, covered}
-use Rattle.btr_base.specs.Bag.{within, outside, sort}
-use Rattle.btr_base.proofs.PointLemmas.{length-sort}
+use Rattle.btr_base.specs.Bag.{IsInOrder, within, outside, sort}
+use Rattle.btr_base.proofs.PointLemmas.{length-sort, sort-of_order}
 use Rattle.btr_base.specs.Span.{width, SpanValue, IsSpan, slot_of}
 use Rattle.btr_base.proofs.ListLemmas.{length-filter}
 use Rattle.btr_base.specs.declared.limits.TheConstants.{LEAF_POINTS}
 use Rattle.btr_tree.specs.declared.node.Slot.{Slot}
-use Rattle.btr_tree.specs.History.{Commit, bag, Past, ◌▷◌}
-use Rattle.btr_tree.specs.Nodes.{points_of, has_points, touches, is_inner, is_node, last_change}
+use Rattle.btr_tree.specs.History.{Commit, bag, nothing, Past, ◌▷◌}
+use Rattle.btr_tree.specs.Nodes.{points_of, has_points, touches, is_inner, is_node, above_root, last_change}
 use Rattle.btr_tree.proofs.VersionLemmas.{points-after}
 use Rattle.btr_tree.specs.declared.node.NodeData.{NodeData}
 use Rattle.btr_tree.specs.declared.slots.Slots.{Slots}
@@ -56,6 +56,19 @@ touched-fresh k s above h c v points number same touched small =
       same = same;
       fresh = ap (λ t. t || not (is_node above k s (bag h))) touched;
       small = small;
+    }
+
+or-true : (a : Bool) → (a || true) ≡ true
+or-true a = grind arith
+
+-- The points of a span are those of a commit of its own on a past without a point.
+pub fresh-alone : (k : ℕ) (s : ℤ) (v : ℕ) (points : List Point) → IsInOrder points → within s (s +ℤ pos (width k)) points ≡ points → IsFresh k s above_root nothing (own v [] points) v points
+fresh-alone k s v points order inside =
+    record {
+      number = refl;
+      same = sym (change-after k s nothing (own v [] points) [] points v (own-change k s v [] points inside) ∙ sort-of_order points order);
+      fresh = or-true (touches (own v [] points) k s (bag nothing));
+      small = λ _. omega arith;
     }
 
 pub last_change-touched : (was : List Point → Bool) (k : ℕ) (s : ℤ) (h : Past) (c : Commit) (v : ℕ) → v ≡ c.version → touches c k s (bag h) ≡ true → v ≡ last_change was k s (c ▷ h)

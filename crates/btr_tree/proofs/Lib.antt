@@ -8,9 +8,11 @@ pub mod KeptSlotLemmas
 pub mod NewNodeLemmas
 pub mod NodeLemmas
 pub mod OpenedLemmas
+pub mod PartLemmas
 pub mod PlaceLemmas
 pub mod ReadLemmas
 pub mod RootLemmas
+pub mod SharedLemmas
 pub mod SlotSplitLemmas
 pub mod StoredLemmas
 pub mod UntouchedNodeLemmas

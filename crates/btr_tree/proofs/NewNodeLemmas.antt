@@ -11,7 +11,7 @@ use Rattle.btr_base.specs.Span.{SpanValue}
 use Rattle.btr_base.specs.declared.limits.TheConstants.{LEAF_POINTS}
 use Rattle.btr_tree.specs.declared.node.Slot.{Slot}
 use Rattle.btr_tree.specs.History.{Commit, Past, Opened, ◌▷◌, bag, IsBefore}
-use Rattle.btr_tree.specs.Change.{CountsNodes, IsInnerOf}
+use Rattle.btr_tree.specs.Change.{CountsNodes, IsInnerOf, IsLeafOf}
 use Rattle.btr_tree.specs.Nodes.{points_of, has_points, touches, is_inner, is_node, last_change, node_version}
 use Rattle.btr_tree.proofs.VersionLemmas.{points-untouched}
 use Rattle.btr_tree.specs.declared.node.Link.{Link}
@@ -26,7 +26,7 @@ use Rattle.btr_tree.proofs.NodeLemmas.{out-leaf, out-inner}
 use Rattle.btr_tree.proofs.KeptSlotLemmas.{get-front, get-last}
 use Rattle.btr_tree.specs.Shape.{slot_start, slot_of_points, ByKind, HasSlots}
 use Rattle.btr_tree.proofs.UntouchedNodeLemmas.{touches-slot, last_change-kept, some-has, many-inner}
-use Rattle.btr_tree.specs.NewNodes.{NewNodeValue, bare, bare_all, slots_of_kind, slots_of_node, concat_first, slots_of, new_node, own_node, new_nodes}
+use Rattle.btr_tree.specs.NewNodes.{NewNodeValue, bare, bare_all, points_of_kind, points_of_node, slots_of_kind, slots_of_node, concat_first, slots_of, new_node, own_node, new_nodes}
 
 pub last_change-before : (was : List Point → Bool) (k : ℕ) (s : ℤ) (h : Past) (v : ℕ) → 0 < v → IsBefore v h → last_change was k s h < v
 last_change-before was k s (Opened b dates) v some before = before k s
@@ -75,6 +75,29 @@ first-get (suc n) x i lt =
       | inl e ↦ get-last (first_slots n x) (addressed x n) i (e ∙ sym (first-length n x)) ∙ ap (λ j. Some (addressed x j)) (sym e)
       | inr less ↦ let long = first-length n x in get-front (first_slots n x) (addressed x n) i (omega arith) ∙ first-get n x i less
     ]
+
+-- The points of no node, of a leaf and of an inner node.
+pub points-of_none : points_of_node None ≡ []
+unfolding points_of_node
+points-of_none = refl
+
+pub points-of_leaf : {b : ℕ} (n : NodeData) (v : ℕ) (ps : Vec Point Global) → n ≡ Leaf b v ps → points_of_node (Some n) ≡ ps.items
+unfolding points_of_node
+points-of_leaf n v ps e = ap points_of_kind (ap out-NodeData e ∙ out-leaf v ps)
+
+pub points-of_inner : {b : ℕ} (n : NodeData) (v : ℕ) (x : Slots) → n ≡ Inner b v x → points_of_node (Some n) ≡ []
+unfolding points_of_node
+points-of_inner n v x e = ap points_of_kind (ap out-NodeData e ∙ out-inner v x)
+
+-- The points of a leaf that was made, and of an inner node that was made.
+kind-points : (v : ℕ) (ps : List Point) (n : NodeData-F NodeData Link Kept Slots) → ByKind (λ w qs. (w ≡ v) × (qs ≡ ps)) (λ w y. ⊥) n → points_of_kind n ≡ ps
+kind-points v ps (NodeData-F.Leaf block version points) is = is.1
+kind-points v ps (NodeData-F.Inner block version slots) is = absurd is
+
+pub points-of_made : (v : ℕ) (ps : List Point) (o : Option NodeData) → IsLeafOf v ps o → points_of_node o ≡ ps
+unfolding points_of_node
+points-of_made v ps None is = absurd is
+points-of_made v ps (Some n) is = kind-points v ps (out-NodeData n) is
 
 -- The slots of no node, of a leaf and of an inner node.
 pub slots-of_none : slots_of_node None ≡ []
@@ -151,7 +174,7 @@ own-other k s above h v lt =
     let e : (is_node above k s (bag h) && nat_eq (node_version above k s h) v) ≡ false = grind (arith, nat_tests) in
     ap (λ t. cond t (new_node k s above h ∷ []) []) e
 
-own-here : (k : ℕ) (s : ℤ) (above : List Point → Bool) (h : Past) (v : ℕ) → above (bag h) ≡ true → 0 < length (points_of k s (bag h)) → v ≡ node_version above k s h → own_node k s above h v ≡ new_node k s above h ∷ []
+pub own-here : (k : ℕ) (s : ℤ) (above : List Point → Bool) (h : Past) (v : ℕ) → above (bag h) ≡ true → 0 < length (points_of k s (bag h)) → v ≡ node_version above k s h → own_node k s above h v ≡ new_node k s above h ∷ []
 own-here k s above h v w some e =
     let node : is_node above k s (bag h) ≡ true = ap (λ t. t && has_points (points_of k s (bag h))) w ∙ some-has (points_of k s (bag h)) some in
     let same : nat_eq (node_version above k s h) v ≡ true = grind (arith, nat_tests) in
@@ -218,8 +241,8 @@ new_nodes-kept (suc k) s above h c v w e some before =
 
 -- ---- a list that grows
 
-pub told-more : {X : Type 0} (old mid new before here next : List X) → mid ≡ old ++ before → new ≡ mid ++ here → next ≡ before ++ here → new ≡ old ++ next
-told-more old mid new before here next p q r =
+pub reported-more : {X : Type 0} (old mid new before here next : List X) → mid ≡ old ++ before → new ≡ mid ++ here → next ≡ before ++ here → new ≡ old ++ next
+reported-more old mid new before here next p q r =
     q ∙ ap (λ x. x ++ here) p ∙ append_assoc old before here ∙ ap (λ x. old ++ x) (sym r)
 
 -- One more node without addresses.

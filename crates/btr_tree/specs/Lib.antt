@@ -14,14 +14,16 @@ pub mod EachHistory
 pub mod NewNodes
 -- Where nodes lie on the device.
 pub mod Stored
--- The tree of a stream, and why a commit is not applied.
+-- The tree of a stream, what a commit to it gives, and why a commit is not applied.
 pub mod Root
+pub mod Applied
 -- Nodes that are newer than a version.
 pub mod Newer
 pub mod Uncounted
 pub mod Agree
 -- What the private functions promise.
 pub mod Change
+pub mod Shared
 -- To which nodes a root leads on the device, and trees that are made of nodes read from there.
 pub mod Leads
 pub mod Opened

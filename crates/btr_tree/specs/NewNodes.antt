@@ -24,6 +24,16 @@ unfoldable pub slots_of_node : Option NodeData → List Slot
 slots_of_node None = []
 slots_of_node (Some n) = slots_of_kind (out-NodeData n)
 
+-- The points of a leaf, and none of an inner node.
+abbrev pub points_of_kind : NodeData-F NodeData Link Kept Slots → List Point
+points_of_kind (NodeData-F.Leaf block version points) = points.items
+points_of_kind (NodeData-F.Inner block version slots) = []
+
+-- The points of a node, if there is one.
+unfoldable pub points_of_node : Option NodeData → List Point
+points_of_node None = []
+points_of_node (Some n) = points_of_kind (out-NodeData n)
+
 -- A node: its span and version, the points of a leaf, the slots of an inner node.
 pub record NewNodeValue : Type 0 where
   pub span : SpanValue

@@ -60,7 +60,7 @@ pub record IsBelow (store : Store) (first height : ℕ) (start : ℤ) (child : O
   pub stored : IsStored store height start child
   pub below : block_of child < first
 
--- The node is stored once these nodes are laid from a block on, and it is in none of the blocks behind them.
+-- The node is stored once these nodes are laid from a block on, and it is in none of the blocks after them.
 pub record IsLaid (store : Store) (first : ℕ) (nodes : List NewNodeValue) (height : ℕ) (start : ℤ) (child : Option NodeData) : Type 0 where
   pub stored : IsStored (laid store first nodes) height start child
   pub below : block_of child < first + length nodes

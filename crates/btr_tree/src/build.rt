@@ -12,12 +12,13 @@ ghost use Rattle.btr_tree.specs.Stored.{Store, IsLaid, AreLaid};
 ghost use Rattle.btr_tree.specs.Slots.{linked, block_of, first_slots};
 ghost use Rattle.btr_base.specs.declared.limits.TheConstants.{LEAF_POINTS as FEW};
 
+use crate::aggregate::agg_of_child;
 use crate::fault::TreeFault;
-use crate::new_node::{NewNode, NewSlots};
+use crate::new_node::{NewNode, NewPoints, NewSlots};
 use crate::node::{Link, NodeData, Slot};
 use crate::slots::Slots;
 use crate::steps::Steps;
-use btr_base::{Agg, FAN_OUT, LEAF_POINTS, Point, Span, parted};
+use btr_base::{FAN_OUT, LEAF_POINTS, Point, Span, parted};
 use std::alloc::{AllocError, Global};
 
 /// Builds the subtree for `points`, which all lie in `span`. Appends each new node to `nodes`, children
@@ -34,7 +35,7 @@ pub(crate) fn build<L>(
 ) -> Result<Link, TreeFault>
     requires order { IsInOrder points.now }
     requires inside { within span.start (end_of span) points.now ≡ points.now }
-    requires first { (1 ≤ first) × (first ≤ 2 ^ 33) }
+    requires first { (1 ≤ first) × (first ≤ 2 ^ 62) }
     ensures child { IfOk result (λ r. AtEachFresh span version points.now (λ above h c.
         IsChild span.height span.start above (c ▷ h) (linked r))) }
     ensures nodes { OnOk result (AtEachFresh span version points.now (λ above h c. above (bag (c ▷ h)) ≡ true
@@ -71,7 +72,7 @@ pub(crate) fn build_slots<L>(
     requires height { 1 ≤ span.height }
     requires order { IsInOrder points.now }
     requires inside { within span.start (end_of span) points.now ≡ points.now }
-    requires first { (1 ≤ first) × (first ≤ 2 ^ 33) }
+    requires first { (1 ≤ first) × (first ≤ 2 ^ 62) }
     ensures slots { IfOk result (λ r. AtEachSplit span version points.now (λ below h c.
         HasSlots below span.start (c ▷ h) r × HasChildren below span.start (c ▷ h) r)) }
     ensures nodes { OnOk result (AtEachSplit span version points.now (λ below h c. FEW < length points.now
@@ -107,7 +108,7 @@ pub(crate) fn build_slot<L>(
 ) -> Result<(Slot, Link), TreeFault>
     requires order { IsInOrder points.now }
     requires inside { within span.start (end_of span) points.now ≡ points.now }
-    requires first { (1 ≤ first) × (first ≤ 2 ^ 33) }
+    requires first { (1 ≤ first) × (first ≤ 2 ^ 62) }
     ensures slot { IfOk result (λ r. r.0 ≡ record { agg = agg points.now; version = version; child = 0 }) }
     ensures child { IfOk result (λ r. AtEachFresh span version points.now (λ above h c.
         IsChild span.height span.start above (c ▷ h) (linked r.1))) }
@@ -118,8 +119,10 @@ pub(crate) fn build_slot<L>(
     ensures room { OnOk result (HasNoCrowdedSpan span.start (end_of span) points.now) }
     ensures fault { IfErr result (λ e. IsCrowdedFault span.start (end_of span) points.now e) }
 {
+    // the proof reads here that the points are fewer than 2^64
+    prove!(points.len() <= usize::MAX);
     let child = build(alloc, span, points, version, first, nodes, steps)?;
-    let agg = Agg::of_points(points);
+    let agg = agg_of_child(child.seen());
     let slot = Slot {
         agg,
         version,
@@ -138,7 +141,7 @@ fn push_leaf<L>(
     nodes: &mut Vec<NewNode>,
     steps: &mut Steps<L>,
 ) -> Result<Link, AllocError>
-    requires { first ≤ 2 ^ 33 }
+    requires { first ≤ 2 ^ 62 }
     ensures child { IfOk result (λ r. IsLeafOf version points.now (linked r)) }
     ensures block { IfOk result (λ r. block_of (linked r) ≡ first + length nodes.old.items) }
     ensures nodes { OnOk result (nodes.new.items ≡ nodes.old.items
@@ -146,14 +149,8 @@ fn push_leaf<L>(
     ensures counted { OnOk result (CountsNodes steps.old steps.new nodes.old.items nodes.new.items) }
 {
     let block = first + nodes.len() as u64;
-    nodes.push(NewNode {
-        span,
-        version,
-        points: Vec::from_slice(alloc, points)?,
-        slots: NewSlots::none(),
-    })?;
     let points = Vec::from_slice(alloc, points)?;
-    Link::new(
+    let link = Link::new(
         alloc,
         NodeData::Leaf {
             block,
@@ -161,7 +158,14 @@ fn push_leaf<L>(
             points,
         },
         steps,
-    )
+    )?;
+    nodes.push(NewNode {
+        span,
+        version,
+        points: NewPoints::of(&link)?,
+        slots: NewSlots::none(),
+    })?;
+    Ok(link)
 }
 
 /// Makes an inner node, and appends it to `nodes`.
@@ -174,7 +178,7 @@ pub(crate) fn push_inner<L>(
     nodes: &mut Vec<NewNode>,
     steps: &mut Steps<L>,
 ) -> Result<Link, AllocError>
-    requires { first ≤ 2 ^ 33 }
+    requires { first ≤ 2 ^ 62 }
     ensures child { IfOk result (λ r. IsInnerOf version slots (linked r)) }
     ensures block { IfOk result (λ r. block_of (linked r) ≡ first + length nodes.old.items) }
     ensures nodes { OnOk result (nodes.new.items ≡ nodes.old.items
@@ -186,7 +190,7 @@ pub(crate) fn push_inner<L>(
     nodes.push(NewNode {
         span,
         version,
-        points: Vec::new(alloc),
+        points: NewPoints::none(),
         slots: NewSlots::of(&link)?,
     })?;
     Ok(link)

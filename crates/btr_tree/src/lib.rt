@@ -9,8 +9,9 @@
 //! [`Tree::leaf`] and [`Tree::inner`] make trees of nodes that were read, from the leaves up.
 //!
 //! Links to nodes are opaque: [`visit`] counts each node in a [`Steps`]. Only a call that knows a type with [`Label`] can make a
-//! counter. All calls here are generic in the label, so they count with their caller's counter. One call makes nodes, and it
-//! counts each. A walk without a counter goes through a tree that its caller hands in as [`Uncounted`].
+//! counter. All public calls here are generic in the label, so they count with their caller's counter. [`Tree::apply_shared`] has
+//! counters of its own, and adds them to its caller's. One call makes nodes, and it counts each. A walk without a counter goes
+//! through a tree that its caller hands in as [`Uncounted`].
 //!
 //! The definitions say over a past as plain data which spans are nodes, and the versions of nodes and slots. A past is a base
 //! and the commits since. The crate knows no bytes, no device and no other stream.
@@ -33,6 +34,7 @@ mod uncounted;
 // what a commit writes
 mod apply;
 mod build;
+mod shared;
 mod tree;
 // trees made of nodes that were read
 mod opened;
@@ -42,7 +44,7 @@ mod laws;
 pub use fault::TreeFault;
 pub use laws::equal_since_its_version;
 pub use link::visit;
-pub use new_node::{NewNode, NewSlots};
+pub use new_node::{NewNode, NewPoints, NewSlots};
 pub use node::{Child, Node, Slot};
 pub use root::root_span;
 pub use slots::Slots;

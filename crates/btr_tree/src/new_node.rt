@@ -1,5 +1,5 @@
 ghost use Rattle.std.specs.Prelude.{◌≡◌, ◌<◌, [], length, slice_get, IfOk};
-ghost use Rattle.btr_tree.specs.NewNodes.{slots_of_node};
+ghost use Rattle.btr_tree.specs.NewNodes.{points_of_node, slots_of_node};
 ghost use Rattle.btr_tree.specs.Slots.{linked};
 
 use crate::node::{Link, NodeData, Slot};
@@ -17,7 +17,7 @@ pub struct NewNode {
     pub version: u64,
 
     /// The points of a leaf, by time and value.
-    pub points: Vec<Point>,
+    pub points: NewPoints,
 
     /// The 64 slots of an inner node, in order. A slot has the block of its child, or 0 if it has no child.
     pub slots: NewSlots,
@@ -28,7 +28,55 @@ impl Model for NewNode {
 
     ghost Value = { NewNodeValue };
 
-    ghost view = { λ n. record { span = n.span; version = n.version; points = n.points.items; slots = n.slots } };
+    ghost view = { λ n. record { span = n.span; version = n.version; points = n.points; slots = n.slots } };
+}
+
+/// The points of a node that a commit wrote: those of a leaf, and none of an inner node. It shares the node with the tree.
+#[derive(Drop)]
+pub struct NewPoints {
+    node: Link,
+}
+
+impl Model for NewPoints {
+    ghost use Rattle.std.specs.Prelude.{List};
+    ghost use Rattle.btr_base.specs.declared.point.Point.{Point};
+    ghost use Rattle.btr_tree.specs.NewNodes.{points_of_node};
+    ghost use Rattle.btr_tree.specs.Slots.{linked};
+
+    ghost Value = { List Point };
+
+    ghost view = { λ p. points_of_node (linked p.node) };
+}
+
+impl NewPoints {
+    /// The points of no node.
+    pub(crate) fn none() -> NewPoints
+        ensures { result ≡ [] }
+    {
+        NewPoints { node: Link::none() }
+    }
+
+    /// The points of a node, in constant time.
+    pub(crate) fn of(node: &Link) -> Result<NewPoints, AllocError>
+        ensures { IfOk result (λ p. p ≡ points_of_node (linked node.now)) }
+    {
+        Ok(NewPoints {
+            node: node.seen().share()?,
+        })
+    }
+
+    /// The points, in order. It takes constant time and no memory.
+    pub fn as_slice(&self) -> &[Point]
+        ensures { result.now ≡ self.now }
+    {
+        match &self.node.node {
+            None => &[],
+            Some(node) => match &**node {
+                NodeData::Leaf { points, .. } => points,
+                NodeData::Inner { .. } => &[],
+            },
+        }
+    }
 }
 
 /// The slots of a node that a commit wrote: 64 of an inner node, and none of a leaf. It shares the node with the tree.
@@ -78,7 +126,7 @@ impl NewSlots {
         }
     }
 
-    /// The slot of a number, or `None` if there are not so many. It takes constant time and no memory.
+    /// The slot of a number, or `None` if there are not that many. It takes constant time and no memory.
     pub fn get(&self, i: u8) -> Option<Slot>
         ensures { result ≡ slice_get self.now i }
     {

@@ -1,5 +1,5 @@
 //! Nodes in memory, and what a walk sees of them.
-ghost use Rattle.std.specs.Prelude.{◌≡◌, ◌+◌, min, IfOk, OnOk, Some, None};
+ghost use Rattle.std.specs.Prelude.{◌≡◌, ◌+◌, min, false, IfOk, OnOk, Some, None};
 ghost use Rattle.btr_tree.specs.Slots.{linked, node_of, block_of};
 ghost use Rattle.btr_tree.specs.Root.{version_of};
 
@@ -71,6 +71,13 @@ impl Link {
         ensures { linked result ≡ None }
     {
         Link { node: None }
+    }
+
+    /// Whether there is a node.
+    pub(crate) fn is_some(&self) -> bool
+        ensures { result ≡ false → linked self.now ≡ None }
+    {
+        self.node.is_some()
     }
 
     /// Makes a node, which is one step. No other call makes a node.

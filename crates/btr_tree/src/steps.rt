@@ -49,4 +49,11 @@ impl<L> Steps<L> {
     {
         self.count = self.count.saturating_add(1);
     }
+
+    /// Counts more steps.
+    pub(crate) fn add(&mut self, more: u64)
+        ensures { self.new ≡ min (self.old + more) 18446744073709551615 }
+    {
+        self.count = self.count.saturating_add(more);
+    }
 }

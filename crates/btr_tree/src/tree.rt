@@ -1,26 +1,27 @@
-ghost use Rattle.std.specs.Prelude.{◌≡◌, ◌⊎◌, None, ◌<◌, ◌≤◌, ◌+◌, ◌*◌, ◌^◌, length, min, IfOk, IfErr, OnOk};
+ghost use Rattle.std.specs.Prelude.{◌≡◌, ◌⊎◌, None, ◌≤◌, ◌^◌, length, IfOk, IfErr};
 ghost use Rattle.btr_base.specs.Agg.{agg};
 ghost use Rattle.btr_base.specs.Point.{AreInDomain};
-ghost use Rattle.btr_base.specs.declared.limits.TheConstants.{FIRST as FIRST_TIME, END as END_TIME};
-ghost use Rattle.btr_tree.specs.History.{Past, bag, nothing, ◌▷◌, IsBefore};
-ghost use Rattle.btr_tree.specs.Crowd.{HasNoCrowdedSpan};
+ghost use Rattle.btr_base.specs.declared.limits.TheConstants.{FIRST as FIRST_TIME};
+ghost use Rattle.btr_tree.specs.History.{Past, bag, nothing, ◌▷◌};
 ghost use Rattle.btr_tree.specs.Nodes.{above_root};
-ghost use Rattle.btr_tree.specs.NewNodes.{new_nodes, bare_all};
-ghost use Rattle.btr_tree.specs.Stored.{Store, IsBelow, IsLaid};
 ghost use Rattle.btr_tree.specs.Shape.{IsChild};
 ghost use Rattle.btr_tree.specs.Change.{IsSomeChild};
 ghost use Rattle.btr_tree.specs.Slots.{node_of, block_of};
 ghost use Rattle.btr_tree.specs.Root.{IsTree, IsTreeFault, AfterCommit, AtEachTree, root_part, version_of};
+ghost use Rattle.btr_tree.specs.Applied.{IsCommitApplied};
 
+use crate::aggregate::agg_of_child;
 use crate::apply::apply_slot;
 use crate::fault::TreeFault;
 use crate::new_node::NewNode;
 use crate::node::{Child, Link, Slot};
 use crate::root::root_span;
+use crate::shared::{SHARED_POINTS, build_shared};
 use crate::steps::Steps;
 use btr_base::{Agg, Bag, MAX_POINTS, ROOT_HEIGHT, Ranges, Span};
 use std::alloc::{AllocError, Global};
-use std::marker::Model;
+use std::marker::{Model, Sync};
+use std::thread::Threads;
 
 /// The points of one version of a stream, by time (BTrDB, FAST 2016). Trees of several versions share what they have in
 /// common, in any threads. A tree that was made of nodes read from a device may also be the part of a version in one span.
@@ -160,16 +161,7 @@ impl Tree {
     ) -> Result<Applied, TreeFault>
         requires added { AreInDomain added.now }
         requires first { (1 ≤ first) × (first ≤ 2 ^ 33) }
-        ensures tree { IfOk result (λ a. AfterCommit self.now version cut.now added.now (λ h c. IsTree (c ▷ h) a.tree)) }
-        ensures nodes { IfOk result (λ a. AfterCommit self.now version cut.now added.now (λ h c.
-            0 < version → IsBefore version h → bare_all a.nodes.items ≡ new_nodes 10 FIRST_TIME above_root (c ▷ h) version)) }
-        ensures stored { IfOk result (λ a. (store : Store) → IsBelow store first 10 FIRST_TIME self.now.node
-            → IsLaid store first a.nodes.items 10 FIRST_TIME a.tree.node) }
-        ensures few { IfOk result (λ a. AfterCommit self.now version cut.now added.now (λ h c.
-            0 < version → IsBefore version h → length a.nodes.items ≤ 11 * (253 * length added.now + 2 * length cut.now))) }
-        ensures steps { IfOk result (λ a. steps.new ≡ min (steps.old + length a.nodes.items) 18446744073709551615) }
-        ensures room { OnOk result (AfterCommit self.now version cut.now added.now (λ h c.
-            HasNoCrowdedSpan FIRST_TIME END_TIME (bag (c ▷ h)))) }
+        ensures applied { IfOk result (IsCommitApplied self.now version cut.now added.now first steps.old steps.new) }
         ensures fault { IfErr result (λ e. AfterCommit self.now version cut.now added.now (λ h c. IsTreeFault (bag (c ▷ h)) e)) }
     {
         prove!(steps.count() <= u64::MAX);
@@ -203,6 +195,48 @@ impl Tree {
                 agg,
             },
             nodes,
+        })
+    }
+
+    /// Returns what [`Tree::apply`] returns. If this tree has no point, and the added points are at least 10,000 and at most 2^32,
+    /// then the new tree is made by at most `threads` threads, the calling one among them. Each has a share of the points, by
+    /// whole slots. Otherwise the calling thread makes it.
+    pub fn apply_shared<R: Threads + Sync, L>(
+        &self,
+        rt: &R,
+        alloc: Global,
+        cut: &Ranges,
+        added: &Bag,
+        version: u64,
+        first: u64,
+        threads: usize,
+        steps: &mut Steps<L>,
+    ) -> Result<Applied, TreeFault>
+        requires added { AreInDomain added.now }
+        requires first { (1 ≤ first) × (first ≤ 2 ^ 33) }
+        ensures applied { IfOk result (IsCommitApplied self.now version cut.now added.now first steps.old steps.new) }
+        ensures fault { IfErr result (λ e. AfterCommit self.now version cut.now added.now (λ h c. IsTreeFault (bag (c ▷ h)) e)) }
+    {
+        let points = added.as_slice();
+        let count = points.len();
+        if threads < 2
+            || count < SHARED_POINTS
+            || count as u64 > MAX_POINTS
+            || self.root.is_some()
+        {
+            return self.apply(alloc, cut, added, version, first, steps);
+        }
+        let span = root_span();
+        let built = build_shared(rt, alloc, span, points, version, first, threads)?;
+        steps.add(built.steps.count());
+        let agg = agg_of_child(built.root.seen());
+        Ok(Applied {
+            tree: Tree {
+                span,
+                root: built.root,
+                agg,
+            },
+            nodes: built.nodes,
         })
     }
 }

@@ -2,7 +2,7 @@
 
 use super::fixture::{Counts, after, have_bounds, points_from, ranges_of};
 use btr_base::{Bag, END, FIRST, Point, Range};
-use btr_diff::changes;
+use btr_diff::{changes, changes_with_lead};
 use btr_tree::{Steps, Tree};
 use std::alloc::{AllocError, Global};
 use std::test::Fail;
@@ -229,5 +229,48 @@ fn changes_of_three_commits(rt: HostRuntime) -> Result<(), Fail> {
     assert!(rt; are_one_range(rt.alloc(), first, third, 2, (0, 8), &mut steps)?);
     assert!(rt; are_one_range(rt.alloc(), first, second, 0, (3, 4), &mut steps)?);
     assert!(rt; steps.count() == 2);
+    Ok(())
+}
+
+/// In slots of 4 ns the changes after the first commit of `APART` are (0, 4), (8, 16) and (60, 64). Each row is a lead, and these
+/// with the lead.
+const LED: &[(u64, &[(i64, i64)])] = &[
+    (0, &[(0, 4), (8, 16), (60, 64)]),
+    (3, &[(0, 7), (8, 19), (60, 67)]),
+    (4, &[(0, 20), (60, 68)]),
+    (43, &[(0, 59), (60, 107)]),
+    (44, &[(0, 108)]),
+    (u64::MAX, &[(0, END)]),
+];
+
+/// Points at 0 to 19; then none at 1 and at 9, two at 12 and one at 63.
+const APART: &[Commit] = &[
+    Commit(0, 0, 20, 0, 1, 0),
+    Commit(1, 2, 0, 0, 1, 0),
+    Commit(9, 10, 0, 0, 1, 0),
+    Commit(0, 0, 1, 12, 1, 12),
+    Commit(0, 0, 1, 63, 1, 63),
+];
+
+#[test]
+fn changes_with_leads(rt: HostRuntime) -> Result<(), Fail> {
+    let versions = versions_after(rt.alloc(), APART)?;
+    let [_, first, .., last] = versions.as_slice() else {
+        return Err("six versions".into());
+    };
+    for (lead, want) in LED {
+        let mut steps = Steps::<Counts>::new();
+        let found = changes_with_lead(
+            rt.alloc(),
+            first.tree.uncounted::<Counts>(),
+            &last.tree,
+            1,
+            2,
+            *lead,
+            &mut steps,
+        )?;
+        assert!(rt; have_bounds(found.as_slice(), *want));
+        assert!(rt; steps.count() == 1);
+    }
     Ok(())
 }

@@ -363,7 +363,37 @@ const CASES: &[Case] = &[
         &[],
         &[(5, -1), (6, -2)],
     ),
+    Case(Kernel::Mean, 0, &[(5, -3), (5, -4)], &[], &[(5, -4)]),
+    Case(
+        Kernel::Mean,
+        0,
+        &[(5, LEAST), (6, LEAST), (6, 0)],
+        &[],
+        &[(5, LEAST), (6, -4611686018427387904)],
+    ),
+    // the mean of values whose sum is no i64
     Case(Kernel::Mean, 0, &[(5, MOST), (5, MOST)], &[], &[(5, MOST)]),
+    Case(
+        Kernel::Mean,
+        0,
+        &[(5, LEAST), (5, LEAST), (5, LEAST)],
+        &[],
+        &[(5, LEAST)],
+    ),
+    Case(
+        Kernel::Mean,
+        0,
+        &[(5, MOST), (5, 1), (6, MOST), (6, MOST), (6, 2)],
+        &[],
+        &[(5, 4611686018427387904), (6, 6148914691236517205)],
+    ),
+    Case(
+        Kernel::Mean,
+        0,
+        &[(5, LEAST), (5, LEAST), (5, -1)],
+        &[],
+        &[(5, -6148914691236517206)],
+    ),
     // a sum that is no i64 gives no point
     Case(Kernel::Sum, 0, &[(5, MOST), (5, MOST)], &[], &[]),
     Case(

@@ -2,7 +2,7 @@
 
 use super::fixture::{Counts, after, points_from, ranges_of};
 use btr_base::{Bag, END, FIRST, Point, Range, Toward};
-use btr_scan::{nearest, range};
+use btr_scan::{append_range, nearest, range};
 use btr_tree::{Steps, Tree};
 use std::alloc::{AllocError, Global};
 use std::test::Fail;
@@ -172,6 +172,45 @@ fn ranges_of_every_shape(rt: HostRuntime) -> Result<(), Fail> {
     let times = around_edges(rt.alloc())?;
     for version in &versions(rt.alloc())? {
         assert!(rt; are_ranges(rt.alloc(), version, &times)?);
+    }
+    Ok(())
+}
+
+/// A point that stands in a list before others are appended to it.
+const KEPT: Point = Point {
+    time: END,
+    value: -1,
+};
+
+/// The kept point, and after it the points of two ranges, appended one range after the other.
+fn appended(
+    alloc: Global,
+    tree: &Tree,
+    first: Range,
+    second: Range,
+) -> Result<Vec<Point>, AllocError> {
+    let mut rows = Vec::new(alloc);
+    rows.push(KEPT)?;
+    append_range(tree, first, &mut rows)?;
+    append_range(tree, second, &mut rows)?;
+    Ok(rows)
+}
+
+/// Whether the points of the list after the kept one are those of the version.
+fn follow_kept(rows: &[Point], version: &Version) -> bool {
+    match rows.split_first() {
+        Some((kept, others)) => *kept == KEPT && others == version.kept.as_slice(),
+        None => false,
+    }
+}
+
+#[test]
+fn ranges_appended(rt: HostRuntime) -> Result<(), Fail> {
+    let first = Range::new(FIRST, 253).ok_or("no range")?;
+    let second = Range::new(253, END).ok_or("no range")?;
+    for version in &versions(rt.alloc())? {
+        let rows = appended(rt.alloc(), &version.tree, first, second)?;
+        assert!(rt; follow_kept(&rows, version));
     }
     Ok(())
 }

@@ -12,8 +12,10 @@ use btr_tree::{
     Applied, Child, NewNode, NewSlots, Node, Slot, Slots, Steps, Tree, TreeFault, visit,
 };
 use std::alloc::{AllocError, Global};
+use std::marker::Sync;
 use std::test::Fail;
 use std::thread;
+use std::thread::Threads;
 
 /// The greatest number of points of a leaf.
 const MOST: usize = 252;
@@ -305,7 +307,7 @@ fn plain_node(alloc: Global, node: &NewNode) -> Result<PlainNode, AllocError> {
         start: span.start,
         height: span.height,
         version: node.version,
-        points: Vec::from_slice(alloc, &node.points)?,
+        points: Vec::from_slice(alloc, node.points.as_slice())?,
         slots: written_slots(alloc, &node.slots)?,
     })
 }
@@ -625,12 +627,12 @@ fn blocks_of_new_nodes(rt: HostRuntime) -> Result<(), Fail> {
         return Err("no commit".into());
     };
     assert!(rt; one.nodes.len() == 3 && two.nodes.len() == 2);
-    let told = blocks_in(alloc, &one.nodes[2])?;
-    assert!(rt; told.as_slice() == [(0, 4), (16, 5)].as_slice());
-    let told = blocks_in(alloc, &two.nodes[1])?;
-    assert!(rt; told.as_slice() == [(0, 4), (16, 5)].as_slice());
-    let told = blocks_in(alloc, &two.nodes[0])?;
-    assert!(rt; told.is_empty());
+    let reported = blocks_in(alloc, &one.nodes[2])?;
+    assert!(rt; reported.as_slice() == [(0, 4), (16, 5)].as_slice());
+    let reported = blocks_in(alloc, &two.nodes[1])?;
+    assert!(rt; reported.as_slice() == [(0, 4), (16, 5)].as_slice());
+    let reported = blocks_in(alloc, &two.nodes[0])?;
+    assert!(rt; reported.is_empty());
     Ok(())
 }
 
@@ -658,5 +660,63 @@ fn one_tree_in_two_threads(rt: HostRuntime) -> Result<(), Fail> {
     let nodes = here.1?;
     assert!(rt; nodes.len() == 74);
     assert!(rt; nodes == there.1?);
+    Ok(())
+}
+
+/// Whether two commits wrote the same nodes, for the same blocks, and have the same tree.
+fn are_alike(alloc: Global, one: &Applied, other: &Applied) -> Result<bool, AllocError> {
+    if one.nodes.len() != other.nodes.len() {
+        return Ok(false);
+    }
+    for (mine, theirs) in one.nodes.iter().zip(&other.nodes) {
+        let are_same = plain_node(alloc, mine)? == plain_node(alloc, theirs)?
+            && blocks_in(alloc, mine)? == blocks_in(alloc, theirs)?;
+        if !are_same {
+            return Ok(false);
+        }
+    }
+    Ok(
+        one.tree.count() == other.tree.count()
+            && nodes_in(alloc, &one.tree)? == nodes_in(alloc, &other.tree)?,
+    )
+}
+
+/// Whether a first commit of these points writes the same nodes with any number of threads, each of which it counts as one step.
+fn is_shared_alike<R: Threads + Sync>(rt: &R, alloc: Global, added: &Bag) -> Result<bool, Fail> {
+    let none = Ranges::none(alloc);
+    let Ok(alone) = applied_to(alloc, &Tree::empty(), &none, added, 3)? else {
+        return Err("no commit".into());
+    };
+    for threads in [1, 2, 4, 7] {
+        if !are_in_domain(added.as_slice()) {
+            return Err("a time outside the domain".into());
+        }
+        let mut steps = Steps::<Counts>::new();
+        let empty = Tree::empty();
+        let shared = empty.apply_shared(rt, alloc, &none, added, 3, 4, threads, &mut steps);
+        let Ok(shared) = shared else {
+            return Err("no commit by threads".into());
+        };
+        let is_counted = steps.count() == shared.nodes.len() as u64;
+        if !is_counted || !are_alike(alloc, &alone, &shared)? {
+            return Ok(false);
+        }
+    }
+    Ok(true)
+}
+
+#[test]
+fn equal_steps_by_any_number_of_threads(rt: HostRuntime) -> Result<(), Fail> {
+    let alloc = rt.alloc();
+    let added = bag_of_runs(alloc, &[(0, 1000, 40000)])?;
+    assert!(rt; is_shared_alike(&rt, alloc, &added)?);
+    Ok(())
+}
+
+#[test]
+fn two_far_clusters_by_any_number_of_threads(rt: HostRuntime) -> Result<(), Fail> {
+    let alloc = rt.alloc();
+    let added = bag_of_runs(alloc, &[(FIRST, 4, 12000), (FAR, 1000, 15000)])?;
+    assert!(rt; is_shared_alike(&rt, alloc, &added)?);
     Ok(())
 }

@@ -81,8 +81,8 @@ first_app = with_subcommand (with_subcommand (with_subcommand (record { top = pr
 
 abbrev pub program_app : App
 program_app =
-    with_subcommand (with_subcommand (with_subcommand (with_subcommand (with_subcommand first_app distil_app.top) live_app.top) sample_app.top)
-    checkpoint_app.top) check_app.top
+    with_subcommand (with_subcommand (with_subcommand (with_subcommand (with_subcommand
+    first_app distil_app.top) live_app.top) sample_app.top) checkpoint_app.top) check_app.top
 
 -- The number that the rows have for an argument.
 abbrev pub number_in : Text → List Row → ℕ → Option ℕ

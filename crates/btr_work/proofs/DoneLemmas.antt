@@ -106,29 +106,29 @@ levels-end did hall old new i levels now same ends done =
 -- ---- from jobs to results
 
 -- The results of jobs are those of their outputs.
-abbrev pub Told : (ℕ → Refreshed) → List OutputJob → Type 0
-Told result [] = Unit {0}
-Told result (job ∷ jobs) = (result job.output ≡ job.result) × Told result jobs
+abbrev pub Reported : (ℕ → Refreshed) → List OutputJob → Type 0
+Reported result [] = Unit {0}
+Reported result (job ∷ jobs) = (result job.output ≡ job.result) × Reported result jobs
 
-abbrev pub ToldAll : (ℕ → Refreshed) → List (List OutputJob) → Type 0
-ToldAll result [] = Unit {0}
-ToldAll result (jobs ∷ levels) = Told result jobs × ToldAll result levels
+abbrev pub ReportedAll : (ℕ → Refreshed) → List (List OutputJob) → Type 0
+ReportedAll result [] = Unit {0}
+ReportedAll result (jobs ∷ levels) = Reported result jobs × ReportedAll result levels
 
 module _ (start : StoreState) (result : ℕ → Refreshed) where
-  each-from : (low : List Entry) (log : LogState) (before after : List OutputJob) (own : List ℕ) → AllDid IsDone start log low before after own → Told result after → RefreshesEach start log low result (outputs_in before) own
-  each-from low log [] [] own all told = all
-  each-from low log [] (now ∷ after) own all told = absurd all
-  each-from low log (was ∷ before) [] own all told = absurd all
-  each-from low log (was ∷ before) (now ∷ after) own all told =
-      let is = sym told.0 ∙ ap result all.2.output in
-      (all.0, all.1, subst (λ r. IsRefreshed start log low was.output r all.0) is all.2.refreshed, each-from low log before after all.1 all.3 told.1, all.4)
+  each-from : (low : List Entry) (log : LogState) (before after : List OutputJob) (own : List ℕ) → AllDid IsDone start log low before after own → Reported result after → RefreshesEach start log low result (outputs_in before) own
+  each-from low log [] [] own all reported = all
+  each-from low log [] (now ∷ after) own all reported = absurd all
+  each-from low log (was ∷ before) [] own all reported = absurd all
+  each-from low log (was ∷ before) (now ∷ after) own all reported =
+      let is = sym reported.0 ∙ ap result all.2.output in
+      (all.0, all.1, subst (λ r. IsRefreshed start log low was.output r all.0) is all.2.refreshed, each-from low log before after all.1 all.3 reported.1, all.4)
 
-  levels-from : (low : List Entry) (before after : List (List OutputJob)) (late : LogState) (own : List ℕ) → DidInTurn (AllDid IsDone) start late low before after own → ToldAll result after → RefreshesLevels start low result (map outputs_in before) late own
-  levels-from low [] [] late own done told = done
-  levels-from low [] (now ∷ after) late own done told = absurd done
-  levels-from low (was ∷ before) [] late own done told = absurd done
-  levels-from low (was ∷ before) (now ∷ after) late own done told =
-      (done.0, done.1, done.2, done.3, done.4, each-from low done.0 was now done.3 done.5 told.0, levels-from done.0.history before after late done.4 done.6 told.1, done.7)
+  levels-from : (low : List Entry) (before after : List (List OutputJob)) (late : LogState) (own : List ℕ) → DidInTurn (AllDid IsDone) start late low before after own → ReportedAll result after → RefreshesLevels start low result (map outputs_in before) late own
+  levels-from low [] [] late own done reported = done
+  levels-from low [] (now ∷ after) late own done reported = absurd done
+  levels-from low (was ∷ before) [] late own done reported = absurd done
+  levels-from low (was ∷ before) (now ∷ after) late own done reported =
+      (done.0, done.1, done.2, done.3, done.4, each-from low done.0 was now done.3 done.5 reported.0, levels-from done.0.history before after late done.4 done.6 reported.1, done.7)
 
   -- The outputs of the jobs are the same.
   each-outputs : (low : List Entry) (log : LogState) (before after : List OutputJob) (own : List ℕ) → AllDid IsDone start log low before after own → outputs_in after ≡ outputs_in before
@@ -166,25 +166,25 @@ noted_all-other results [] output not = refl
 noted_all-other results (jobs ∷ levels) output not =
     noted_all-other (noted results jobs) levels output (λ is. not (inr is)) ∙ noted-other results jobs output (λ is. not (inl is))
 
-told-jobs : (last results : List Refreshed) (jobs : List OutputJob) → Distinct (outputs_in jobs) → ((output : ℕ) → IsIn output (outputs_in jobs) → output < length results) → ((output : ℕ) → IsIn output (outputs_in jobs) → result_at last output ≡ result_at (noted results jobs) output) → Told (result_at last) jobs
-told-jobs last results [] distinct inside same = tt
-told-jobs last results (job ∷ jobs) distinct inside same =
+reported-jobs : (last results : List Refreshed) (jobs : List OutputJob) → Distinct (outputs_in jobs) → ((output : ℕ) → IsIn output (outputs_in jobs) → output < length results) → ((output : ℕ) → IsIn output (outputs_in jobs) → result_at last output ≡ result_at (noted results jobs) output) → Reported (result_at last) jobs
+reported-jobs last results [] distinct inside same = tt
+reported-jobs last results (job ∷ jobs) distinct inside same =
     let next = slice_set results job.output job.result in
     let long : length next ≡ length results = length-set results job.output job.result in (
       same job.output (inl refl)
           ∙ noted-other next jobs job.output distinct.0
           ∙ get_or-set_same results job.output job.result (Refused Want) (inside job.output (inl refl)),
-      told-jobs last next jobs distinct.1 (λ output is. omega (arith, inside output (inr is), long)) (λ output is. same output (inr is)),
+      reported-jobs last next jobs distinct.1 (λ output is. omega (arith, inside output (inr is), long)) (λ output is. same output (inr is)),
     )
 
-told-all : (levels : List ℕ) (base : ℕ) (results : List Refreshed) (jobs : List (List OutputJob)) → Graded levels base (map outputs_in jobs) → ((output : ℕ) → IsInAny output (map outputs_in jobs) → output < length results) → ToldAll (result_at (noted_all results jobs)) jobs
-told-all levels base results [] graded inside = tt
-told-all levels base results (first ∷ jobs) graded inside =
+reported-all : (levels : List ℕ) (base : ℕ) (results : List Refreshed) (jobs : List (List OutputJob)) → Graded levels base (map outputs_in jobs) → ((output : ℕ) → IsInAny output (map outputs_in jobs) → output < length results) → ReportedAll (result_at (noted_all results jobs)) jobs
+reported-all levels base results [] graded inside = tt
+reported-all levels base results (first ∷ jobs) graded inside =
     let next = noted results first in
     let long : length next ≡ length results = noted-length results first in (
-      told-jobs (noted_all next jobs) results first graded.1 (λ output is. inside output (inl is)) (λ output is.
+      reported-jobs (noted_all next jobs) results first graded.1 (λ output is. inside output (inl is)) (λ output is.
           noted_all-other next jobs output (λ any. absurd (omega (arith, graded.0 output is, graded-above levels (suc base) (map outputs_in jobs) output graded.2 any)))),
-      told-all levels (suc base) next jobs graded.2 (λ output any. omega (arith, inside output (inr any), long)),
+      reported-all levels (suc base) next jobs graded.2 (λ output any. omega (arith, inside output (inr any), long)),
     )
 
 -- ---- the whole
@@ -198,21 +198,21 @@ lines-filled results [] = refl
 lines-filled results (output ∷ outputs) = ap (λ ls. record { output = output; result = result_at results output } ∷ ls) (lines-filled results outputs)
 
 -- The results of the jobs are those that are noted.
-done-told : (start : StoreState) (seen : List Entry) (work : Work) (after : List Level) (late : LogState) (own : List ℕ) → IsPrepared seen work → DidInTurn (AllDid IsDone) start late seen (jobs_in work.levels.items) (jobs_in after) own → ToldAll (result_at (noted_all work.results.items (jobs_in after))) (jobs_in after)
-done-told start seen work after late own prepared done =
+done-reported : (start : StoreState) (seen : List Entry) (work : Work) (after : List Level) (late : LogState) (own : List ℕ) → IsPrepared seen work → DidInTurn (AllDid IsDone) start late seen (jobs_in work.levels.items) (jobs_in after) own → ReportedAll (result_at (noted_all work.results.items (jobs_in after))) (jobs_in after)
+done-reported start seen work after late own prepared done =
     let same : map outputs_in (jobs_in after) ≡ groups_in work.levels.items =
     levels-outputs start (λ _. Refused Want) seen (jobs_in work.levels.items) (jobs_in after) late own done ∙ groups-jobs work.levels.items in
     let graded = subst (Graded (levels_of seen) 1) (sym same) (groups-graded (levels_of seen) (groups_in work.levels.items) prepared.levels) in
     let inside : (output : ℕ) → IsInAny output (map outputs_in (jobs_in after)) → output < length work.results.items = λ output any.
     let known = inside-some (levels_of seen) output (graded-above (levels_of seen) 1 (map outputs_in (jobs_in after)) output graded any) in
     omega (arith, known, levels-length [] (kinds seen), length-kinds seen, prepared.results) in
-    told-all (levels_of seen) 1 work.results.items (jobs_in after) graded inside
+    reported-all (levels_of seen) 1 work.results.items (jobs_in after) graded inside
 
 -- Work that was prepared and done gives the report.
 pub done-refreshes : (start : StoreState) (low seen : List Entry) (work : Work) (after : List Level) (late : LogState) (own : List ℕ) → StartsWith seen low → StartsWith late.history seen → IsPrepared seen work → DidInTurn (AllDid IsDone) start late seen (jobs_in work.levels.items) (jobs_in after) own → Refreshes start late low (map (filled (noted_all work.results.items (jobs_in after))) work.lines.items) own
 done-refreshes start low seen work after late own starts before prepared done =
     let last = noted_all work.results.items (jobs_in after) in
-    let told = done-told start seen work after late own prepared done in
+    let reported = done-reported start seen work after late own prepared done in
     record {
       seen = seen;
       after = starts;
@@ -223,18 +223,18 @@ done-refreshes start low seen work after late own starts before prepared done =
       lines = ap (map (filled last)) prepared.lines ∙ lines-filled last (outputs seen);
       refreshes =
           subst (λ gs. RefreshesLevels start seen (result_at last) gs late own) (groups-jobs work.levels.items)
-          (levels-from start (result_at last) seen (jobs_in work.levels.items) (jobs_in after) late own done told);
+          (levels-from start (result_at last) seen (jobs_in work.levels.items) (jobs_in after) late own done reported);
     }
 
 -- ---- one worker
 
-told-append : (result : ℕ → Refreshed) (a b : List OutputJob) → Told result a → Told result b → Told result (a ++ b)
-told-append result [] b first second = second
-told-append result (job ∷ a) b first second = (first.0, told-append result a b first.1 second)
+reported-append : (result : ℕ → Refreshed) (a b : List OutputJob) → Reported result a → Reported result b → Reported result (a ++ b)
+reported-append result [] b first second = second
+reported-append result (job ∷ a) b first second = (first.0, reported-append result a b first.1 second)
 
-told-flat : (result : ℕ → Refreshed) (jobs : List (List OutputJob)) → ToldAll result jobs → Told result (flat jobs)
-told-flat result [] told = tt
-told-flat result (first ∷ jobs) told = told-append result first (flat jobs) told.0 (told-flat result jobs told.1)
+reported-flat : (result : ℕ → Refreshed) (jobs : List (List OutputJob)) → ReportedAll result jobs → Reported result (flat jobs)
+reported-flat result [] reported = tt
+reported-flat result (first ∷ jobs) reported = reported-append result first (flat jobs) reported.0 (reported-flat result jobs reported.1)
 
 outputs-append : (a b : List OutputJob) → outputs_in (a ++ b) ≡ outputs_in a ++ outputs_in b
 outputs-append [] b = refl
@@ -246,20 +246,20 @@ outputs-flat (l ∷ levels) =
     outputs-append l.jobs.items (flat (jobs_in levels)) ∙ ap (λ os. outputs_in l.jobs.items ++ os) (outputs-flat levels)
 
 -- Each job is a level of its own.
-turn-from : (start : StoreState) (result : ℕ → Refreshed) (low : List Entry) (before after : List OutputJob) (late : LogState) (own : List ℕ) → DidInTurn IsDone start late low before after own → Told result after → RefreshesLevels start low result (map (λ output. output ∷ []) (outputs_in before)) late own
-turn-from start result low [] [] late own turn told = turn
-turn-from start result low [] (now ∷ after) late own turn told = absurd turn
-turn-from start result low (was ∷ before) [] late own turn told = absurd turn
-turn-from start result low (was ∷ before) (now ∷ after) late own turn told =
+turn-from : (start : StoreState) (result : ℕ → Refreshed) (low : List Entry) (before after : List OutputJob) (late : LogState) (own : List ℕ) → DidInTurn IsDone start late low before after own → Reported result after → RefreshesLevels start low result (map (λ output. output ∷ []) (outputs_in before)) late own
+turn-from start result low [] [] late own turn reported = turn
+turn-from start result low [] (now ∷ after) late own turn reported = absurd turn
+turn-from start result low (was ∷ before) [] late own turn reported = absurd turn
+turn-from start result low (was ∷ before) (now ∷ after) late own turn reported =
     let done = turn.5 in
-    let is = sym told.0 ∙ ap result done.output in (
+    let is = sym reported.0 ∙ ap result done.output in (
       turn.0,
       turn.1,
       turn.2,
       turn.3,
       turn.4,
       (turn.3, [], subst (λ r. IsRefreshed start turn.0 low was.output r turn.3) is done.refreshed, (λ n. refl), λ n. omega arith),
-      turn-from start result turn.0.history before after late turn.4 turn.6 told.1,
+      turn-from start result turn.0.history before after late turn.4 turn.6 reported.1,
       turn.7,
     )
 
@@ -269,13 +269,13 @@ unfolding done-refreshes
 done-turn start low seen work after late own starts before prepared turn =
     let result = result_at (noted_all work.results.items (jobs_in after)) in
     let done = turn_implied (DidInTurn IsDone) (AllDid IsDone) start (λ log low was now own t. turn_all IsDone start done_lowers done_lasts log low was now own t) late seen (jobs_in work.levels.items) (jobs_in after) own turn in
-    let told = done-told start seen work after late own prepared done in
+    let reported = done-reported start seen work after late own prepared done in
     let all = turn_flat IsDone start done_lowers late seen (jobs_in work.levels.items) (jobs_in after) own turn in
     record {
       refreshes = done-refreshes start low seen work after late own starts before prepared done;
       in_turn =
           subst (λ os. RefreshesLevels start seen result (map (λ output. output ∷ []) os) late own) (outputs-flat work.levels.items)
-          (turn-from start result seen (flat (jobs_in work.levels.items)) (flat (jobs_in after)) late own all (told-flat result (jobs_in after) told));
+          (turn-from start result seen (flat (jobs_in work.levels.items)) (flat (jobs_in after)) late own all (reported-flat result (jobs_in after) reported));
     }
 
 module _ {D : Type 0} {disk : Ghosts D} (hall : Hall D disk) where

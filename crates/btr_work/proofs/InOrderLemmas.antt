@@ -134,7 +134,7 @@ turn-exact log low p next own starts turned all =
 module _ (start : StoreState) (log : LogState) (ran : RunsThrough start log) (legal : Legal log.history) (c : PlainStore) (low : List Entry) (holds : Holds start c low) (output : ℕ) (spec : Spec) (is_spec : spec_of low output ≡ Some spec) (whole : StartsWith log.history low) where
   -- The result is what becomes of the output, and the plain store has then what happened.
   record Ends (r : Refreshed) : Type 0 where
-    pub told : r ≡ result_refreshed c output (spec_of c.history output)
+    pub reported : r ≡ result_refreshed c output (spec_of c.history output)
     pub leaves : Holds start (store_refreshed c output (spec_of c.history output)) log.history
 
   spec-here : spec_of c.history output ≡ Some spec
@@ -149,7 +149,7 @@ module _ (start : StoreState) (log : LogState) (ran : RunsThrough start log) (le
       let none : planned c.history output spec ≡ None =
       ap (λ h. planned h output spec) holds.same ∙ ap (planned low output) (sym of_spec) ∙ is.nothing in
       record {
-        told =
+        reported =
             ap refreshed.Current (is.latest ∙ ap (λ h. latest h output) (sym holds.same))
             ∙ sym (ap (result_refreshed c output) spec-here ∙ ap (result_landed c output spec) none);
         leaves =
@@ -172,8 +172,8 @@ module _ (start : StoreState) (log : LogState) (ran : RunsThrough start log) (le
     legal-here : Legal c.history
     legal-here = subst Legal (sym holds.same) legal-low
 
-    told-plan : result_refreshed c output (spec_of c.history output) ≡ refreshed_by (take_result c e)
-    told-plan =
+    reported-plan : result_refreshed c output (spec_of c.history output) ≡ refreshed_by (take_result c e)
+    reported-plan =
         ap (result_refreshed c output) spec-here
         ∙ ap (result_landed c output spec) (planned-is c.history output spec plan legal-here spec-here plan-here)
         ∙ ap (λ x. refreshed_by (take_result c x)) (entry-is c.history output spec plan legal-here spec-here plan-here)
@@ -186,7 +186,7 @@ module _ (start : StoreState) (log : LogState) (ran : RunsThrough start log) (le
 
     ends-by : (r : Refreshed) (o : TakeResult) → take_result c e ≡ o → r ≡ refreshed_by o → Holds start (store_after c e) log.history → Ends r
     ends-by r o is_outcome same after = record {
-      told = same ∙ sym (told-plan ∙ ap refreshed_by is_outcome);
+      reported = same ∙ sym (reported-plan ∙ ap refreshed_by is_outcome);
       leaves = subst (λ d. Holds start d log.history) (sym left-plan) after;
     }
 
@@ -281,7 +281,7 @@ outputs-exact start result c low (output ∷ outs) late own ran legal holds are 
     let rest = outputs-exact start result (store_refreshed c output (spec_of c.history output)) middle.history outs late refreshes.4 ran legal ends.leaves
     (λ o in_outs. let s = are o (inr in_outs) in (s.0, spec-stays middle.history low o s.0 refreshes.2 s.1)) (λ o in_outs. memory o (inr in_outs)) refreshes.6
     (all-rest start result low (output ∷ []) levels late own refreshes all) in
-    ((ends.told, rest.0), rest.1)
+    ((ends.reported, rest.0), rest.1)
 
 -- ---- the law
 

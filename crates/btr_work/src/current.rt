@@ -55,7 +55,7 @@ pub fn bring_current<R: Threads + Wait + Sync, D: Disk + Send, P: Pace + Sync>(
     Ok(report_of(work))
 }
 
-/// Makes the work for the outputs of the whole history, for so many workers.
+/// Makes the work for the outputs of the whole history, for this many workers.
 pub(crate) fn prepare_seen<R: Wait, D: Disk>(
     rt: &R,
     alloc: Global,

@@ -13,13 +13,15 @@ use crate::report::Report;
 use btr_disk::Disk;
 use btr_hall::{Hall, Session};
 use std::alloc::{AllocError, Global};
+use std::marker::Sync;
 use std::sync::Wait;
+use std::thread::Threads;
 
 /// Brings each output up to date once, in this session: [`bring_current`] with one worker, for a job, which starts no thread. The
 /// outputs are done one after another, level by level.
 ///
 /// [`bring_current`]: crate::bring_current
-pub fn bring_current_here<R: Wait, D: Disk>(
+pub fn bring_current_here<R: Threads + Wait + Sync, D: Disk>(
     rt: &R,
     alloc: Global,
     hall: &Hall<D>,
@@ -39,7 +41,7 @@ pub fn bring_current_here<R: Wait, D: Disk>(
 }
 
 /// Does the jobs of all levels, one level after another.
-fn refresh_levels_here<R: Wait, D: Disk>(
+fn refresh_levels_here<R: Threads + Wait + Sync, D: Disk>(
     rt: &R,
     alloc: Global,
     hall: &Hall<D>,
@@ -60,7 +62,7 @@ fn refresh_levels_here<R: Wait, D: Disk>(
 }
 
 /// Does the jobs of a level.
-fn refresh_level_here<R: Wait, D: Disk>(
+fn refresh_level_here<R: Threads + Wait + Sync, D: Disk>(
     rt: &R,
     alloc: Global,
     hall: &Hall<D>,
@@ -76,7 +78,7 @@ fn refresh_level_here<R: Wait, D: Disk>(
 }
 
 /// Does jobs one after another.
-fn refresh_each<R: Wait, D: Disk>(
+fn refresh_each<R: Threads + Wait + Sync, D: Disk>(
     rt: &R,
     alloc: Global,
     hall: &Hall<D>,

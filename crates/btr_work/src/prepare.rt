@@ -44,7 +44,7 @@ struct Streams {
 /// What became of an output for which nothing was done: as if there had been no memory.
 const NOTHING: Refreshed = Refreshed::Refused(LandFault::Want);
 
-/// Makes the work for the outputs of a snapshot, for so many workers. An `Err` means out of memory.
+/// Makes the work for the outputs of a snapshot, for this many workers. An `Err` means out of memory.
 pub(crate) fn prepare(alloc: Global, snapshot: &Snapshot, workers: u8) -> Result<Work, AllocError>
     ensures { (h : List EntrySpec) → IsSnapshotOf h snapshot.now → IfOk result (IsPrepared h) }
 {
@@ -131,7 +131,7 @@ fn level_of(alloc: Global, group: &[u32], turns: &[u32], workers: u8) -> Result<
     Ok(level)
 }
 
-/// Returns how many threads each of so many outputs has, if each is brought up to date by a worker of its own: an equal share of the
+/// Returns how many threads each of this many outputs has, if each is brought up to date by a worker of its own: an equal share of the
 /// workers, rounded down, and at least one thread.
 fn threads_each(workers: u8, outputs: usize) -> usize
     ensures some { 1 ≤ result }

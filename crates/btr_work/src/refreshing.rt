@@ -16,7 +16,7 @@ use btr_disk::Disk;
 use btr_distil::Plan;
 use btr_hall::{Hall, LandFault, Session};
 use btr_jobs::Job;
-use btr_plan::{Next, next_plan, next_plan_shared};
+use btr_plan::{Next, next_plan_shared};
 use std::alloc::{AllocError, Global};
 use std::marker::{Send, Sync};
 use std::sync::Wait;
@@ -27,7 +27,7 @@ use std::thread::Threads;
 pub(crate) struct OutputJob {
     pub(crate) output: u32,
 
-    /// The greatest number of threads that work on the plan at once.
+    /// The greatest number of threads that work on the output at once.
     pub(crate) threads: usize,
 
     pub(crate) result: Refreshed,
@@ -35,7 +35,7 @@ pub(crate) struct OutputJob {
 
 impl OutputJob {
     /// Brings the output up to date on this thread alone, and keeps what became of it.
-    pub(crate) fn bring<R: Wait, D: Disk>(
+    pub(crate) fn bring<R: Threads + Wait + Sync, D: Disk>(
         &mut self,
         rt: &R,
         alloc: Global,
@@ -46,7 +46,7 @@ impl OutputJob {
         ensures at { IsAt hall.now session.new }
         ensures done { Does hall.now session.old session.new (λ start log low own. IsDone start log low self.old self.new own) }
     {
-        self.result = refresh_output(rt, alloc, hall, session, self.output);
+        self.result = refresh_output(rt, alloc, hall, session, self.output, 1);
     }
 }
 
@@ -63,7 +63,7 @@ impl Job for OutputJob {
         hall: &Hall<D>,
         session: &mut Session<D>,
     ) {
-        self.result = refresh_output_shared(rt, alloc, hall, session, self.output, self.threads);
+        self.result = refresh_output(rt, alloc, hall, session, self.output, self.threads);
     }
 
     ghost lasts = { done_lasts };
@@ -72,27 +72,11 @@ impl Job for OutputJob {
 }
 
 /// Brings one output up to date: one admission, a plan from its snapshot, after the turn, and its landing in another turn. If the stream
-/// is no output, that is as if there had been no memory. It starts no thread.
+/// is no output, that is as if there had been no memory. At most `threads` threads work on it at once, the calling one among them: if that
+/// is one, it starts no thread.
 ///
 /// It costs what the plan and the landing cost, which follows what has changed in the inputs since the latest version of the output.
-pub fn refresh_output<R: Wait, D: Disk>(
-    rt: &R,
-    alloc: Global,
-    hall: &Hall<D>,
-    session: &mut Session<D>,
-    output: u32,
-) -> Refreshed
-    requires at { IsAt hall.now session.old }
-    ensures at { IsAt hall.now session.new }
-    ensures refreshed { Does hall.now session.old session.new (λ start log low own. IsRefreshed start log low output result own) }
-    ensures stopped { KnowsStopped hall.now session.old → IsOfStopped result }
-{
-    let next = plan_output(rt, alloc, hall, session, output);
-    land_next(rt, alloc, hall, session, output, next)
-}
-
-/// Brings one output up to date as [`refresh_output`] does. At most `threads` threads work on the plan at once, this one among them.
-fn refresh_output_shared<R: Threads + Wait + Sync, D: Disk>(
+pub fn refresh_output<R: Threads + Wait + Sync, D: Disk>(
     rt: &R,
     alloc: Global,
     hall: &Hall<D>,
@@ -103,30 +87,14 @@ fn refresh_output_shared<R: Threads + Wait + Sync, D: Disk>(
     requires at { IsAt hall.now session.old }
     ensures at { IsAt hall.now session.new }
     ensures refreshed { Does hall.now session.old session.new (λ start log low own. IsRefreshed start log low output result own) }
+    ensures stopped { KnowsStopped hall.now session.old → IsOfStopped result }
 {
-    let next = plan_output_shared(rt, alloc, hall, session, output, threads);
-    land_next(rt, alloc, hall, session, output, next)
-}
-
-/// Returns what is planned for an output after the whole history.
-fn plan_output<R: Wait, D: Disk>(
-    rt: &R,
-    alloc: Global,
-    hall: &Hall<D>,
-    session: &mut Session<D>,
-    output: u32,
-) -> Result<Next, AllocError>
-    requires at { IsAt hall.now session.old }
-    ensures at { IsAt hall.now session.new }
-    ensures looks { Looks hall.now session.old session.new }
-    ensures next { IsNextAt hall.now session.new output result }
-{
-    let snapshot = session.admit(rt, hall)?;
-    next_plan(alloc, &snapshot, output)
+    let next = plan_output(rt, alloc, hall, session, output, threads);
+    land_next(rt, alloc, hall, session, output, next, threads)
 }
 
 /// Returns what is planned for an output after the whole history. At most `threads` threads work on it at once, this one among them.
-fn plan_output_shared<R: Threads + Wait + Sync, D: Disk>(
+fn plan_output<R: Threads + Wait + Sync, D: Disk>(
     rt: &R,
     alloc: Global,
     hall: &Hall<D>,
@@ -143,14 +111,15 @@ fn plan_output_shared<R: Threads + Wait + Sync, D: Disk>(
     next_plan_shared(rt, alloc, &snapshot, output, threads)
 }
 
-/// Lands what is planned for an output, if that is a plan.
-fn land_next<R: Wait, D: Disk>(
+/// Lands what is planned for an output, if that is a plan, by at most `threads` threads.
+fn land_next<R: Threads + Wait + Sync, D: Disk>(
     rt: &R,
     alloc: Global,
     hall: &Hall<D>,
     session: &mut Session<D>,
     output: u32,
     next: Result<Next, AllocError>,
+    threads: usize,
 ) -> Refreshed
     requires at { IsAt hall.now session.old }
     requires next { IsNextAt hall.now session.old output next }
@@ -160,20 +129,21 @@ fn land_next<R: Wait, D: Disk>(
 {
     match next {
         Ok(Next::UpToDate { version }) => Refreshed::Current { version },
-        Ok(Next::Plan(plan)) => land(rt, alloc, hall, session, output, &plan),
+        Ok(Next::Plan(plan)) => land(rt, alloc, hall, session, output, &plan, threads),
         // An output stays one: it has a plan or is up to date, unless there is no memory.
         Ok(Next::NotOutput) | Err(_) => Refreshed::Refused(LandFault::Want),
     }
 }
 
-/// Lands the plan of an output.
-fn land<R: Wait, D: Disk>(
+/// Lands the plan of an output, by at most `threads` threads.
+fn land<R: Threads + Wait + Sync, D: Disk>(
     rt: &R,
     alloc: Global,
     hall: &Hall<D>,
     session: &mut Session<D>,
     output: u32,
     plan: &Plan,
+    threads: usize,
 ) -> Refreshed
     requires at { IsAt hall.now session.old }
     requires planned { IsPlannedAt hall.now session.old output plan.now }
@@ -181,7 +151,7 @@ fn land<R: Wait, D: Disk>(
     ensures refreshed { Does hall.now session.old session.new (λ start log low own. IsRefreshed start log low output result own) }
     ensures stopped { KnowsStopped hall.now session.old → IsOfStopped result }
 {
-    match session.land(rt, alloc, hall, plan) {
+    match session.land(rt, alloc, hall, plan, threads) {
         Ok(receipt) => Refreshed::Landed {
             version: receipt.version,
         },

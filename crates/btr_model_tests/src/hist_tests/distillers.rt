@@ -6,7 +6,7 @@ use super::histories::{
 use super::questions::{Ask, Asked};
 use super::{many_ranges, streams};
 use crate::fixture::{Row, all_hold};
-use btr_base::{END, FIRST};
+use btr_base::{END, FIRST, Ranges};
 use btr_hist::{At, Entry, History, Kernel, Reads, Rejection, Spec, distillate_change_rejection};
 use std::alloc::Global;
 use std::test::Fail;
@@ -523,8 +523,8 @@ impl Row for Change {
     fn holds(&self, alloc: Global) -> Result<bool, Fail> {
         let ranges = many_ranges(alloc, 65537)?;
         let added = runs(alloc, self.0)?;
-        let with_ranges = distillate_change_rejection(ranges.as_slice(), added.as_slice());
-        let without = distillate_change_rejection(&[], added.as_slice());
+        let with_ranges = distillate_change_rejection(&ranges, &added);
+        let without = distillate_change_rejection(&Ranges::none(alloc), &added);
         Ok(with_ranges == self.1 && without == self.1)
     }
 }

@@ -251,7 +251,7 @@ fn chain(rt: &(impl AllocGlobal + Threads + Wait + Sync)) -> Result<MemDisk, Fai
     Ok(run_on(rt, "live", lines, store_of(rt, "64")?)?.disk)
 }
 
-/// Returns the bytes of the device after `distil` with so many workers, a late point in the middle, and `distil` again.
+/// Returns the bytes of the device after `distil` with this many workers, a late point in the middle, and `distil` again.
 fn distilled_by(
     rt: &(impl AllocGlobal + Threads + Wait + Sync),
     workers: u8,

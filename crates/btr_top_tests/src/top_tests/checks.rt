@@ -202,9 +202,9 @@ fn a_changed_byte_is_named_by_its_block(rt: HostRuntime) -> Result<(), Fail> {
     no_wrong(first_wrong_byte(&rt, &whole, TURNED)?)
 }
 
-/// The same two entries with a checkpoint after them: the gate 9, the body 10, and the superblock B, which names it. Of the body its number
-/// and a byte of an id, which are not those of the entries then; of the superblock its tail and its checkpoint; the gate of B, without which
-/// A counts; the gates of the log, without which it has no such checkpoint.
+/// The two entries of [`TURNED`] with a checkpoint after them: the gate 9, the body 10, and the superblock B, which names it. The bytes
+/// are: of the body its number and a byte of an id, which are then not those of the entries; of the superblock its tail and its
+/// checkpoint; the gate of B, without which A counts; the gates of the log, without which it has no such checkpoint.
 const TURNED_MARKED: &[(usize, &str, u8)] = &[
     (10 * 4096 + 23, "no damaged 10\n", 7),
     (10 * 4096 + 83, "no damaged 10\n", 7),

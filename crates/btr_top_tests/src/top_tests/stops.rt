@@ -51,7 +51,7 @@ struct Given<D> {
 
 /// What the runs gave.
 #[derive(Drop)]
-struct Told<D> {
+struct Reported<D> {
     disk: D,
     /// The text of the first run.
     first: String,
@@ -187,7 +187,7 @@ fn run_all<D: Disk + Send + Drop>(
     rt: &(impl AllocGlobal + Threads + Wait + Sync),
     script: &[u8],
     disk: D,
-) -> Result<Told<D>, Fail> {
+) -> Result<Reported<D>, Fail> {
     let first = run_word(rt, "live", script, disk)?;
     let second = run_word(rt, "checkpoint", b"", first.disk)?;
     let third = run_word(rt, "live", b"insert W 40 1\nstreams\n", second.disk)?;
@@ -197,7 +197,7 @@ fn run_all<D: Disk + Send + Drop>(
     let acknowledged = acknowledged_in(first.text.as_str()).saturating_add(acknowledged_in(
         third.text.as_str(),
     ));
-    Ok(Told {
+    Ok(Reported {
         disk: last.disk,
         acknowledged,
         failed,
@@ -255,8 +255,8 @@ fn images_go_on(
 }
 
 /// Whether the first run says what it says if the device fails in this call, and the question of the third run is answered.
-fn says<D>(told: &Told<D>, first: &str) -> bool {
-    told.is_answered && told.first.as_str().starts_with(first)
+fn says<D>(reported: &Reported<D>, first: &str) -> bool {
+    reported.is_answered && reported.first.as_str().starts_with(first)
 }
 
 /// Whether the runs say and leave what they must if the device stops after this many calls. Only after all calls no run fails.
@@ -266,11 +266,11 @@ fn is_good_stop(
     calls: u64,
 ) -> Result<bool, Fail> {
     let first = first_text(rt.alloc(), calls)?;
-    let told = run_all(rt, script, FuseDisk::new(store_of(rt, "64")?, calls))?;
-    if !says(&told, first.as_str()) || told.is_whole != (calls >= CALLS) {
+    let reported = run_all(rt, script, FuseDisk::new(store_of(rt, "64")?, calls))?;
+    if !says(&reported, first.as_str()) || reported.is_whole != (calls >= CALLS) {
         return Ok(false);
     }
-    images_go_on(rt, &told.disk.into_disk(), told.acknowledged)
+    images_go_on(rt, &reported.disk.into_disk(), reported.acknowledged)
 }
 
 /// Returns the first number of calls, of those from `from` to `to`, after which a stop is wrong.
@@ -305,11 +305,11 @@ fn is_good_fault(
     call: u64,
 ) -> Result<bool, Fail> {
     let first = first_text(rt.alloc(), call)?;
-    let told = run_all(rt, script, failing_store(rt, call)?)?;
-    if !says(&told, first.as_str()) || told.failed != 1 || told.disk.faults() != 1 {
+    let reported = run_all(rt, script, failing_store(rt, call)?)?;
+    if !says(&reported, first.as_str()) || reported.failed != 1 || reported.disk.faults() != 1 {
         return Ok(false);
     }
-    goes_on(rt, told.disk, told.acknowledged)
+    goes_on(rt, reported.disk, reported.acknowledged)
 }
 
 /// Returns the first call whose fault is wrong.
@@ -343,8 +343,8 @@ fn each_call_of_the_runs_may_fail(rt: HostRuntime) -> Result<(), Fail> {
 /// Runs all on a device that does not fail. Returns its calls, and the acknowledged entries.
 fn counted(rt: &(impl AllocGlobal + Threads + Wait + Sync)) -> Result<(u64, u64), Fail> {
     let script = first_script(rt.alloc())?;
-    let told = run_all(rt, script.as_bytes(), store_of(rt, "64")?)?;
-    Ok((told.disk.calls(), told.acknowledged))
+    let reported = run_all(rt, script.as_bytes(), store_of(rt, "64")?)?;
+    Ok((reported.disk.calls(), reported.acknowledged))
 }
 
 #[test]

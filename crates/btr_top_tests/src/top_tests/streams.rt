@@ -88,7 +88,7 @@ fn words_that_are_no_command_make_no_call(rt: HostRuntime) -> Result<(), Fail> {
     Ok(())
 }
 
-/// Runs a script on a store of so many blocks. Returns whether it gives this text and status.
+/// Runs a script on a store of this many blocks. Returns whether it gives this text and status.
 fn says(
     rt: &(impl AllocGlobal + Threads + Wait + Sync),
     script: &[u8],

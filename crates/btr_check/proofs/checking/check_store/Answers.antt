@@ -12,7 +12,7 @@ pub check_whole-verdict-requires-clause-read : goal.check_whole-verdict-requires
 check_whole-verdict-requires-clause-read g c =
     let a = c.args in
     checked-along g.D.Disk a.disk c.read_judged-disk.result.0 a.found c.read_judged-disk.new.judge c.in-Ok.whole c.read_judged-disk.ensures.reads
-    (λ told. subst (λ r. IfOk r (IsJudgedLog MayStand HasSeen (g.D.Disk.contents a.disk) (first_reading a.found) c.read_judged-disk.new.judge)) c.in-Ok.is (c.read_judged-disk.ensures.read told))
+    (λ reported. subst (λ r. IfOk r (IsJudgedLog MayStand HasSeen (g.D.Disk.contents a.disk) (first_reading a.found) c.read_judged-disk.new.judge)) c.in-Ok.is (c.read_judged-disk.ensures.read reported))
 
 pub returns-in-Ok-clause-verdict : goal.returns-in-Ok-clause-verdict
 returns-in-Ok-clause-verdict g c =

@@ -19,5 +19,5 @@ returns-clause-verdict g c =
     let new = c.judge_trees-trees.new.disk in
     let judged = c.judge_trees-trees.ensures in
     let named = subst (λ cs. IsNamedStart a.found (map mark_of cs)) c.deref.ensures.value (c.is_named.ensures.0 c.if-not-is_named.false) in
-    let here = named-verdict g.D.Disk a.disk new a.found a.checker.now a.whole.now c.requires.chosen c.requires.read named c.judge_trees-trees.result (λ told. judged.found told a.found) judged.cause in
+    let here = named-verdict g.D.Disk a.disk new a.found a.checker.now a.whole.now c.requires.chosen c.requires.read named c.judge_trees-trees.result (λ reported. judged.found reported a.found) judged.cause in
     subst (VerdictBetween g.D.Disk a.disk new) (sym c.verdict_of_trees-verdict.ensures) (rw c.entries.ensures here)

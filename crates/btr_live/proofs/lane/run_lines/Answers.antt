@@ -4,9 +4,9 @@ use Rattle.btr_text.specs.declared.reply.LineReply.{LineReply}
 use Rattle.btr_jobs.specs.Jobs.{Does}
 use Rattle.btr_jobs.proofs.DoesLemmas.{does_none, does_then}
 use Rattle.btr_live.specs.Feeds.{FeedsValue, none_waiting, waiting_of}
-use Rattle.btr_live.specs.Serving.{LineAsks, Serves, was_told, ServesIn}
+use Rattle.btr_live.specs.Serving.{LineAsks, Serves, was_reported, ServesIn}
 use Rattle.btr_live.specs.Running.{RunsTo}
-use Rattle.btr_live.proofs.ToldLemmas.{has_failed, told_failed}
+use Rattle.btr_live.proofs.ReportedLemmas.{has_failed, reported_failed}
 use Rattle.btr_live.proofs.LaneLemmas.{runs_none, runs_push, split-push}
 use Rattle.btr_live.proofs.lane.run_lines.Goals as goal
 
@@ -32,8 +32,8 @@ loop-line-preserved g c =
     let after = waiting_of c.answer_line-reply.new.feeds in
     let reply = c.answer_line-reply.result in
     let line = c.in-Some.line in
-    let told = c.loop-line.replies.items in
-    let seen = was_told c.args.hall.now c.loop-line.session in
+    let reported = c.loop-line.replies.items in
+    let seen = was_reported c.args.hall.now c.loop-line.session in
     record {
       split = split-push c.loop-line.yielded c.loop-line.line-iterator.rest.items c.next.new.self.rest.items c.args.lines.items line before.split c.in-Some.ensures.steps.0;
       batch = c.answer_line-reply.ensures.batch ∙ before.batch;
@@ -43,11 +43,11 @@ loop-line-preserved g c =
           omega (arith, rest, before.room, c.push_back_reserved.ensures.len, c.push_back_reserved.ensures.capacity);
       runs = subst (λ (rs : List LineReply). Does c.args.hall.now c.args.session.now c.answer_line-reply.new.session (λ start log low own. RunsTo batch start log low (c.loop-line.yielded ++ line ∷ []) rs own after)) (sym c.push_back_reserved.ensures.items)
           (does_then c.args.hall.now c.args.session.now c.loop-line.session c.answer_line-reply.new.session
-          (λ start log low own. RunsTo batch start log low c.loop-line.yielded told own w × (seen ≡ has_failed start log))
+          (λ start log low own. RunsTo batch start log low c.loop-line.yielded reported own w × (seen ≡ has_failed start log))
           (λ start log low own. Serves start log seen low (LineAsks batch w line reply after) reply own)
-          (λ start log low own. RunsTo batch start log low (c.loop-line.yielded ++ line ∷ []) (told ++ reply ∷ []) own after)
+          (λ start log low own. RunsTo batch start log low (c.loop-line.yielded ++ line ∷ []) (reported ++ reply ∷ []) own after)
           c.answer_line-reply.ensures.at
-          (λ start late early low a b on starts first second. runs_push batch start late early low c.loop-line.yielded told line reply w after a b seen on first.1 first.0 second)
-          (before.runs.0, before.runs.1, λ h of. (before.runs.2 h of, told_failed h c.args.hall.now c.loop-line.session))
+          (λ start late early low a b on starts first second. runs_push batch start late early low c.loop-line.yielded reported line reply w after a b seen on first.1 first.0 second)
+          (before.runs.0, before.runs.1, λ h of. (before.runs.2 h of, reported_failed h c.args.hall.now c.loop-line.session))
           (subst (λ b. ServesIn c.args.hall.now c.loop-line.session c.answer_line-reply.new.session (LineAsks b w line reply after) reply) before.batch c.answer_line-reply.ensures.line));
     }

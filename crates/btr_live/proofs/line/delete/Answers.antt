@@ -27,11 +27,11 @@ returns-in-None-clause-serves g c =
     (λ h of. sym (ap (λ (o : Option ℕ). on_stream o (λ s. delete s c.args.from c.args.to)) (c.in-None.ensures.found h of)))
 
 pub delete_range-requires-clause-at : goal.delete_range-requires-clause-at
-delete_range-requires-clause-at g c =
+delete_range-requires-clause-at g c κs outlives =
     look_at c.args.hall.now c.args.session.now c.find.new.self c.find.ensures.looks c.find.ensures.session
 
 pub delete_range-requires-clause-found : goal.delete_range-requires-clause-found
-delete_range-requires-clause-found g c = λ h of. (c.args.id, c.in-Some.ensures.found h of)
+delete_range-requires-clause-found g c κs outlives = λ h of. (c.args.id, c.in-Some.ensures.found h of)
 
 pub returns-in-Some-new-clause-serves : goal.returns-in-Some-new-clause-serves
 returns-in-Some-new-clause-serves g c =

@@ -9,11 +9,11 @@ use Rattle.btr_hall.specs.Session.{opening_of, seen_of, engine_of}
 use Rattle.btr_jobs.specs.States.{log_seen}
 use Rattle.btr_jobs.proofs.StateLemmas.{history_goes_on}
 use Rattle.btr_jobs.proofs.TurnLemmas.{look_at}
-use Rattle.btr_live.specs.Serving.{was_told}
+use Rattle.btr_live.specs.Serving.{was_reported}
 use Rattle.btr_live.proofs.FeedLines.{output_is, plain_is}
 use Rattle.btr_live.proofs.DeleteLines.{delete-output, delete-lacks}
 use Rattle.btr_live.proofs.StreamLemmas.{stream_of-longer, is_output-longer}
-use Rattle.btr_live.proofs.ToldLemmas.{told_failed, told_some, told_none, told_not}
+use Rattle.btr_live.proofs.ReportedLemmas.{reported_failed, reported_some, reported_none, reported_not}
 use Rattle.btr_live.proofs.ServeLemmas.{look_commits}
 use Rattle.btr_live.proofs.line.refuse_range.Goals as goal
 
@@ -35,11 +35,11 @@ returns-in-Some-clause-replies g c = λ range.
     let new = c.stopped.new.self in
     look_commits hall c.args.session.now new (Commit c.args.found.stream (range ∷ []) []) (Err (Stopped c.in-Some.entries)) refl c.stopped.ensures.looks
     (λ h of.
-    let told = told_some (was_told hall new) _ c.in-Some.entries (sym (c.stopped.ensures.entries h of) ∙ c.in-Some.is) in (
-      record { stopped = sym (told_failed h hall new) ∙ told.0; last = refl; entries = told.1 },
+    let reported = reported_some (was_reported hall new) _ c.in-Some.entries (sym (c.stopped.ensures.entries h of) ∙ c.in-Some.is) in (
+      record { stopped = sym (reported_failed h hall new) ∙ reported.0; last = refl; entries = reported.1 },
       record { own = refl; next = refl },
     ))
-    (λ h of told. (c.in-Some.entries, refl))
+    (λ h of reported. (c.in-Some.entries, refl))
 
 pub returns-in-Some-spec-clause-replies : goal.returns-in-Some-spec-clause-replies
 returns-in-Some-spec-clause-replies g c = λ range.
@@ -58,7 +58,7 @@ returns-in-Some-spec-clause-replies g c = λ range.
           (is_output-longer (log_seen h new).history (log_seen h old).history found.0 stream starts there ∙ output),
       record { own = refl; next = refl },
     ))
-    (λ h of told. told_not _ (was_told hall new) (told_none (was_told hall new) _ (sym (c.stopped.ensures.entries h of) ∙ c.in-None.is)) told)
+    (λ h of reported. reported_not _ (was_reported hall new) (reported_none (was_reported hall new) _ (sym (c.stopped.ensures.entries h of) ∙ c.in-None.is)) reported)
 
 pub returns-in-None-spec-clause-replies : goal.returns-in-None-spec-clause-replies
 returns-in-None-spec-clause-replies g c = λ range.
@@ -78,4 +78,4 @@ returns-in-None-spec-clause-replies g c = λ range.
           (is_output-longer (log_seen h new).history (log_seen h old).history found.0 stream starts there ∙ plain),
       record { own = refl; next = refl },
     ))
-    (λ h of told. told_not _ (was_told hall new) (told_none (was_told hall new) _ (sym (c.stopped.ensures.entries h of) ∙ c.in-None.is)) told)
+    (λ h of reported. reported_not _ (was_reported hall new) (reported_none (was_reported hall new) _ (sym (c.stopped.ensures.entries h of) ∙ c.in-None.is)) reported)

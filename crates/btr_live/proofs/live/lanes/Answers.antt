@@ -32,7 +32,7 @@ returns-clause-runs g c =
     let replies = c.in_order.new.replies.items in
     let each : length replies ≡ length script = c.in_order.ensures.each ∙ ap length same ∙ length-map script (λ (line : ScriptLine). line.lane) in
     let lanes = c.as_slice-lanes.result.now in
-    let told : ((k : ℕ) → length (replies_at after k) ≡ length (of_lane k lanes lanes)) → (k : ℕ) → of_lane k (lanes_of script) replies ≡ replies_at after k = λ as_many k.
+    let reported : ((k : ℕ) → length (replies_at after k) ≡ length (of_lane k lanes lanes)) → (k : ℕ) → of_lane k (lanes_of script) replies ≡ replies_at after k = λ as_many k.
     subst (λ ls. of_lane k ls replies ≡ replies_at after k) same (c.in_order.ensures.in_lanes as_many k) in
     does_then hall old mid new
     (λ start log low own. AllDid PartDid start log low before after own)
@@ -42,6 +42,6 @@ returns-clause-runs g c =
     (λ start late early low a b on starts did last.
     live_ran batch c.args.materialize script report start late early low a b on starts
     (lanes_ran batch script before after have lines c.args.materialize parties replies each
-    (told (left_each batch script before after have lines lanes same start early low a starts did)) start early low a starts did) last)
+    (reported (left_each batch script before after have lines lanes same start early low a starts did)) start early low a starts did) last)
     c.run_jobs.ensures.does
     c.last_round-last.ensures.last

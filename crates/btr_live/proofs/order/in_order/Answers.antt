@@ -22,13 +22,13 @@ loop-lane-preserved c =
     let rest = drop (i + 1) lanes in
     let all = replies_at c.args.parts.now in
     let has : HasLeft all lanes → HasLeft left (lane ∷ rest) = λ each. subst (HasLeft left) (drop_more lanes i 0 low) (before.left each) in
-    let told = λ (each : HasLeft all lanes). c.next_reply-reply.ensures.told (left-first left lane rest (has each)) in
+    let reported = λ (each : HasLeft all lanes). c.next_reply-reply.ensures.reported (left-first left lane rest (has each)) in
     record {
       each = omega (arith, more, before.each);
       room = omega (arith, before.room, c.push_reserved.ensures.capacity);
-      left = λ each. left-more left after lane reply rest (has each) (told each);
+      left = λ each. left-more left after lane reply rest (has each) (reported each);
       placed = λ each.
           subst (λ ls. HasPlaced all after ls c.push_reserved.new.self.items) (sym (take_more lanes i 0 low))
           (subst (λ rs. HasPlaced all after (take i lanes ++ lane ∷ []) rs) (sym items)
-          (placed-more all left after (take i lanes) placed lane reply (before.each ∙ sym long) (before.placed each) (told each)));
+          (placed-more all left after (take i lanes) placed lane reply (before.each ∙ sym long) (before.placed each) (reported each)));
     }

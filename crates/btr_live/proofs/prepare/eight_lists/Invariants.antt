@@ -3,7 +3,7 @@ use Rattle.std.proofs.Common.{◌≡◌, ℕ, [], length}
 use Rattle.btr_live.specs.Parts.{list_at}
 use Rattle.btr_live.proofs.prepare.eight_lists.Given as goal
 
--- so many lists were made, and they are empty
+-- this many lists were made, and they are empty
 abbrev pub invariant-loop : goal.invariant-loop
 invariant-loop l = record {
   count : length l.lists.items ≡ l.counter;

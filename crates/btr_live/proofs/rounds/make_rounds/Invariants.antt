@@ -3,7 +3,7 @@ use Rattle.btr_jobs.specs.Jobs.{IsAt, Does}
 use Rattle.btr_live.specs.Rounds.{MakesRounds}
 use Rattle.btr_live.proofs.rounds.make_rounds.Given as goal
 
--- so many rounds were made at most
+-- this many rounds were made at most
 abbrev pub invariant-loop : goal.invariant-loop
 invariant-loop g l = record {
   at : IsAt l.fn.hall l.session;

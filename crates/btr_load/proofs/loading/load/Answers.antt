@@ -68,14 +68,14 @@ returns-clause-loads g c =
     let last = c.run_jobs.new.jobs in
     let refused = c.into_parts-rows.result.1.items in
     let all : LoadedValue = record { streams = last; refused = refused } in
-    let told : c.from_parts.result ≡ all = c.from_parts.ensures ∙ ap (λ s. record { streams = s; refused = refused }) (ended g at) in
+    let reported : c.from_parts.result ≡ all = c.from_parts.ensures ∙ ap (λ s. record { streams = s; refused = refused }) (ended g at) in
     does_then c.args.hall.now c.args.session.now c.create_streams.new.session c.run_jobs.new.session
     (Settled g at)
     (λ start log low own. AllDid CommitsStream start log low c.deref_mut-2.result.now last own)
     (λ start log low own. Loads start log low c.args.rows c.args.batch c.from_parts.result own)
     c.run_jobs.ensures.at
     (λ start late early low a b on starts first then.
-    subst (λ l. Loads start late low c.args.rows c.args.batch l (a ++ b)) (sym told)
+    subst (λ l. Loads start late low c.args.rows c.args.batch l (a ++ b)) (sym reported)
     (load_is start late early low c.args.rows c.args.batch c.deref_mut.result.now c.create_streams.new.streams last refused a b c.into_parts-rows.ensures.refused
     (planned_at g at low first.0) (ready_at g at) on first.1 (subst (λ l. AllDid CommitsStream start late early.history l last b) (begun g at) then)))
     (settles g at) c.run_jobs.ensures.does
@@ -86,14 +86,14 @@ returns-clause-in_turn g c few =
     let last = c.run_jobs.new.jobs in
     let refused = c.into_parts-rows.result.1.items in
     let all : LoadedValue = record { streams = last; refused = refused } in
-    let told : c.from_parts.result ≡ all = c.from_parts.ensures ∙ ap (λ s. record { streams = s; refused = refused }) (ended g at) in
+    let reported : c.from_parts.result ≡ all = c.from_parts.ensures ∙ ap (λ s. record { streams = s; refused = refused }) (ended g at) in
     does_then c.args.hall.now c.args.session.now c.create_streams.new.session c.run_jobs.new.session
     (Settled g at)
     (λ start log low own. DidInTurn CommitsStream start log low c.deref_mut-2.result.now last own)
     (λ start log low own. LoadsInTurn start log low c.args.rows c.args.batch c.from_parts.result own)
     c.run_jobs.ensures.at
     (λ start late early low a b on starts first then.
-    subst (λ l. LoadsInTurn start late low c.args.rows c.args.batch l (a ++ b)) (sym told)
+    subst (λ l. LoadsInTurn start late low c.args.rows c.args.batch l (a ++ b)) (sym reported)
     (load_turn start late early low c.args.rows c.args.batch c.deref_mut.result.now c.create_streams.new.streams last refused a b c.into_parts-rows.ensures.refused
     (planned_at g at low first.0) (ready_at g at) on first.1 (subst (λ l. DidInTurn CommitsStream start late early.history l last b) (begun g at) then)))
     (settles g at) (c.run_jobs.ensures.in_turn few)

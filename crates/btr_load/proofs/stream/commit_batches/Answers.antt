@@ -23,17 +23,17 @@ loop-i-preserved g c =
     let stream = c.args.stream in
     let points = c.args.points.now in
     let result = c.commit_batch.result in
-    let told = take c.loop-i.i c.loop-i.results in
+    let reported = take c.loop-i.i c.loop-i.results in
     record {
       at = c.commit_batch.ensures.at;
       long = length-set c.loop-i.results c.loop-i.i result ∙ inv.long;
       does = does_then c.args.hall.now c.args.session.now c.loop-i.session c.commit_batch.new.session
-          (λ start log low own. SomeDone start log low stream c.args.batch points rest told own)
+          (λ start log low own. SomeDone start log low stream c.args.batch points rest reported own)
           (λ start log low own. OneBatchDid start log low stream c.split_at.result.0.now result own)
           (λ start log low own. SomeDone start log low stream c.args.batch points c.split_at.result.1.now (take (c.loop-i.i + 1) (set c.loop-i.results c.loop-i.i result)) own)
           c.commit_batch.ensures.at
           (λ start late early low a b on starts was one.
-          done_step start late early low stream c.args.batch points rest c.split_at.result.0.now c.split_at.result.1.now told (take (c.loop-i.i + 1) (set c.loop-i.results c.loop-i.i result)) result a b
+          done_step start late early low stream c.args.batch points rest c.split_at.result.0.now c.split_at.result.1.now reported (take (c.loop-i.i + 1) (set c.loop-i.results c.loop-i.i result)) result a b
           (cut.front ∙ ap (λ n. take n rest) size ∙ take_min c.args.batch rest)
           (cut.back ∙ ap (λ n. drop n rest) size ∙ drop_min c.args.batch rest)
           (take_more_set c.loop-i.results c.loop-i.i result (omega (arith, inv.long)))
@@ -46,11 +46,11 @@ returns-clause-does g c =
     let inv = c.loop-i.invariant in
     let stream = c.args.stream in
     let points = c.args.points.now in
-    let told = take c.loop-i.i c.loop-i.results in
-    let whole : told ≡ c.loop-i.results = take_all c.loop-i.i c.loop-i.results (omega (arith, inv.long)) in
+    let reported = take c.loop-i.i c.loop-i.results in
+    let whole : reported ≡ c.loop-i.results = take_all c.loop-i.i c.loop-i.results (omega (arith, inv.long)) in
     does_implied c.args.hall.now c.args.session.now c.loop-i.session
-    (λ start log low own. SomeDone start log low stream c.args.batch points c.loop-i.rest.now told own)
+    (λ start log low own. SomeDone start log low stream c.args.batch points c.loop-i.rest.now reported own)
     (λ start log low own. AllBatchesDid start log low stream c.args.batch points c.args.results.now c.loop-i.results own)
     (λ start log low own was. subst (λ l. AllBatchesDid start log low stream c.args.batch points c.args.results.now l own) whole
-    (done_all start log low stream c.args.batch points c.loop-i.rest.now c.args.results.now told own (ap length whole ∙ inv.long) was))
+    (done_all start log low stream c.args.batch points c.loop-i.rest.now c.args.results.now reported own (ap length whole ∙ inv.long) was))
     inv.does

@@ -2,7 +2,7 @@
 use Rattle.btr_store.specs.Live.{LivesStore}
 use Rattle.btr_store.specs.LiveLines.{Lives}
 use Rattle.btr_store.proofs.WorkLemmas.{does_rightly, does_more}
-use Rattle.btr_store.proofs.LiveLemmas.{lives_allowed, lives_told, lives_store}
+use Rattle.btr_store.proofs.LiveLemmas.{lives_allowed, lives_reported, lives_store}
 use Rattle.btr_store.proofs.live.live_store.Goals as goal
 
 pub returns-clause-plain : goal.returns-clause-plain
@@ -12,7 +12,7 @@ pub returns-clause-done : goal.returns-clause-done
 returns-clause-done g c = λ seen h held.
     let disk = g.D.Disk in
     let said = c.live-said.result in
-    let told = c.close_hall.result.said in
+    let reported = c.close_hall.result.said in
     let script = c.args.lines.items in
     let batch = c.args.batch in
     let materialize = c.args.materialize in
@@ -22,10 +22,10 @@ returns-clause-done g c = λ seen h held.
     let session = c.in_ok-hall.session in
     let old = c.args.disk in
     let new = c.close_hall.result.disk in
-    does_more disk (λ start log own. Lives batch materialize script start log start.history said own) (λ start log own. LivesStore batch materialize script start log told own) old new
+    does_more disk (λ start log own. Lives batch materialize script start log start.history said own) (λ start log own. LivesStore batch materialize script start log reported own) old new
     (λ start log own works legal is.
-    lives_store c.runs_are_one_history.ensures c.one_lane_is_the_model.ensures c.last_is_current.ensures batch materialize script start log own works.each_once works.not_stopped works.follows works.fits told
-    (lives_told batch materialize script start log start.history said told own c.close_hall.ensures.said is))
+    lives_store c.runs_are_one_history.ensures c.one_lane_is_the_model.ensures c.last_is_current.ensures batch materialize script start log own works.each_once works.not_stopped works.follows works.fits reported
+    (lives_reported batch materialize script start log start.history said reported own c.close_hall.ensures.said is))
     (does_rightly disk (λ start log low own. Lives batch materialize script start log low said own) old new hall session c.live-said.new.session
     (λ start log own is. lives_allowed batch materialize script start log said own is)
     begun h on.at_rest.of c.live-said.ensures.does

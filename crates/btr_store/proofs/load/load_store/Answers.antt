@@ -3,7 +3,7 @@ use Rattle.std.proofs.Common.{inl, inr}
 use Rattle.std.proofs.lemmas.Bool.{cases_lt}
 use Rattle.btr_store.specs.Load.{LoadsRows, LoadsRowsInTurn, LoadsStore}
 use Rattle.btr_store.proofs.WorkLemmas.{does_rightly, does_more}
-use Rattle.btr_store.proofs.LoadLemmas.{loads_said, turn_said, loads_if_allowed, loads_told, turn_told, loads_store, loads_store_in_order}
+use Rattle.btr_store.proofs.LoadLemmas.{loads_said, turn_said, loads_if_allowed, loads_reported, turn_reported, loads_store, loads_store_in_order}
 use Rattle.btr_store.proofs.load.load_store.Goals as goal
 
 pub returns-clause-plain : goal.returns-clause-plain
@@ -17,7 +17,7 @@ returns-clause-done g c = λ seen h held.
     let workers = c.args.workers in
     let loaded = c.load-loaded.result in
     let said = c.say_loaded-said.result in
-    let told = c.close_hall.result.said in
+    let reported = c.close_hall.result.said in
     let begun = c.in_ok-hall.ensures.begun in
     let on = begun.opened.stood seen h held in
     let hall = c.in_ok-hall.hall in
@@ -27,18 +27,18 @@ returns-clause-done g c = λ seen h held.
     let new = c.close_hall.result.disk in
     elim (cases_lt 1 workers) [
       | inl many ↦
-          does_more disk (λ start log own. LoadsRows start log start.history rows batch said own) (λ start log own. LoadsStore start log rows batch workers told own) old new
-          (λ start log own works legal is. loads_store disk old new start log rows batch workers own told works many
-          (loads_told start log start.history rows batch said told own c.close_hall.ensures.said is))
+          does_more disk (λ start log own. LoadsRows start log start.history rows batch said own) (λ start log own. LoadsStore start log rows batch workers reported own) old new
+          (λ start log own works legal is. loads_store disk old new start log rows batch workers own reported works many
+          (loads_reported start log start.history rows batch said reported own c.close_hall.ensures.said is))
           (does_rightly disk (λ start log low own. LoadsRows start log low rows batch said own) old new hall session last
           (λ start log own is. loads_if_allowed start log start.history rows batch is.loaded own is.loads)
           begun h on.at_rest.of
           (loads_said hall session last rows batch loaded said c.load-loaded.ensures.loads c.load-loaded.ensures.refused c.say_loaded-said.ensures)
           (λ own goes. c.close_hall.ensures.works old begun.opened session own begun.begins goes h on))
       | inr few ↦
-          does_more disk (λ start log own. LoadsRowsInTurn start log start.history rows batch said own) (λ start log own. LoadsStore start log rows batch workers told own) old new
-          (λ start log own works legal is. loads_store_in_order disk old new start log rows batch workers own told works
-          (turn_told start log start.history rows batch said told own c.close_hall.ensures.said is))
+          does_more disk (λ start log own. LoadsRowsInTurn start log start.history rows batch said own) (λ start log own. LoadsStore start log rows batch workers reported own) old new
+          (λ start log own works legal is. loads_store_in_order disk old new start log rows batch workers own reported works
+          (turn_reported start log start.history rows batch said reported own c.close_hall.ensures.said is))
           (does_rightly disk (λ start log low own. LoadsRowsInTurn start log low rows batch said own) old new hall session last
           (λ start log own is. loads_if_allowed start log start.history rows batch is.did.loaded own is.did.loads)
           begun h on.at_rest.of

@@ -12,10 +12,10 @@ returns-in_err-filled-in-0-clause-does g c =
     let mid = c.admit.new.self in
     let new = c.fill.new.session in
     let entries = c.entries.result in
-    let told = c.from_residual-in_err-filled-in-0.result in
-    sampled_empty p.number p.streams p.points hall old mid new entries told c.in-0.is c.in_err-filled-in-0.ensures.at
+    let reported = c.from_residual-in_err-filled-in-0.result in
+    sampled_empty p.number p.streams p.points hall old mid new entries reported c.in-0.is c.in_err-filled-in-0.ensures.at
     (look_alone hall old mid c.in_ok-snapshot.ensures.looks c.requires.alone (λ h. entries ≡ length h) (λ h of. c.entries.ensures _ (c.in_ok-snapshot.ensures.snapshot h of)))
-    (fills_none p.number p.streams p.points hall mid new c.in_err-filled-in-0.field-0.0 told c.from_residual-in_err-filled-in-0.ensures.0 c.in_err-filled-in-0.ensures.does)
+    (fills_none p.number p.streams p.points hall mid new c.in_err-filled-in-0.field-0.0 reported c.from_residual-in_err-filled-in-0.ensures.0 c.in_err-filled-in-0.ensures.does)
 
 pub returns-in-0-clause-does : goal.returns-in-0-clause-does
 returns-in-0-clause-does g c =

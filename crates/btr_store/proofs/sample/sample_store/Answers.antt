@@ -2,7 +2,7 @@
 use Rattle.btr_store.specs.Sample.{Samples}
 use Rattle.btr_store.specs.SampleLaw.{SamplesStore}
 use Rattle.btr_store.proofs.WorkLemmas.{does_rightly, does_more}
-use Rattle.btr_store.proofs.SampleLemmas.{samples_allowed, samples_told}
+use Rattle.btr_store.proofs.SampleLemmas.{samples_allowed, samples_reported}
 use Rattle.btr_store.proofs.SampleLawLemmas.{samples_store}
 use Rattle.btr_store.proofs.sample.sample_store.Goals as goal
 
@@ -16,17 +16,17 @@ returns-clause-done g c = λ seen h held.
     let streams = c.args.streams in
     let points = c.args.points in
     let said = c.sample-said.result in
-    let told = c.close_hall.result.said in
+    let reported = c.close_hall.result.said in
     let begun = c.in_ok-hall.ensures.begun in
     let on = begun.opened.stood seen h held in
     let hall = c.in_ok-hall.hall in
     let session = c.in_ok-hall.session in
     let old = c.args.disk in
     let new = c.close_hall.result.disk in
-    does_more disk (λ start log own. Samples number streams points start log start.history said own) (λ start log own. SamplesStore number streams points start log told own) old new
+    does_more disk (λ start log own. Samples number streams points start log start.history said own) (λ start log own. SamplesStore number streams points start log reported own) old new
     (λ start log own works legal is.
-    samples_store number streams points start log own works.each_once works.follows legal told
-    (samples_told number streams points start log start.history said told own c.close_hall.ensures.said is))
+    samples_store number streams points start log own works.each_once works.follows legal reported
+    (samples_reported number streams points start log start.history said reported own c.close_hall.ensures.said is))
     (does_rightly disk (λ start log low own. Samples number streams points start log low said own) old new hall session c.sample-said.new.session
     (λ start log own is. samples_allowed number streams points start log start.history said own is)
     begun h on.at_rest.of c.sample-said.ensures.does

@@ -10,7 +10,7 @@ use Rattle.btr_store.proofs.sample_lines.filled_lines.Goals as goal
 pub returns : goal.returns
 returns c = λ h of.
     let filled = c.args.filled.now in
-    let told = c.in_ok-transcript.ensures in
+    let reported = c.in_ok-transcript.ensures in
     let first = c.in_ok-transcript.transcript in
     let second = c.add_all_spans.new.transcript in
     let third = c.add_undefined.new.transcript in
@@ -18,9 +18,9 @@ returns c = λ h of.
     let last = c.add_summaries.new.transcript in
     let are : AreStreams h c.as_slice-2.result.now = c.as_slice-2.ensures ∙ c.in_ok-streams.ensures h of in
     let are_again : AreStreams h c.as_slice-3.result.now = c.as_slice-3.ensures ∙ c.in_ok-streams.ensures h of in (
-      told.0,
-      told.1,
-      says_five (map row_line told.0) (flat_map stream_spans filled.loaded.streams) (flat_map define_line filled.outputs.items) (flat_map (landing_line h) filled.report) (summary_lines h) first second third fourth last told.2
+      reported.0,
+      reported.1,
+      says_five (map row_line reported.0) (flat_map stream_spans filled.loaded.streams) (flat_map define_line filled.outputs.items) (flat_map (landing_line h) filled.report) (summary_lines h) first second third fourth last reported.2
           (subst (λ l. AddsLines (flat_map stream_spans l) first second) c.streams-2.ensures c.in_ok-add_all_spans.ensures)
           (subst (λ l. AddsLines (flat_map define_line l) second third) c.as_slice.ensures.value c.in_ok-add_undefined.ensures)
           (subst (λ l. AddsLines (flat_map (landing_line h) l) third fourth) c.lines.ensures (c.in_ok-add_landings.ensures h are))

@@ -15,19 +15,19 @@ gives_none most left =
     record { bounded = omega arith; rest = ap (λ n. drop n left) (sym none) }
 
 pub returns-in-Ok-Some-Format-clause-input : goal.returns-in-Ok-Some-Format-clause-input
-returns-in-Ok-Some-Format-clause-input g c = λ told. gives_none 268435457 (g.S.Source.left c.args.source.now)
+returns-in-Ok-Some-Format-clause-input g c = λ reported. gives_none 268435457 (g.S.Source.left c.args.source.now)
 
 pub returns-in-Ok-Some-Format-clause-format_leaves : goal.returns-in-Ok-Some-Format-clause-format_leaves
-returns-in-Ok-Some-Format-clause-format_leaves g c = λ told blocks is.
+returns-in-Ok-Some-Format-clause-format_leaves g c = λ reported blocks is.
     let arm = c.in-Ok-Some-Format in
     let said = sym (arm.field-0-is ∙ ap (λ (x : Command). Some x) arm.field-0-0-is) ∙ arm.ensures.command ∙ is in
-    subst (λ (n : ℕ). FormatLeaves g.D.Disk n c.args.disk c.make_store.result.disk) (same_blocks _ blocks said) (c.make_store.ensures.format_leaves told)
+    subst (λ (n : ℕ). FormatLeaves g.D.Disk n c.args.disk c.make_store.result.disk) (same_blocks _ blocks said) (c.make_store.ensures.format_leaves reported)
 
 pub returns-in-Ok-Some-Sample-clause-input : goal.returns-in-Ok-Some-Sample-clause-input
-returns-in-Ok-Some-Sample-clause-input g c = λ told. gives_none 268435457 (g.S.Source.left c.args.source.now)
+returns-in-Ok-Some-Sample-clause-input g c = λ reported. gives_none 268435457 (g.S.Source.left c.args.source.now)
 
 pub returns-in-Ok-Some-Checkpoint-clause-input : goal.returns-in-Ok-Some-Checkpoint-clause-input
-returns-in-Ok-Some-Checkpoint-clause-input g c = λ told. gives_none 268435457 (g.S.Source.left c.args.source.now)
+returns-in-Ok-Some-Checkpoint-clause-input g c = λ reported. gives_none 268435457 (g.S.Source.left c.args.source.now)
 
 pub returns-in-Ok-Some-Check-clause-input : goal.returns-in-Ok-Some-Check-clause-input
-returns-in-Ok-Some-Check-clause-input g c = λ told. gives_none 268435457 (g.S.Source.left c.args.source.now)
+returns-in-Ok-Some-Check-clause-input g c = λ reported. gives_none 268435457 (g.S.Source.left c.args.source.now)

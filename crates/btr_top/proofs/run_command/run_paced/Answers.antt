@@ -30,10 +30,10 @@ returns g c =
         ends = record { ending = e; cause = did.cause; shown = shown };
         faulted = fault_shown source disk given rest old new sink before after command e status did.cause shown;
         format_leaves = did.format_leaves;
-        formats = λ told blocks is can works. formats_shown source sink disk given rest before after old new command blocks is told can works e status did.cause shown;
-        completes = λ source_told told can works.
+        formats = λ reported blocks is can works. formats_shown source sink disk given rest before after old new command blocks is reported can works e status did.cause shown;
+        completes = λ source_reported reported can works.
             benign_shown sink before after works.others.sink_works e status
-            (plain_run source disk given rest old new c.held_is_sound.ensures c.one_history_is_held.ensures source_told told works.source_works works.others.device_works command can e did.cause)
+            (plain_run source disk given rest old new c.held_is_sound.ensures c.one_history_is_held.ensures source_reported reported works.source_works works.others.device_works command can e did.cause)
             shown;
         kept = did.kept;
       };

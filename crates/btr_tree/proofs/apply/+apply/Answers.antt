@@ -31,7 +31,7 @@ use Rattle.btr_tree.proofs.AppliedNodeLemmas.{untouched-nothing, change-after, o
 use Rattle.btr_tree.specs.NewNodes.{concat_first, new_nodes, bare_all}
 use Rattle.btr_tree.specs.Stored.{IsLaid}
 use Rattle.btr_tree.proofs.StoredLemmas.{laid-below, laid-inner, laid-put, laid-part, laid-all, below-children, below-part}
-use Rattle.btr_tree.proofs.NewNodeLemmas.{first-next, new_nodes-kept, new_nodes-inner_at, told-more, bare-push, counts-none, counts-more}
+use Rattle.btr_tree.proofs.NewNodeLemmas.{first-next, new_nodes-kept, new_nodes-inner_at, reported-more, bare-push, counts-none, counts-more}
 use Rattle.btr_tree.proofs.apply.+apply.Goals as goal
 
 err-weaker : {X Y : Type 0} (r : Result X Y) (P Q : Y → Type 0) → ((y : Y) → P y → Q y) → IfErr r P → IfErr r Q
@@ -341,9 +341,9 @@ apply_slots-loop-i-preserved g t c =
           let parted = at below applied.height in
           let step = step-at span part below i h commit c.slot.result (node_of c.child.result) c.args.cut.now c.args.added.now here behind c.args.version c.args.slots.now applied parted c.loop-i-test.true c.slot-part.ensures c.slot.ensures c.child.ensures in
           let inner = many-inner (suc below) span.start (bag (commit ▷ h)) many in
-          let told = c.in_ok-slot.ensures.nodes (is_inner (suc below) span.start) h commit step.was step.holds (ap (λ (x : Slot). x.agg) step.slot_is) step.change inner some before in
+          let reported = c.in_ok-slot.ensures.nodes (is_inner (suc below) span.start) h commit step.was step.holds (ap (λ (x : Slot). x.agg) step.slot_is) step.change inner some before in
           let f = λ (j : ℕ). new_nodes below (slot_start below span.start j) (is_inner (suc below) span.start) (commit ▷ h) c.args.version in
-          told-more (bare_all c.args.nodes.now.items) (bare_all c.loop-i.nodes.items) (bare_all c.apply_slot.new.nodes.items) (concat_first i f) (f i) (concat_first (i + 1) f) (c.loop-i.invariant.nodes below h commit applied many some before) (told ∙ ap (λ (u : SpanValue). bare_all c.loop-i.nodes.items ++ new_nodes u.height u.start (is_inner (suc below) span.start) (commit ▷ h) c.args.version) parted.is) (first-next i f);
+          reported-more (bare_all c.args.nodes.now.items) (bare_all c.loop-i.nodes.items) (bare_all c.apply_slot.new.nodes.items) (concat_first i f) (f i) (concat_first (i + 1) f) (c.loop-i.invariant.nodes below h commit applied many some before) (reported ∙ ap (λ (u : SpanValue). bare_all c.loop-i.nodes.items ++ new_nodes u.height u.start (is_inner (suc below) span.start) (commit ▷ h) c.args.version) parted.is) (first-next i f);
       counted = counts-more c.args.steps.now c.loop-i.steps c.apply_slot.new.steps c.args.nodes.now.items c.loop-i.nodes.items c.apply_slot.new.nodes.items c.loop-i.invariant.counted c.in_ok-slot.ensures.counted;
       stored = λ store below high low.
           let part_is = (at below high).is in
@@ -393,7 +393,7 @@ apply_slots-loop-i-preserved-then-is_empty-2 g t c =
           let kept = same below h commit applied in
           let f = λ (j : ℕ). new_nodes below (slot_start below span.start j) (is_inner (suc below) span.start) (commit ▷ h) c.args.version in
           let no_node : f i ≡ [] = subst (λ (u : SpanValue). new_nodes u.height u.start (is_inner (suc below) span.start) (commit ▷ h) c.args.version ≡ []) (at below applied.height).is (new_nodes-kept part.height part.start (is_inner (suc below) span.start) h commit c.args.version was.was kept some before) in
-          told-more (bare_all c.args.nodes.now.items) (bare_all c.loop-i.nodes.items) (bare_all c.loop-i.nodes.items) (concat_first i f) (f i) (concat_first (i + 1) f) (c.loop-i.invariant.nodes below h commit applied many some before) (sym (ap (λ x. bare_all c.loop-i.nodes.items ++ x) no_node ∙ append-nil (bare_all c.loop-i.nodes.items))) (first-next i f);
+          reported-more (bare_all c.args.nodes.now.items) (bare_all c.loop-i.nodes.items) (bare_all c.loop-i.nodes.items) (concat_first i f) (f i) (concat_first (i + 1) f) (c.loop-i.invariant.nodes below h commit applied many some before) (sym (ap (λ x. bare_all c.loop-i.nodes.items ++ x) no_node ∙ append-nil (bare_all c.loop-i.nodes.items))) (first-next i f);
       counted = c.loop-i.invariant.counted;
       stored = λ store below high low.
           laid-put store c.args.first c.loop-i.steps c.loop-i.steps c.loop-i.nodes.items c.loop-i.nodes.items below span.start i c.loop-i.new_slots c.put_from.new.self slot_was child_was (counts-none c.loop-i.steps c.loop-i.nodes.items) c.in_ok-put_from.ensures (c.loop-i.invariant.stored store below high low) (laid-below store c.args.first c.loop-i.nodes.items below (slot_start below span.start i) child_was (low i c.loop-i-test.true));
@@ -435,13 +435,13 @@ apply_slot-returns-clause-nodes g t c was h commit w holds counted change now so
 pub apply_inner-returns-then-branch-clause-nodes : goal.apply_inner-returns-then-branch-clause-nodes
 apply_inner-returns-then-branch-clause-nodes g t c =
     let span = c.args.span in
-    on_ok_weaker c.build.result (λ told below h commit applied above touched w some before.
+    on_ok_weaker c.build.result (λ reported below h commit applied above touched w some before.
     let change = applied-change below span commit h c.args.cut.now c.args.added.now c.args.version c.args.slots.now applied in
     let same : c.deref.result.now ≡ points_of span.height span.start (bag (commit ▷ h)) = c.deref.ensures.value ∙ c.in_ok-all.ensures below h applied.height applied.all applied.each ∙ sym (change-after span.height span.start h commit c.args.cut.now c.args.added.now c.args.version change) in
     let count = change-count span.height span.start h commit c.args.cut.now c.args.added.now c.args.version _ change refl in
     let few = c.in_ok-is_few.ensures.few c.if-branch.true below h applied.height applied.all applied.each in
     let long = ap (length {A = Point}) same in
-    told above h commit (touched-fresh span.height span.start above h commit c.args.version c.deref.result.now change.number same touched (λ many. absurd (omega arith))) w) c.build.ensures.nodes
+    reported above h commit (touched-fresh span.height span.start above h commit c.args.version c.deref.result.now change.number same touched (λ many. absurd (omega arith))) w) c.build.ensures.nodes
 
 pub apply_inner-returns-clause-nodes : goal.apply_inner-returns-clause-nodes
 apply_inner-returns-clause-nodes g t c below h commit applied above touched w some before =
@@ -451,34 +451,34 @@ apply_inner-returns-clause-nodes g t c below h commit applied above touched w so
     let over = left-many span below h c.args.slots.now c.args.cut.now c.args.added.now (c.in_ok-is_few.ensures.many c.if-branch.false) applied.height applied.all applied.each applied.many in
     let many : LEAF_POINTS < length (points_of span.height span.start (bag (commit ▷ h))) = omega arith in
     let made = c.in_ok-new_slots.ensures.slots below h commit applied in
-    let told = c.in_ok-new_slots.ensures.nodes below h commit applied (subst (λ k. LEAF_POINTS < length (points_of k span.start (bag (commit ▷ h)))) applied.height many) some before in
-    told-more (bare_all c.args.nodes.now.items) (bare_all c.apply_slots.new.nodes.items) (bare_all c.push_inner.new.nodes.items) _ _ (new_nodes span.height span.start above (commit ▷ h) c.args.version) told (bare-push c.apply_slots.new.nodes.items c.push_inner.new.nodes.items _ c.in_ok-push_inner.ensures.nodes) (new_nodes-inner_at span.height below span.start above (commit ▷ h) c.args.version c.in_ok-new_slots.new_slots applied.height w (last_change-touched (is_node above span.height span.start) span.height span.start h commit c.args.version change.number touched) many made.0)
+    let reported = c.in_ok-new_slots.ensures.nodes below h commit applied (subst (λ k. LEAF_POINTS < length (points_of k span.start (bag (commit ▷ h)))) applied.height many) some before in
+    reported-more (bare_all c.args.nodes.now.items) (bare_all c.apply_slots.new.nodes.items) (bare_all c.push_inner.new.nodes.items) _ _ (new_nodes span.height span.start above (commit ▷ h) c.args.version) reported (bare-push c.apply_slots.new.nodes.items c.push_inner.new.nodes.items _ c.in_ok-push_inner.ensures.nodes) (new_nodes-inner_at span.height below span.start above (commit ▷ h) c.args.version c.in_ok-new_slots.new_slots applied.height w (last_change-touched (is_node above span.height span.start) span.height span.start h commit c.args.version change.number touched) many made.0)
 
 pub apply_child-returns-in-None-clause-nodes : goal.apply_child-returns-in-None-clause-nodes
 apply_child-returns-in-None-clause-nodes g t c =
     let span = c.args.span in
-    on_ok_weaker c.build.result (λ told above h commit holds change touched w some before.
+    on_ok_weaker c.build.result (λ reported above h commit holds change touched w some before.
     let none = none-is span.height span.start above h c.args.child c.in-None.is holds in
     let same : c.args.added.now ≡ points_of span.height span.start (bag (commit ▷ h)) = sym (change-after span.height span.start h commit c.args.cut.now c.args.added.now c.args.version change ∙ ap (λ x. sort (outside x c.args.cut.now ++ c.args.added.now)) none ∙ sort-of_order c.args.added.now c.requires.order) in
     let empty = ap (length {A = Point}) none in
-    told above h commit (touched-fresh span.height span.start above h commit c.args.version c.args.added.now change.number same touched (λ _. omega arith)) w) c.build.ensures.nodes
+    reported above h commit (touched-fresh span.height span.start above h commit c.args.version c.args.added.now change.number same touched (λ _. omega arith)) w) c.build.ensures.nodes
 
 pub apply_child-returns-in_ok-all-in-Leaf-clause-nodes : goal.apply_child-returns-in_ok-all-in-Leaf-clause-nodes
 apply_child-returns-in_ok-all-in-Leaf-clause-nodes g t c =
     let span = c.args.span in
-    on_ok_weaker c.build-in-Leaf.result (λ told above h commit holds change touched w some before.
+    on_ok_weaker c.build-in-Leaf.result (λ reported above h commit holds change touched w some before.
     let node = child-is span.height span.start above h c.args.child c.in-Some.node c.in-Some.is holds in
     let leaf = leaf_data-is span.height span.start above h c.in-Some.node.now.value c.in-Leaf.version c.in-Leaf.points (sym c.deref.ensures ∙ c.in-Leaf.is) node in
     let same : c.deref-in-Leaf-2.result.now ≡ points_of span.height span.start (bag (commit ▷ h)) = c.deref-in-Leaf-2.ensures.value ∙ c.in_ok-all-in-Leaf.ensures ∙ ap (λ x. sort (outside x c.args.cut.now ++ c.args.added.now)) (c.deref-in-Leaf.ensures.value ∙ leaf.same) ∙ sym (change-after span.height span.start h commit c.args.cut.now c.args.added.now c.args.version change) in
-    told above h commit (touched-fresh span.height span.start above h commit c.args.version c.deref-in-Leaf-2.result.now change.number same touched (λ _. subst (λ x. length x ≤ LEAF_POINTS) leaf.same leaf.few)) w) c.build-in-Leaf.ensures.nodes
+    reported above h commit (touched-fresh span.height span.start above h commit c.args.version c.deref-in-Leaf-2.result.now change.number same touched (λ _. subst (λ x. length x ≤ LEAF_POINTS) leaf.same leaf.few)) w) c.build-in-Leaf.ensures.nodes
 
 pub apply_child-returns-in-Inner-clause-nodes : goal.apply_child-returns-in-Inner-clause-nodes
 apply_child-returns-in-Inner-clause-nodes g t c =
     let span = c.args.span in
-    on_ok_weaker c.apply_inner.result (λ told above h commit holds change touched w some before.
+    on_ok_weaker c.apply_inner.result (λ reported above h commit holds change touched w some before.
     let node = child-is span.height span.start above h c.args.child c.in-Some.node c.in-Some.is holds in
     let body = inner_data-is span.height span.start above h c.in-Some.node.now.value c.in-Inner.version c.in-Inner.slots (sym c.deref.ensures ∙ c.in-Inner.is) node in
-    told body.below h commit (body-applied span above h commit c.args.cut.now c.args.added.now c.args.version c.in-Inner.version _ body change) above touched w some before) c.apply_inner.ensures.nodes
+    reported body.below h commit (body-applied span above h commit c.args.cut.now c.args.added.now c.args.version c.in-Inner.version _ body change) above touched w some before) c.apply_inner.ensures.nodes
 
 pub apply_slots-returns-clause-nodes : goal.apply_slots-returns-clause-nodes
 apply_slots-returns-clause-nodes g t c below h commit applied many some before =

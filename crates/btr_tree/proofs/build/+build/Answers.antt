@@ -1,26 +1,29 @@
-use Rattle.std.proofs.Common.{◌++◌, true, refl, ◌≡◌, ℕ, suc, ◌+◌, ◌-◌, ◌*◌, ◌<◌, ◌≤◌, ◌∷◌, [], pos, ◌+ℤ◌, false, List, length, sym, ap, ◌∙◌, subst, arith, ◌==◌, w64, to_z, of_z, append-nil}
+use Rattle.std.proofs.Common.{◌++◌, true, refl, ◌≡◌, ℕ, suc, ◌+◌, ◌-◌, ◌*◌, ◌^◌, ◌<◌, ◌≤◌, ◌∷◌, [], pos, ◌+ℤ◌, false, List, length, sym, ap, ◌∙◌, subst, arith, ◌==◌, w64, to_z, of_z, append-nil}
 use Rattle.std.proofs.lemmas.Int.{ints}
 use Rattle.std.proofs.lemmas.Result.{err_from_is_err_and}
 use Rattle.btr_base.proofs.PointLemmas.{filter-in_order}
 use Rattle.btr_base.specs.declared.limits.TheConstants.{LEAF_POINTS}
 use Rattle.btr_tree.specs.Crowd.{bottom, HasNoCrowdedSpan, IsFirstCrowd}
 use Rattle.btr_tree.proofs.SlotSplitLemmas.{parted-at, parted-inside, parted-same, crowding-part, room-more}
-use Rattle.btr_tree.proofs.NodeLemmas.{slot-end}
+use Rattle.btr_tree.proofs.NodeLemmas.{slot-end, child-same}
 use Rattle.btr_base.specs.Bag.{within, IsInOrder}
 use Rattle.btr_base.specs.Span.{time_at, width, SpanValue, IsSpan}
 use Rattle.btr_base.proofs.SpanLemmas.{width-positive}
-use Rattle.btr_tree.specs.History.{bag, ◌▷◌}
-use Rattle.btr_tree.specs.Nodes.{points_of, is_inner}
+use Rattle.btr_base.specs.Agg.{agg, AggValue}
+use Rattle.btr_tree.specs.History.{bag, nothing, ◌▷◌}
+use Rattle.btr_tree.specs.Nodes.{points_of, is_inner, above_root}
 use Rattle.btr_tree.specs.Shape.{slot_start, IsChild}
-use Rattle.btr_tree.specs.Slots.{linked}
-use Rattle.btr_tree.specs.Change.{end_of, IsFresh, IsSplit}
+use Rattle.btr_tree.specs.declared.node.Slot.{Slot}
+use Rattle.btr_tree.specs.Slots.{linked, node_of}
+use Rattle.btr_tree.specs.Change.{end_of, IsFresh, IsSplit, IsCounted}
 use Rattle.btr_tree.proofs.CrowdLemmas.{room-few, room-none}
 use Rattle.btr_tree.proofs.BuiltNodeLemmas.{first-put, slot-fresh, slot-new, slot-made, leaf-child, inner-child_at, version-fresh}
 use Rattle.std.proofs.lemmas.Bool.Decides.{nat_tests}
-use Rattle.btr_tree.proofs.UntouchedNodeLemmas.{many-inner}
+use Rattle.btr_tree.proofs.UntouchedNodeLemmas.{many-inner, child-counted}
+use Rattle.btr_tree.proofs.AppliedNodeLemmas.{own, fresh-alone}
 use Rattle.btr_tree.specs.NewNodes.{concat_first, new_nodes, bare_all}
 use Rattle.btr_tree.proofs.StoredLemmas.{laid-none, laid-leaf, laid-inner, laid-put, laid-part, laid-all}
-use Rattle.btr_tree.proofs.NewNodeLemmas.{first-next, new_nodes-none, new_nodes-leaf, new_nodes-inner_at, told-more, bare-push, counts-more}
+use Rattle.btr_tree.proofs.NewNodeLemmas.{first-next, new_nodes-none, new_nodes-leaf, new_nodes-inner_at, reported-more, bare-push, counts-more}
 use Rattle.btr_tree.proofs.build.+build.Goals as goal
 
 some-points : {X : Type 0} (xs : List X) → (length xs == 0) ≡ false → 0 < length xs
@@ -107,9 +110,9 @@ build_slots-loop-i-preserved g t c =
           let same = parted-same span part below i c.args.points.now here behind (commit ▷ h) parted c.loop-i-test.true split.same in
           let fresh = slot-fresh below span.start i h commit c.args.version here c.loop-i-test.true split.number same split.few in
           let inner = many-inner (suc below) span.start (bag (commit ▷ h)) (subst (λ x. LEAF_POINTS < length x) split.same many) in
-          let told = c.in_ok-slot.ensures.nodes (is_inner (suc below) span.start) h commit (subst (λ (u : SpanValue). IsFresh u.height u.start (is_inner (suc below) span.start) h commit c.args.version here) (sym parted.is) fresh) inner in
+          let reported = c.in_ok-slot.ensures.nodes (is_inner (suc below) span.start) h commit (subst (λ (u : SpanValue). IsFresh u.height u.start (is_inner (suc below) span.start) h commit c.args.version here) (sym parted.is) fresh) inner in
           let f = λ (j : ℕ). new_nodes below (slot_start below span.start j) (is_inner (suc below) span.start) (commit ▷ h) c.args.version in
-          told-more (bare_all c.args.nodes.now.items) (bare_all c.loop-i.nodes.items) (bare_all c.build_slot.new.nodes.items) (concat_first i f) (f i) (concat_first (i + 1) f) (c.loop-i.invariant.nodes below h commit split many) (told ∙ ap (λ (u : SpanValue). bare_all c.loop-i.nodes.items ++ new_nodes u.height u.start (is_inner (suc below) span.start) (commit ▷ h) c.args.version) parted.is) (first-next i f);
+          reported-more (bare_all c.args.nodes.now.items) (bare_all c.loop-i.nodes.items) (bare_all c.build_slot.new.nodes.items) (concat_first i f) (f i) (concat_first (i + 1) f) (c.loop-i.invariant.nodes below h commit split many) (reported ∙ ap (λ (u : SpanValue). bare_all c.loop-i.nodes.items ++ new_nodes u.height u.start (is_inner (suc below) span.start) (commit ▷ h) c.args.version) parted.is) (first-next i f);
       counted = counts-more c.args.steps.now c.loop-i.steps c.build_slot.new.steps c.args.nodes.now.items c.loop-i.nodes.items c.build_slot.new.nodes.items c.loop-i.invariant.counted c.in_ok-slot.ensures.counted;
       stored = λ store below high.
           let part_is = (at below high).is in
@@ -123,6 +126,25 @@ build_slots-returns-clause-room g t c =
     let high : c.args.span.height ≡ suc below = let low = c.requires.height in omega arith in
     let done : c.loop-i.i ≡ 64 = omega arith in
     subst (λ e. HasNoCrowdedSpan c.args.span.start e c.args.points.now) (ap (slot_start below c.args.span.start) done ∙ slot-end below c.args.span.start ∙ ap (λ k. c.args.span.start +ℤ pos (width k)) (sym high)) (c.loop-i.invariant.room below high)
+
+pub build_slot-agg_of_child-agg-requires : goal.build_slot-agg_of_child-agg-requires
+build_slot-agg_of_child-agg-requires g t c =
+    let k = c.args.span.height in
+    let s = c.args.span.start in
+    let points = c.args.points.now in
+    let fresh = fresh-alone k s c.args.version points c.requires.order c.requires.inside in
+    let few = subst (λ x. length x < 2 ^ 64) fresh.same (omega (arith, c.if-prove.false)) in
+    subst IsCounted (sym c.seen.ensures) (child-counted k s above_root (own c.args.version [] points ▷ nothing) (linked c.in_ok-child.child) few (c.in_ok-child.ensures.child above_root nothing (own c.args.version [] points) fresh))
+
+pub build_slot-returns-clause-slot : goal.build_slot-returns-clause-slot
+build_slot-returns-clause-slot g t c =
+    let k = c.args.span.height in
+    let s = c.args.span.start in
+    let points = c.args.points.now in
+    let mine = own c.args.version [] points in
+    let fresh = fresh-alone k s c.args.version points c.requires.order c.requires.inside in
+    let child = child-same k s above_root (mine ▷ nothing) (linked c.in_ok-child.child) (node_of c.seen.result) c.seen.ensures (c.in_ok-child.ensures.child above_root nothing mine fresh) in
+    ap (λ (a : AggValue). let made : Slot = record { agg = a; version = c.args.version; child = 0 } in made) (c.agg_of_child-agg.ensures k s above_root (mine ▷ nothing) child ∙ ap agg (sym fresh.same))
 
 empty-is : {X : Type 0} (xs : List X) → (length xs == 0) ≡ true → xs ≡ []
 empty-is [] e = refl
@@ -148,8 +170,8 @@ build-returns-clause-nodes g t c above h commit fresh w =
     let high : c.args.span.height ≡ suc below = omega (arith, ap (λ p. p.height) c.span.view_is, c.if-span-eq0.false) in
     let split : IsSplit below c.args.span h commit c.args.version c.args.points.now = record { height = high; number = fresh.number; same = fresh.same ∙ ap (λ j. points_of j s (bag (commit ▷ h))) high; few = subst (λ j. length (points_of j s (bag h)) ≤ LEAF_POINTS) high (fresh.small c.if-points-le-LEAF_POINTS.false) } in
     let made = c.in_ok-slots.ensures.slots below h commit split in
-    let told = c.in_ok-slots.ensures.nodes below h commit split c.if-points-le-LEAF_POINTS.false in
-    told-more (bare_all c.args.nodes.now.items) (bare_all c.build_slots.new.nodes.items) (bare_all c.push_inner.new.nodes.items) _ _ (new_nodes k s above (commit ▷ h) c.args.version) told (bare-push c.build_slots.new.nodes.items c.push_inner.new.nodes.items _ c.in_ok-push_inner.ensures.nodes) (new_nodes-inner_at k below s above (commit ▷ h) c.args.version c.in_ok-slots.slots high w (version-fresh k s above h commit c.args.version fresh.number fresh.fresh) (subst (λ x. LEAF_POINTS < length x) fresh.same c.if-points-le-LEAF_POINTS.false) made.0)
+    let reported = c.in_ok-slots.ensures.nodes below h commit split c.if-points-le-LEAF_POINTS.false in
+    reported-more (bare_all c.args.nodes.now.items) (bare_all c.build_slots.new.nodes.items) (bare_all c.push_inner.new.nodes.items) _ _ (new_nodes k s above (commit ▷ h) c.args.version) reported (bare-push c.build_slots.new.nodes.items c.push_inner.new.nodes.items _ c.in_ok-push_inner.ensures.nodes) (new_nodes-inner_at k below s above (commit ▷ h) c.args.version c.in_ok-slots.slots high w (version-fresh k s above h commit c.args.version fresh.number fresh.fresh) (subst (λ x. LEAF_POINTS < length x) fresh.same c.if-points-le-LEAF_POINTS.false) made.0)
 
 pub build_slots-returns-clause-nodes : goal.build_slots-returns-clause-nodes
 build_slots-returns-clause-nodes g t c below h commit split many =

@@ -28,7 +28,7 @@ returns-in-Err-version_at c h of =
     let rows : List Point → Rows = λ b. Ranges (changes c.args.p b b) in
     let is = c.in-Ok.ensures.there h of in
     let made : old ≤ latest h s = omega (arith, is.made, is.same, c.max.ensures, c.if-old-new.false) in
-    let told = c.in-Err-version_at.ensures.refused h of true rows ∙ answer-there h s old is.known made true rows in
+    let reported = c.in-Err-version_at.ensures.refused h of true rows ∙ answer-there h s old is.known made true rows in
     absurd (cc)
 
 pub returns : goal.returns

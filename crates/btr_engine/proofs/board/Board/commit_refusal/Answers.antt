@@ -4,7 +4,7 @@ use Rattle.btr_board.specs.Numbers.{number_of}
 use Rattle.btr_hist.specs.Legal.{change_rejection}
 use Rattle.btr_engine.specs.Board.{Versions, Kept, IsGrown}
 use Rattle.btr_engine.specs.Stage.{change}
-use Rattle.btr_engine.proofs.BoardCommits.{same-change, last_some}
+use Rattle.btr_engine.proofs.BoardCommits.{last_some}
 use Rattle.btr_engine.proofs.BoardNext.{stream-grown}
 use Rattle.btr_engine.proofs.RolledOutline.{commit-unknown, commit-refused}
 use Rattle.btr_engine.proofs.StreamsLemmas.{room-if}
@@ -38,7 +38,7 @@ returns-in-Some-change_rejection-clause-rolled c =
     let its_change = change c.args.cut.now c.args.added.now in
     let kept = c.in-Some.kept.now in
     let plain : is_some kept.spec ≡ false = ap (λ (x : Versions). is_some x.spec) (sym c.kept.view_is) ∙ sym c.is_some.ensures ∙ c.if-is_some.false in
-    let found = same-change change_rejection c.args.cut.now c.as_slice.result.now c.args.added.now c.as_slice-2.result.now c.change_rejection.result c.as_slice.ensures.ranges c.as_slice-2.ensures.points c.change_rejection.ensures ∙ c.in-Some-change_rejection.is in
+    let found = sym c.change_rejection.ensures ∙ c.in-Some-change_rejection.is in
     sym (commit-refused c.args.self.now c.args.stream kept (there (goal.at.returns-in-Some-change_rejection-clause-rolled c).In-Some) false _ its_change plain found)
 
 pub returns-clause-rolled : goal.returns-clause-rolled
@@ -46,7 +46,7 @@ returns-clause-rolled c =
     let its_change = change c.args.cut.now c.args.added.now in
     let kept = c.in-Some.kept.now in
     let plain : is_some kept.spec ≡ false = ap (λ (x : Versions). is_some x.spec) (sym c.kept.view_is) ∙ sym c.is_some.ensures ∙ c.if-is_some.false in
-    let found = same-change change_rejection c.args.cut.now c.as_slice.result.now c.args.added.now c.as_slice-2.result.now c.change_rejection.result c.as_slice.ensures.ranges c.as_slice-2.ensures.points c.change_rejection.ensures ∙ c.in_default-change_rejection.is in
+    let found = sym c.change_rejection.ensures ∙ c.in_default-change_rejection.is in
     let refused = commit-refused c.args.self.now c.args.stream kept (there (goal.at.returns-clause-rolled c).In-Some) false None its_change plain found in
     c.version_refusal.ensures ∙ sym (refused ∙ last_some _)
 

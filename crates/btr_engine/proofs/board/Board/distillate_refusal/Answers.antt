@@ -4,7 +4,7 @@ use Rattle.btr_hist.specs.Legal.{distillate_change_rejection}
 use Rattle.btr_board.specs.Numbers.{number_of}
 use Rattle.btr_engine.specs.Board.{Kept, IsGrown}
 use Rattle.btr_engine.specs.Stage.{change}
-use Rattle.btr_engine.proofs.BoardCommits.{same-change, last_some}
+use Rattle.btr_engine.proofs.BoardCommits.{last_some}
 use Rattle.btr_engine.proofs.BoardNext.{stream-grown}
 use Rattle.btr_engine.proofs.RolledOutline.{distillate-unknown, distillate-refused}
 use Rattle.btr_engine.proofs.StreamsLemmas.{room-if}
@@ -38,7 +38,7 @@ returns-in-Some-distillate_change_rejection-clause-rolled c =
     let its_change = change c.args.cut.now c.args.added.now in
     let kept = c.in-Some.kept.now in
     let taken = sym (c.takes_reads.ensures.rolled (grown (goal.at.returns-in-Some-distillate_change_rejection-clause-rolled c).In-Some)) ∙ c.if-not-takes_reads.false in
-    let found = same-change distillate_change_rejection c.args.cut.now c.as_slice.result.now c.args.added.now c.as_slice-2.result.now c.distillate_change_rejection.result c.as_slice.ensures.ranges c.as_slice-2.ensures.points c.distillate_change_rejection.ensures ∙ c.in-Some-distillate_change_rejection.is in
+    let found = sym c.distillate_change_rejection.ensures ∙ c.in-Some-distillate_change_rejection.is in
     sym (distillate-refused c.args.self.now c.args.stream kept (there (goal.at.returns-in-Some-distillate_change_rejection-clause-rolled c).In-Some) true _ its_change c.args.reads.now taken found)
 
 pub returns-clause-rolled : goal.returns-clause-rolled
@@ -46,7 +46,7 @@ returns-clause-rolled c =
     let its_change = change c.args.cut.now c.args.added.now in
     let kept = c.in-Some.kept.now in
     let taken = sym (c.takes_reads.ensures.rolled (grown (goal.at.returns-clause-rolled c).In-Some)) ∙ c.if-not-takes_reads.false in
-    let found = same-change distillate_change_rejection c.args.cut.now c.as_slice.result.now c.args.added.now c.as_slice-2.result.now c.distillate_change_rejection.result c.as_slice.ensures.ranges c.as_slice-2.ensures.points c.distillate_change_rejection.ensures ∙ c.in_default-distillate_change_rejection.is in
+    let found = sym c.distillate_change_rejection.ensures ∙ c.in_default-distillate_change_rejection.is in
     let refused = distillate-refused c.args.self.now c.args.stream kept (there (goal.at.returns-clause-rolled c).In-Some) true None its_change c.args.reads.now taken found in
     c.version_refusal.ensures ∙ sym (refused ∙ last_some _)
 

@@ -9,21 +9,22 @@ use Rattle.btr_board.specs.Numbers.{number_of}
 use Rattle.btr_engine.specs.Board.{Kept, IsBoardOf}
 use Rattle.btr_engine.specs.Stage.{PushCause, WritesCommit, change, version_rejection}
 use Rattle.btr_engine.proofs.BoardStreamLemmas.{distillate-makes}
-use Rattle.btr_engine.proofs.BoardCommits.{same-change, distillate-times, distillate-tests, if_both}
+use Rattle.btr_engine.proofs.BoardCommits.{distillate-times, distillate-tests, if_both}
 use Rattle.btr_engine.proofs.StreamsLemmas.{has-streams, stream-of, takes-of}
 use Rattle.btr_engine.proofs.BoardNext.{stream-grown}
 use Rattle.btr_engine.proofs.RejectionBounds.{distillate_ranges, distillate_bounded}
+use Rattle.btr_engine.proofs.board.Board.stage_distillate.Given.{Over}
 use Rattle.btr_engine.proofs.board.Board.stage_distillate.Goals.{After-takes_reads, In_default-distillate_change_rejection}
 use Rattle.btr_engine.proofs.board.Board.stage_distillate.Goals as goal
 
 -- The change passes the tests that look at it alone.
-passes : (c : In_default-distillate_change_rejection) → distillate_change_rejection (change c.args.cut.now c.args.added.now) ≡ None
-passes c =
-    same-change distillate_change_rejection c.args.cut.now c.as_slice.result.now c.args.added.now c.as_slice-2.result.now c.distillate_change_rejection.result c.as_slice.ensures.ranges c.as_slice-2.ensures.points c.distillate_change_rejection.ensures ∙ c.in_default-distillate_change_rejection.is
+passes : (g : Over) (c : In_default-distillate_change_rejection g) → distillate_change_rejection (change c.args.cut.now c.args.added.now) ≡ None
+passes g c =
+    sym c.distillate_change_rejection.ensures ∙ c.in_default-distillate_change_rejection.is
 
 -- The stream is one of the history, and takes the reads after the history if the test finds that it takes them.
-taken : (c : After-takes_reads) (h : List Entry) → IsBoardOf h c.args.self.now → (c.args.stream < length (ids h)) × (takes_reads h c.args.stream (spec_of h c.args.stream) c.args.reads.now ≡ c.takes_reads.result)
-taken c h of =
+taken : (g : Over) (c : After-takes_reads g) (h : List Entry) → IsBoardOf h c.args.self.now → (c.args.stream < length (ids h)) × (takes_reads h c.args.stream (spec_of h c.args.stream) c.args.reads.now ≡ c.takes_reads.result)
+taken g c h of =
     let b : Kept = c.args.self.now in
     let kept = c.in-Some.kept.now in
     let has = has-streams h b of in
@@ -32,52 +33,52 @@ taken c h of =
     ((stream-of h b has c.args.stream kept at).0, sym (takes-of h b has c.args.stream kept at c.args.reads.now) ∙ sym (c.takes_reads.ensures.rolled grown))
 
 -- Only the tests of the next version are left.
-left : (c : In_default-distillate_change_rejection) (h : List Entry) → (c.args.stream < length (ids h)) × (takes_reads h c.args.stream (spec_of h c.args.stream) c.args.reads.now ≡ c.takes_reads.result) → rejection h (Distillate c.args.stream c.args.cut.now c.args.added.now c.args.reads.now) ≡ version_rejection h c.args.stream (change c.args.cut.now c.args.added.now)
-left c h is =
-    distillate-tests h c.args.stream (change c.args.cut.now c.args.added.now) c.args.reads.now is.0 true (is.1 ∙ c.if-not-takes_reads.false) None (passes c)
+left : (g : Over) (c : In_default-distillate_change_rejection g) (h : List Entry) → (c.args.stream < length (ids h)) × (takes_reads h c.args.stream (spec_of h c.args.stream) c.args.reads.now ≡ c.takes_reads.result) → rejection h (Distillate c.args.stream c.args.cut.now c.args.added.now c.args.reads.now) ≡ version_rejection h c.args.stream (change c.args.cut.now c.args.added.now)
+left g c h is =
+    distillate-tests h c.args.stream (change c.args.cut.now c.args.added.now) c.args.reads.now is.0 true (is.1 ∙ c.if-not-takes_reads.false) None (passes g c)
 
 pub node_of_distillate-first-requires-clause-ranges : goal.node_of_distillate-first-requires-clause-ranges
-node_of_distillate-first-requires-clause-ranges c = distillate_ranges (change c.args.cut.now c.args.added.now) (passes c)
+node_of_distillate-first-requires-clause-ranges g c = distillate_ranges (change c.args.cut.now c.args.added.now) (passes g c)
 
 pub stage_version-requires-clause-times : goal.stage_version-requires-clause-times
-stage_version-requires-clause-times c = distillate-times (change c.args.cut.now c.args.added.now) (passes (goal.at.stage_version-requires-clause-times c).In_default-distillate_change_rejection)
+stage_version-requires-clause-times g c = distillate-times (change c.args.cut.now c.args.added.now) (passes g (goal.at.stage_version-requires-clause-times g c).In_default-distillate_change_rejection)
 
 pub stage_version-requires-clause-grown : goal.stage_version-requires-clause-grown
-stage_version-requires-clause-grown c =
+stage_version-requires-clause-grown g c =
     stream-grown c.self.inside.streams (number_of c.self.inside.numbers) c.self.invariant c.args.stream c.in-Some.kept.now c.in-Some.ensures
 
 pub returns-then-not-takes_reads-clause-cause : goal.returns-then-not-takes_reads-clause-cause
-returns-then-not-takes_reads-clause-cause c h of =
+returns-then-not-takes_reads-clause-cause g c h of =
     let its_change = change c.args.cut.now c.args.added.now in
-    let is = taken (goal.at.returns-then-not-takes_reads-clause-cause c).After-takes_reads h of in
+    let is = taken g (goal.at.returns-then-not-takes_reads-clause-cause g c).After-takes_reads h of in
     distillate-tests h c.args.stream its_change c.args.reads.now is.0 false (is.1 ∙ c.if-not-takes_reads.true) (distillate_change_rejection its_change) refl
 
 pub returns-in-Some-distillate_change_rejection-clause-cause : goal.returns-in-Some-distillate_change_rejection-clause-cause
-returns-in-Some-distillate_change_rejection-clause-cause c h of =
+returns-in-Some-distillate_change_rejection-clause-cause g c h of =
     let its_change = change c.args.cut.now c.args.added.now in
-    let is = taken (goal.at.returns-in-Some-distillate_change_rejection-clause-cause c).After-takes_reads h of in
-    let found = same-change distillate_change_rejection c.args.cut.now c.as_slice.result.now c.args.added.now c.as_slice-2.result.now c.distillate_change_rejection.result c.as_slice.ensures.ranges c.as_slice-2.ensures.points c.distillate_change_rejection.ensures ∙ c.in-Some-distillate_change_rejection.is in
+    let is = taken g (goal.at.returns-in-Some-distillate_change_rejection-clause-cause g c).After-takes_reads h of in
+    let found = sym c.distillate_change_rejection.ensures ∙ c.in-Some-distillate_change_rejection.is in
     distillate-tests h c.args.stream its_change c.args.reads.now is.0 true (is.1 ∙ c.if-not-takes_reads.false) _ found
 
 pub returns-clause-allowed : goal.returns-clause-allowed
-returns-clause-allowed c h of =
-    on_ok_weaker c.stage_version.result (λ none. left (goal.at.returns-clause-allowed c).In_default-distillate_change_rejection h (taken (goal.at.returns-clause-allowed c).After-takes_reads h of) ∙ none) (c.stage_version.ensures.allowed h of)
+returns-clause-allowed g c h of =
+    on_ok_weaker c.stage_version.result (λ none. left g (goal.at.returns-clause-allowed g c).In_default-distillate_change_rejection h (taken g (goal.at.returns-clause-allowed g c).After-takes_reads h of) ∙ none) (c.stage_version.ensures.allowed h of)
 
 pub returns-clause-staged : goal.returns-clause-staged
-returns-clause-staged c h of =
+returns-clause-staged g c h of =
     let e = Distillate c.args.stream c.args.cut.now c.args.added.now c.args.reads.now in
-    let its_left = left (goal.at.returns-clause-staged c).In_default-distillate_change_rejection h (taken (goal.at.returns-clause-staged c).After-takes_reads h of) in
+    let its_left = left g (goal.at.returns-clause-staged g c).In_default-distillate_change_rejection h (taken g (goal.at.returns-clause-staged g c).After-takes_reads h of) in
     if_both _ c.stage_version.result (λ none. its_left ∙ none) (c.stage_version.ensures.allowed h of) (λ allowed. c.stage_version.ensures.staged h e of (distillate-makes c.args.stream c.args.cut.now c.args.added.now c.args.reads.now) allowed)
 
 pub returns-clause-cause : goal.returns-clause-cause
-returns-clause-cause c h of =
-    subst (λ o. IfErr c.stage_version.result (PushCause o)) (sym (left (goal.at.returns-clause-cause c).In_default-distillate_change_rejection h (taken (goal.at.returns-clause-cause c).After-takes_reads h of))) (c.stage_version.ensures.cause h of)
+returns-clause-cause g c h of =
+    subst (λ o. IfErr c.stage_version.result (PushCause o)) (sym (left g (goal.at.returns-clause-cause g c).In_default-distillate_change_rejection h (taken g (goal.at.returns-clause-cause g c).After-takes_reads h of))) (c.stage_version.ensures.cause h of)
 
 pub returns-clause-bounds : goal.returns-clause-bounds
-returns-clause-bounds c =
-    on_ok_weaker c.stage_version.result (λ few. distillate_bounded (change c.args.cut.now c.args.added.now) c.args.reads.now (passes (goal.at.returns-clause-bounds c).In_default-distillate_change_rejection) few (c.if-not-takes_reads.ensures.few refl)) c.stage_version.ensures.points
+returns-clause-bounds g c =
+    on_ok_weaker c.stage_version.result (λ few. distillate_bounded (change c.args.cut.now c.args.added.now) c.args.reads.now (passes g (goal.at.returns-clause-bounds g c).In_default-distillate_change_rejection) few (c.if-not-takes_reads.ensures.few refl)) c.stage_version.ensures.points
 
 pub returns-clause-writes : goal.returns-clause-writes
-returns-clause-writes c =
+returns-clause-writes g c =
     let its_change = change c.args.cut.now c.args.added.now in
     if_both _ c.stage_version.result (c.node_of_distillate-first.ensures.block c.args.stream) c.stage_version.ensures.points (λ same. subst (λ first. IfOk c.stage_version.result (λ n. WritesCommit c.args.self.now first c.args.stream its_change (Some c.args.reads.now) n.board n.nodes.items n.root)) same c.stage_version.ensures.writes)

@@ -15,7 +15,7 @@ runs : (g : Over) (c : After-room-left g) → is_stopped c.args.self.now ≡ fal
 runs g c = sym c.args.self.now.marked ∙ c.if-self.false
 
 -- the blocks of the extent are those that it needs
-blocks : (g : Over) (c : After-room-left g) → need (body_in_run c.in_ok-ready.ready.extent.items) ≡ c.len.result / 4096
+blocks : (g : Over) (c : After-room-left g) → need (body_in_run c.in_ok-ready.ready.extent) ≡ c.len.result / 4096
 blocks g c =
     let old = c.args.self.now in
     let next = c.in_ok-ready.ensures.next in
@@ -32,7 +32,7 @@ returns-then-need-left-clause-cause g c h of =
     let a = (goal.at.returns-then-need-left-clause-cause g c).After-room-left in
     let staged = c.in_ok-ready.ensures.staged h of in
     let ready = c.in_ok-ready.ready in
-    let size = needed h (log_of old) c.args.entry.now _ _ ready.extent.items (extent_of_ready h (board_of old) of (tail_of old) c.args.entry.now ready ready.extent.items c.in_ok-ready.ensures.made staged refl) in
+    let size = needed h (log_of old) c.args.entry.now _ _ ready.extent (extent_of_ready h (board_of old) of (tail_of old) c.args.entry.now ready ready.extent c.in_ok-ready.ensures.made staged refl) in
     (runs g a, staged.allowed, sym (blocks g a) ∙ size, room g a, omega arith, refl)
 
 pub returns-clause-ready : goal.returns-clause-ready

@@ -15,5 +15,5 @@ load-serving-requires g c =
 pub returns-then-serving-ticket-clause-served : goal.returns-then-serving-ticket-clause-served
 returns-then-serving-ticket-clause-served g c =
     let same = c.loop.invariant.1 in
-    let told = c.load-serving.ensures.2 c.args.ticket (ap (λ m. m.0.stage) same ∙ c.requires.waits) in
-    subst (λ m. Served g.T.Chronicle m c.load-serving.new.seat.me) same (told.0 (search rules))
+    let reported = c.load-serving.ensures.2 c.args.ticket (ap (λ m. m.0.stage) same ∙ c.requires.waits) in
+    subst (λ m. Served g.T.Chronicle m c.load-serving.new.seat.me) same (reported.0 (search rules))

@@ -35,7 +35,7 @@ returns-in-Ok-clause-lands g c =
     let gets = c.home_turn-turn.ensures.gets in
     let did = c.in-Ok.ensures.adds in
     let step = Ok c.in-Ok.receipt in
-    let adds = subst (λ e. Adds s did.new e step did.added) c.entry.ensures did.adds in
+    let adds = subst (λ e. Adds s did.new e step did.added) c.entry-entry.ensures did.adds in
     lands_of hall old _ s did.new l p did.added (Ok c.in-Ok.receipt) gets.state gets.home (omega (arith, gets.turns, did.turns, ap length gets.mine))
     (λ h with_h. plan_later h (opening_of hall) l (seen_of old) p with_h gets.state.trace gets.begins (c.requires.planned h with_h))
     gets.begins gets.alone did.seen (did.mine ∙ ap (λ m. with_number m l did.added) gets.mine)
@@ -52,7 +52,7 @@ returns-in-Err-clause-lands g c =
     let gets = c.home_turn-turn.ensures.gets in
     let did = c.in-Err.ensures.adds in
     let step = Err c.in-Err.fault in
-    let adds = subst (λ e. Adds s did.new e step did.added) c.entry.ensures did.adds in
+    let adds = subst (λ e. Adds s did.new e step did.added) c.entry-entry.ensures did.adds in
     lands_of hall old _ s did.new l p did.added _ gets.state gets.home (omega (arith, gets.turns, did.turns, ap length gets.mine))
     (λ h with_h. plan_later h (opening_of hall) l (seen_of old) p with_h gets.state.trace gets.begins (c.requires.planned h with_h))
     gets.begins gets.alone did.seen (did.mine ∙ ap (λ m. with_number m l did.added) gets.mine)

@@ -1,12 +1,12 @@
 use Rattle.std.proofs.Math.Nat.{eq-or-lt_of_le}
-use Rattle.std.proofs.Common.{◌≡◌, ◌+◌, min, inl, inr, length, refl, sym, ap, ◌∙◌, subst, arith, ◌++◌, List}
+use Rattle.std.proofs.Common.{◌≡◌, ◌+◌, ◌<◌, min, inl, inr, length, refl, sym, ap, ◌∙◌, subst, arith, ◌++◌, List}
 use Rattle.std.proofs.lemmas.Result.{err_from_is_err_and}
 use Rattle.std.proofs.lemmas.List.{length-map}
 use Rattle.btr_base.specs.declared.limits.TheConstants.{FIRST}
 use Rattle.btr_base.specs.Span.{SpanValue}
 use Rattle.btr_base.specs.Agg.{agg}
 use Rattle.btr_base.proofs.AggLemmas.{agg-count}
-use Rattle.btr_tree.specs.History.{Commit, bag, ◌▷◌}
+use Rattle.btr_tree.specs.History.{Commit, Past, bag, ◌▷◌, IsBefore}
 use Rattle.btr_tree.specs.Nodes.{points_of, above_root}
 use Rattle.btr_tree.specs.Shape.{IsChild}
 use Rattle.btr_tree.specs.Slots.{linked, node_of}
@@ -53,14 +53,36 @@ returns-then-agg-gt-MAX_POINTS-clause-fault g c h tree =
     let count : c.agg.inside.count ≡ length (bag (mine ▷ h)) = ap (λ u. u.count) c.agg.view_is ∙ ap (λ u. u.count) counted ∙ agg-count (points_of 10 FIRST (bag (mine ▷ h))) ∙ ap length (root-points (bag (mine ▷ h)) step.times) in
     (count, c.if-agg-gt-MAX_POINTS.true, tree-room (mine ▷ h) (linked c.in_ok-slot.root) step.times holds)
 
-pub returns-clause-tree : goal.returns-clause-tree
-returns-clause-tree g c h tree =
+pub returns-clause-applied : goal.returns-clause-applied
+returns-clause-applied g c =
     let mine : Commit = record { version = c.args.version; cut = c.args.cut.now; added = c.args.added.now } in
-    let step = root-step c.root_span.result h mine (node_of c.whole-total.result.0) c.whole-total.result.1 c.as_slice.result.now c.as_slice-2.result.now c.root_span.ensures c.as_slice.ensures.ranges c.as_slice-2.ensures.points (tree-whole h c.args.self.now (node_of c.whole-total.result.0) c.whole-total.result.1 tree (c.whole-total.ensures.same h tree).0 (c.whole-total.ensures.same h tree).1) c.requires.added in
-    let holds = subst (λ (u : SpanValue). IsChild u.height u.start above_root (mine ▷ h) (linked c.in_ok-slot.root)) c.root_span.ensures (c.in_ok-slot.ensures.child above_root h mine refl step.holds step.counted step.change) in
-    let counted = subst (λ (u : SpanValue). c.in_ok-slot.slot.agg ≡ agg (points_of u.height u.start (bag (mine ▷ h)))) c.root_span.ensures (c.in_ok-slot.ensures.agg above_root h mine refl step.holds step.counted step.change) in
-    let few = c.if-agg-gt-MAX_POINTS.false in
-    subst (λ (u : SpanValue). IsTree (mine ▷ h) (record { span = u; node = linked c.in_ok-slot.root; total = c.in_ok-slot.slot.agg })) (sym c.root_span-2.ensures) (tree-of (mine ▷ h) (linked c.in_ok-slot.root) c.in_ok-slot.slot.agg step.times holds counted (omega (arith, ap (λ u. u.count) c.agg.view_is)))
+    let root = linked c.in_ok-slot.root in
+    let step = λ (h : Past) (tree : IsTree h c.args.self.now). root-step c.root_span.result h mine (node_of c.whole-total.result.0) c.whole-total.result.1 c.as_slice.result.now c.as_slice-2.result.now c.root_span.ensures c.as_slice.ensures.ranges c.as_slice-2.ensures.points (tree-whole h c.args.self.now (node_of c.whole-total.result.0) c.whole-total.result.1 tree (c.whole-total.ensures.same h tree).0 (c.whole-total.ensures.same h tree).1) c.requires.added in
+    let holds = λ (h : Past) (tree : IsTree h c.args.self.now). subst (λ (u : SpanValue). IsChild u.height u.start above_root (mine ▷ h) root) c.root_span.ensures (c.in_ok-slot.ensures.child above_root h mine refl (step h tree).holds (step h tree).counted (step h tree).change) in
+    let counted = λ (h : Past) (tree : IsTree h c.args.self.now). subst (λ (u : SpanValue). c.in_ok-slot.slot.agg ≡ agg (points_of u.height u.start (bag (mine ▷ h)))) c.root_span.ensures (c.in_ok-slot.ensures.agg above_root h mine refl (step h tree).holds (step h tree).counted (step h tree).change) in
+    let nodes = λ (h : Past) (tree : IsTree h c.args.self.now) (some : 0 < c.args.version) (before : IsBefore c.args.version h).
+    c.in_ok-slot.ensures.nodes above_root h mine refl (step h tree).holds (step h tree).counted (step h tree).change refl some before
+    ∙ ap (λ (u : SpanValue). bare_all c.new-nodes.result.items ++ new_nodes u.height u.start above_root (mine ▷ h) c.args.version) c.root_span.ensures
+    ∙ ap (λ (x : List NewNodeValue). bare_all x ++ new_nodes 10 FIRST above_root (mine ▷ h) c.args.version) c.new-nodes.ensures.items in
+    let many = c.if-agg-gt-MAX_POINTS.false in
+    let none = ap (length {A = NewNodeValue}) c.new-nodes.ensures.items in
+    let count = c.in_ok-slot.ensures.counted in
+    record {
+      tree = λ h tree. subst (λ (u : SpanValue). IsTree (mine ▷ h) (record { span = u; node = root; total = c.in_ok-slot.slot.agg })) (sym c.root_span-2.ensures) (tree-of (mine ▷ h) root c.in_ok-slot.slot.agg (step h tree).times (holds h tree) (counted h tree) (omega (arith, ap (λ u. u.count) c.agg.view_is)));
+      nodes = nodes;
+      stored = λ store low.
+          let seen = below-either store c.args.first 10 FIRST c.args.self.now.node (node_of c.whole-total.result.0) c.requires.first.0 c.whole-total.ensures.either low in
+          let here = subst (λ (u : SpanValue). IsBelow store c.args.first u.height u.start (node_of c.whole-total.result.0)) (sym c.root_span.ensures) seen in
+          subst (λ (u : SpanValue). IsLaid store c.args.first c.apply_slot.new.nodes.items u.height u.start root) c.root_span.ensures (c.in_ok-slot.ensures.stored store here);
+      few = λ h tree some before.
+          let same = ap (length {A = NewNodeValue}) (nodes h tree some before) in
+          omega (arith, same, length-map c.apply_slot.new.nodes.items bare, new_nodes-bound FIRST above_root h mine c.args.version refl some before);
+      steps = elim (eq-or-lt_of_le count.grows) [
+        | inl same ↦ omega (arith, count.none (sym same))
+        | inr more ↦ count.some more ∙ ap (λ n. min (c.args.steps.now + n) 18446744073709551615) (omega arith)
+      ];
+      room = λ h tree. tree-room (mine ▷ h) root (step h tree).times (holds h tree);
+    }
 
 pub invariant_of-result : goal.invariant_of-result
 invariant_of-result g c =
@@ -74,39 +96,3 @@ invariant_of-result g c =
       mine ▷ h,
       subst (λ (u : SpanValue). IsTree (mine ▷ h) (record { span = u; node = linked c.in_ok-slot.root; total = c.in_ok-slot.slot.agg })) (sym c.root_span-2.ensures) (tree-of (mine ▷ h) (linked c.in_ok-slot.root) c.in_ok-slot.slot.agg step.times holds counted (omega (arith, ap (λ u. u.count) c.agg.view_is))),
     )
-
-pub returns-clause-room : goal.returns-clause-room
-returns-clause-room g c h tree =
-    let mine : Commit = record { version = c.args.version; cut = c.args.cut.now; added = c.args.added.now } in
-    let step = root-step c.root_span.result h mine (node_of c.whole-total.result.0) c.whole-total.result.1 c.as_slice.result.now c.as_slice-2.result.now c.root_span.ensures c.as_slice.ensures.ranges c.as_slice-2.ensures.points (tree-whole h c.args.self.now (node_of c.whole-total.result.0) c.whole-total.result.1 tree (c.whole-total.ensures.same h tree).0 (c.whole-total.ensures.same h tree).1) c.requires.added in
-    let holds = subst (λ (u : SpanValue). IsChild u.height u.start above_root (mine ▷ h) (linked c.in_ok-slot.root)) c.root_span.ensures (c.in_ok-slot.ensures.child above_root h mine refl step.holds step.counted step.change) in
-    tree-room (mine ▷ h) (linked c.in_ok-slot.root) step.times holds
-
-pub returns-clause-nodes : goal.returns-clause-nodes
-returns-clause-nodes g c h tree some before =
-    let mine : Commit = record { version = c.args.version; cut = c.args.cut.now; added = c.args.added.now } in
-    let step = root-step c.root_span.result h mine (node_of c.whole-total.result.0) c.whole-total.result.1 c.as_slice.result.now c.as_slice-2.result.now c.root_span.ensures c.as_slice.ensures.ranges c.as_slice-2.ensures.points (tree-whole h c.args.self.now (node_of c.whole-total.result.0) c.whole-total.result.1 tree (c.whole-total.ensures.same h tree).0 (c.whole-total.ensures.same h tree).1) c.requires.added in
-    c.in_ok-slot.ensures.nodes above_root h mine refl step.holds step.counted step.change refl some before
-    ∙ ap (λ (u : SpanValue). bare_all c.new-nodes.result.items ++ new_nodes u.height u.start above_root (mine ▷ h) c.args.version) c.root_span.ensures
-    ∙ ap (λ (x : List NewNodeValue). bare_all x ++ new_nodes 10 FIRST above_root (mine ▷ h) c.args.version) c.new-nodes.ensures.items
-
-pub returns-clause-few : goal.returns-clause-few
-returns-clause-few g c h tree some before =
-    let mine : Commit = record { version = c.args.version; cut = c.args.cut.now; added = c.args.added.now } in
-    let nodes = ap (length {A = NewNodeValue}) (returns-clause-nodes g c h tree some before) in
-    omega (arith, nodes, length-map c.apply_slot.new.nodes.items bare, new_nodes-bound FIRST above_root h mine c.args.version refl some before)
-
-pub returns-clause-steps : goal.returns-clause-steps
-returns-clause-steps g c =
-    let none = ap (length {A = NewNodeValue}) c.new-nodes.ensures.items in
-    let counted = c.in_ok-slot.ensures.counted in
-    elim (eq-or-lt_of_le counted.grows) [
-      | inl same ↦ omega (arith, counted.none (sym same))
-      | inr more ↦ counted.some more ∙ ap (λ n. min (c.args.steps.now + n) 18446744073709551615) (omega arith)
-    ]
-
-pub returns-clause-stored : goal.returns-clause-stored
-returns-clause-stored g c store low =
-    let seen = below-either store c.args.first 10 FIRST c.args.self.now.node (node_of c.whole-total.result.0) c.requires.first.0 c.whole-total.ensures.either low in
-    let here = subst (λ (u : SpanValue). IsBelow store c.args.first u.height u.start (node_of c.whole-total.result.0)) (sym c.root_span.ensures) seen in
-    subst (λ (u : SpanValue). IsLaid store c.args.first c.apply_slot.new.nodes.items u.height u.start (linked c.in_ok-slot.root)) c.root_span.ensures (c.in_ok-slot.ensures.stored store here)

@@ -31,7 +31,7 @@ use Rattle.btr_jobs.specs.Turns.{Committed, CommittedAfter, Landed, LandedAfter}
 use Rattle.btr_jobs.proofs.StateLemmas.{failed_halt}
 use Rattle.btr_live.specs.Meaning.{Meaning, Commits, Asks, Holds, Current, Refuses}
 use Rattle.btr_live.specs.Lanes.{reply_of_step, reply_of_landing, Offers, Answers, is_failure, tells_failure}
-use Rattle.btr_live.specs.Serving.{was_told}
+use Rattle.btr_live.specs.Serving.{was_reported}
 
 -- Whether the store was stopped from the beginning, or its device has failed.
 abbrev pub has_failed : StoreState → LogState → Bool
@@ -103,20 +103,20 @@ module _ (start : StoreState) (log : LogState) where
 
   -- ---- who saw the device fail
 
-  offers_told : (more saw_failure : Bool) → (saw_failure ≡ true → more ≡ true) → (a : List Entry) (e : Entry) (reply : LineReply) (own : List ℕ) (next : List Entry) → Offers start log more a e reply own next → Offers start log saw_failure a e reply own next
-  offers_told more saw_failure implies a (entries.Create id) reply own next is = (is.0, is.1, is.2, λ t. is.3 (implies t))
-  offers_told more saw_failure implies a (entries.Define id spec) reply own next is = (is.0, is.1, is.2, λ t. is.3 (implies t))
-  offers_told more saw_failure implies a (entries.Commit stream cut added) reply own next is = (is.0, is.1, is.2, λ t. is.3 (implies t))
-  offers_told more saw_failure implies a (entries.Distillate stream cut added reads) reply own next is =
+  offers_reported : (more saw_failure : Bool) → (saw_failure ≡ true → more ≡ true) → (a : List Entry) (e : Entry) (reply : LineReply) (own : List ℕ) (next : List Entry) → Offers start log more a e reply own next → Offers start log saw_failure a e reply own next
+  offers_reported more saw_failure implies a (entries.Create id) reply own next is = (is.0, is.1, is.2, λ t. is.3 (implies t))
+  offers_reported more saw_failure implies a (entries.Define id spec) reply own next is = (is.0, is.1, is.2, λ t. is.3 (implies t))
+  offers_reported more saw_failure implies a (entries.Commit stream cut added) reply own next is = (is.0, is.1, is.2, λ t. is.3 (implies t))
+  offers_reported more saw_failure implies a (entries.Distillate stream cut added reads) reply own next is =
       (is.0, is.1, is.2, is.3, is.4, is.5, λ t. is.6 (implies t))
 
   -- What is replied to who saw it is also replied to who did not.
-  pub answers_told : (more saw_failure : Bool) → (saw_failure ≡ true → more ≡ true) → (a : List Entry) (m : Meaning) (reply : LineReply) (own : List ℕ) (next : List Entry) → Answers start log more a m reply own next → Answers start log saw_failure a m reply own next
-  answers_told more saw_failure implies a (Commits e) reply own next is = offers_told more saw_failure implies a e reply own next is
-  answers_told more saw_failure implies a (Asks query) reply own next is = is
-  answers_told more saw_failure implies a (Holds count) reply own next is = is
-  answers_told more saw_failure implies a (Current version) reply own next is = is
-  answers_told more saw_failure implies a (Refuses reason) reply own next is = is
+  pub answers_reported : (more saw_failure : Bool) → (saw_failure ≡ true → more ≡ true) → (a : List Entry) (m : Meaning) (reply : LineReply) (own : List ℕ) (next : List Entry) → Answers start log more a m reply own next → Answers start log saw_failure a m reply own next
+  answers_reported more saw_failure implies a (Commits e) reply own next is = offers_reported more saw_failure implies a e reply own next is
+  answers_reported more saw_failure implies a (Asks query) reply own next is = is
+  answers_reported more saw_failure implies a (Holds count) reply own next is = is
+  answers_reported more saw_failure implies a (Current version) reply own next is = is
+  answers_reported more saw_failure implies a (Refuses reason) reply own next is = is
 
 -- ---- sessions
 
@@ -126,16 +126,16 @@ or_more false true c is = refl
 or_more false false c is = never _ is
 
 -- Whether a session sees that the store is stopped, and the number of entries if so.
-pub told_some : (saw_failure : Bool) (count entries : ℕ) → (if saw_failure then Some count else None) ≡ Some entries → (saw_failure ≡ true) × (entries ≡ count)
-told_some true count entries is = (refl, cc)
-told_some false count entries is = absurd (cc)
+pub reported_some : (saw_failure : Bool) (count entries : ℕ) → (if saw_failure then Some count else None) ≡ Some entries → (saw_failure ≡ true) × (entries ≡ count)
+reported_some true count entries is = (refl, cc)
+reported_some false count entries is = absurd (cc)
 
-pub told_none : (saw_failure : Bool) (count : ℕ) → (if saw_failure then Some count else None) ≡ None → saw_failure ≡ false
-told_none true count is = absurd (cc)
-told_none false count is = refl
+pub reported_none : (saw_failure : Bool) (count : ℕ) → (if saw_failure then Some count else None) ≡ None → saw_failure ≡ false
+reported_none true count is = absurd (cc)
+reported_none false count is = refl
 
-pub told_not : (P : Type 0) (saw_failure : Bool) → saw_failure ≡ false → saw_failure ≡ true → P
-told_not P saw_failure not is = never P (sym not ∙ is)
+pub reported_not : (P : Type 0) (saw_failure : Bool) → saw_failure ≡ false → saw_failure ≡ true → P
+reported_not P saw_failure not is = never P (sym not ∙ is)
 
 module _ {D : Type 0} {disk : Ghosts D} where
   -- A list that begins with one that has a halt has it too.
@@ -145,5 +145,5 @@ module _ {D : Type 0} {disk : Ghosts D} where
       ∙ or_more (is_stopped x) (has_halt k) (has_halt starts.0) is
 
   -- A session has seen that the store is stopped exactly if its log says so.
-  pub told_failed : (h : List Entry) (hall : Hall D disk) (s : Session D disk) → was_told hall s ≡ has_failed (start_of h hall) (log_seen h s)
-  told_failed h hall s = ap (λ b. is_stopped (opening_of hall) || b) (sym (failed_halt (seen_of s)))
+  pub reported_failed : (h : List Entry) (hall : Hall D disk) (s : Session D disk) → was_reported hall s ≡ has_failed (start_of h hall) (log_seen h s)
+  reported_failed h hall s = ap (λ b. is_stopped (opening_of hall) || b) (sym (failed_halt (seen_of s)))

@@ -1,7 +1,7 @@
 use Rattle.std.proofs.Common.{ap, ◌∙◌}
 use Rattle.btr_gate.specs.Shares.{on_path}
 use Rattle.btr_hall.proofs.SessionLemmas.{alone_alike}
-use Rattle.btr_hall_tests.proofs.hall_tests.told_to_eight.Goals as goal
+use Rattle.btr_hall_tests.proofs.hall_tests.committed_by_eight.Goals as goal
 
 pub close-engine-requires-clause-alone : goal.close-engine-requires-clause-alone
 close-engine-requires-clause-alone g c =

@@ -1,0 +1,137 @@
+//! Who makes what a commit needs: the calling thread alone, or several threads.
+ghost use Rattle.std.specs.Prelude.{◌≡◌, ◌≤◌, ◌^◌, IfOk, IfErr, OnOk};
+ghost use Rattle.std.specs.List.{flat_map};
+ghost use Rattle.btr_base.specs.Point.{AreInDomain};
+ghost use Rattle.btr_tree.specs.History.{bag, ◌▷◌};
+ghost use Rattle.btr_tree.specs.Root.{IsTreeFault, AfterCommit};
+ghost use Rattle.btr_tree.specs.Applied.{IsCommitApplied};
+ghost use Rattle.btr_node.specs.Page.{page_bytes};
+ghost use Rattle.btr_pages.specs.Pages.{pages_of};
+ghost use Rattle.btr_entry.specs.Grammar.{point, ValuesFit};
+
+use crate::extent_parts::{pages_by, pages_in, points_by, points_in};
+use btr_base::{Bag, Point, Ranges};
+use btr_disk::Parts;
+use btr_tree::{Applied, NewNode, Steps, Tree, TreeFault};
+use std::alloc::{AllocError, Global};
+use std::marker::Sync;
+use std::thread::Threads;
+
+/// Who makes what a commit needs.
+pub trait Maker {
+    /// What its threads need: that they can share what starts them.
+    ghost can_make: { Type 0 };
+
+    /// The greatest number of threads that work at once, the calling one among them.
+    fn threads(&self) -> usize;
+
+    /// Returns what [`Tree::apply`] returns.
+    fn apply<L>(
+        &self,
+        alloc: Global,
+        tree: &Tree,
+        cut: &Ranges,
+        added: &Bag,
+        version: u64,
+        first: u64,
+        steps: &mut Steps<L>,
+    ) -> Result<Applied, TreeFault>
+        requires able { can_make }
+        requires added { AreInDomain added.now }
+        requires first { (1 ≤ first) × (first ≤ 2 ^ 33) }
+        ensures applied { IfOk result (IsCommitApplied tree.now version cut.now added.now first steps.old steps.new) }
+        ensures fault { IfErr result (λ e. AfterCommit tree.now version cut.now added.now (λ h c. IsTreeFault (bag (c ▷ h)) e)) };
+
+    /// Returns the pages of nodes of a stream, one in each block. An `Err` is out of memory.
+    fn pages(&self, alloc: Global, stream: u32, nodes: &[NewNode]) -> Result<Parts, AllocError>
+        requires { can_make }
+        ensures { IfOk result (λ p. p ≡ flat_map page_bytes (pages_of stream nodes.now)) };
+
+    /// Returns the bytes of points as an entry has them. An `Err` is out of memory.
+    fn points(&self, alloc: Global, points: &[Point]) -> Result<Parts, AllocError>
+        requires { can_make }
+        ensures bytes { IfOk result (λ p. p ≡ flat_map point points.now) }
+        ensures values { OnOk result (ValuesFit points.now) };
+}
+
+/// The calling thread alone.
+#[derive(Drop)]
+pub struct Alone;
+
+impl Maker for Alone {
+    ghost use Rattle.std.specs.Prelude.{⊤};
+
+    ghost can_make = { ⊤ };
+
+    fn threads(&self) -> usize {
+        1
+    }
+
+    fn apply<L>(
+        &self,
+        alloc: Global,
+        tree: &Tree,
+        cut: &Ranges,
+        added: &Bag,
+        version: u64,
+        first: u64,
+        steps: &mut Steps<L>,
+    ) -> Result<Applied, TreeFault> {
+        tree.apply(alloc, cut, added, version, first, steps)
+    }
+
+    fn pages(&self, alloc: Global, stream: u32, nodes: &[NewNode]) -> Result<Parts, AllocError> {
+        pages_by(alloc, stream, nodes)
+    }
+
+    fn points(&self, alloc: Global, points: &[Point]) -> Result<Parts, AllocError> {
+        points_by(alloc, points)
+    }
+}
+
+/// At most `threads` threads at once, the calling one among them. What is small is made by the calling thread.
+#[derive(Drop)]
+pub struct Crew<'a, R> {
+    pub rt: &'a R,
+    pub threads: usize,
+}
+
+impl<R: Threads + Sync> Maker for Crew<'_, R> {
+    ghost use Rattle.std.specs.Thread.{IsSync};
+
+    ghost can_make = { IsSync R.row };
+
+    fn threads(&self) -> usize {
+        self.threads
+    }
+
+    fn apply<L>(
+        &self,
+        alloc: Global,
+        tree: &Tree,
+        cut: &Ranges,
+        added: &Bag,
+        version: u64,
+        first: u64,
+        steps: &mut Steps<L>,
+    ) -> Result<Applied, TreeFault> {
+        tree.apply_shared(
+            self.rt,
+            alloc,
+            cut,
+            added,
+            version,
+            first,
+            self.threads,
+            steps,
+        )
+    }
+
+    fn pages(&self, alloc: Global, stream: u32, nodes: &[NewNode]) -> Result<Parts, AllocError> {
+        pages_in(self.rt, alloc, stream, nodes, self.threads)
+    }
+
+    fn points(&self, alloc: Global, points: &[Point]) -> Result<Parts, AllocError> {
+        points_in(self.rt, alloc, points, self.threads)
+    }
+}
