@@ -38,8 +38,8 @@ fn main(rt: HostRuntime) -> ExitCode {
 }
 
 /// Lets the C library keep what is freed for whoever asks for memory next. Until a large block is freed, it gives each block of 128 KiB
-/// or more back to the system at once, and lengthens the memory of each thread page by page, for which the threads wait for one another.
-/// The block is not touched, so it takes no memory.
+/// or more back to the system at once. So the memory of each thread stays small, and is lengthened page by page, for which the threads
+/// wait for one another. The block is not touched, so it takes no memory.
 fn keep_freed_memory(alloc: Global) {
     let block: Result<Vec<u8>, AllocError> = Vec::with_capacity(alloc, KEPT_BYTES);
     drop(block);
