@@ -1,5 +1,5 @@
 -- Lemmas on points, their order, and bags.
-use Rattle.std.specs.Prelude.{◌≡◌, ℕ, ◌+◌, ◌<◌, ◌≤◌, slice_index_or, drop, Bool, true, false, not, ℤ, ◌≤ℤ◌, ◌<ℤ◌, ◌⊎◌, List, [], ◌∷◌, ◌++◌, length, cond, IsTrue}
+use Rattle.std.specs.Prelude.{◌≡◌, ℕ, ◌+◌, ◌-◌, ◌<◌, ◌≤◌, slice_index_or, drop, Bool, true, false, not, ℤ, ◌≤ℤ◌, ◌<ℤ◌, ◌⊎◌, List, [], ◌∷◌, ◌++◌, length, cond, IsTrue}
 use Rattle.std.specs.List.{filter, count_by, AllByRecursion}
 use Rattle.std.proofs.Common.{zero, suc, refl, sym, ap, ◌∙◌, arith, subst}
 use Rattle.std.proofs.lemmas.Int.{ints}
@@ -274,6 +274,17 @@ length-sort (p ∷ b) = omega (arith, length-insert p (sort b), length-sort b)
 pub each-before : (p q : Point) (b : List Point) → IsInOrder (q ∷ b) → is_not_after p q ≡ true → AllByRecursion (λ r. IsTrue (is_not_after p r)) (q ∷ b)
 each-before p q b h e =
     (e, each-weaker (λ r. IsTrue (is_not_after q r)) (λ r. IsTrue (is_not_after p r)) (λ r k. is_not_after-trans p q r e k) b h.0)
+
+-- Two lists in order, of which the last point of one may precede the first of the other, are in order one after the other.
+pub in_order-append : (a b : List Point) (last first : Point) → IsInOrder a → IsInOrder b → ((d : Point) → last ≡ slice_index_or a (length a - 1) d) → ((d : Point) → first ≡ slice_index_or b 0 d) → is_not_after last first ≡ true → IsInOrder (a ++ b)
+in_order-append [] b last first h k is_last is_first le = k
+in_order-append (p ∷ []) [] last first h k is_last is_first le = (tt, tt)
+in_order-append (p ∷ []) (q ∷ b) last first h k is_last is_first le =
+    (each-before p q b k (sym (λ i. is_not_after (is_last p i) (is_first p i)) ∙ le), k)
+in_order-append (p ∷ q ∷ a) b last first h k is_last is_first le =
+    let next : length (p ∷ q ∷ a) - 1 ≡ suc (length (q ∷ a) - 1) = omega arith in
+    let rest = in_order-append (q ∷ a) b last first h.1 k (λ d. is_last d ∙ ap (λ n. slice_index_or (p ∷ q ∷ a) n d) next) is_first le in
+    (each-before p q (a ++ b) rest h.0.0, rest)
 
 pub sort-take_first : (p : Point) (a b : List Point) → AllByRecursion (λ q. IsTrue (is_not_after p q)) a → AllByRecursion (λ q. IsTrue (is_not_after p q)) b → sort (p ∷ a ++ b) ≡ p ∷ sort (a ++ b)
 sort-take_first p a b h k = sort-first p (a ++ b) (each-append (λ q. IsTrue (is_not_after p q)) a b h k)

@@ -1,5 +1,5 @@
 ghost use Rattle.std.specs.Prelude.{◌≡◌, ℕ, ◌≤◌, ◌<◌, ℤ, ◌≤ℤ◌, ◌<ℤ◌, List, [], ◌++◌, length, drop};
-ghost use Rattle.std.specs.Prelude.{slice_index_or, IfOk, IsTrue, filter, int_lt, not};
+ghost use Rattle.std.specs.Prelude.{slice_index_or, IfOk, OnOk, OnErr, IsTrue, filter, int_lt, not};
 ghost use Rattle.btr_base.specs.declared.point.Point.{Point as APoint};
 ghost use Rattle.btr_base.specs.Bag.{IsInOrder, sort, outside, within};
 ghost use Rattle.btr_base.specs.Range.{RangeValue, IsCut, covered};
@@ -78,6 +78,30 @@ impl Bag {
         Ok(Bag { points })
     }
 
+    /// Adds the points of another bag. A point that both contain counts for each. If no point of the other bag comes before the
+    /// last one of this bag, they are appended, in time linear in their number on average. Otherwise all are sorted anew, in
+    /// `n log n` time. It takes memory for the points of both, or none if [`Bag::reserve`] has made room. An `Err` means out of
+    /// memory, and nothing is changed.
+    pub fn append(&mut self, other: &Bag) -> Result<(), AllocError>
+        ensures added { OnOk result (self.new ≡ sort (self.old ++ other.now)) }
+        ensures err { OnErr result (self.new ≡ self.old) }
+    {
+        let follows = may_follow(&self.points, &other.points);
+        self.points.extend_from_slice(&other.points)?;
+        if !follows {
+            self.points.sort_unstable();
+        }
+        Ok(())
+    }
+
+    /// Makes room for this many more points, exactly. If there is less room, it takes memory for all, and moves the points there, in
+    /// linear time. An `Err` means out of memory.
+    pub fn reserve(&mut self, points: usize) -> Result<(), AllocError>
+        ensures { self.new ≡ self.old }
+    {
+        self.points.reserve_exact(points)
+    }
+
     /// The same points in memory of their own, in linear time. An `Err` means out of memory.
     pub fn copy(&self, alloc: Global) -> Result<Bag, AllocError>
         ensures { IfOk result (λ b. b ≡ self.now) }
@@ -99,6 +123,18 @@ fn do_times_rise(points: &[Point]) -> bool
         last = point.time;
     }
     true
+}
+
+/// Whether no point of the second list comes before the last one of the first. It takes constant time.
+fn may_follow(a: &[Point], b: &[Point]) -> bool
+    requires a { IsInOrder a.now }
+    requires b { IsInOrder b.now }
+    ensures { IsTrue result → IsInOrder (a.now ++ b.now) }
+{
+    match (a.last(), b.first()) {
+        (Some(last), Some(first)) => last <= first,
+        _ => true,
+    }
 }
 
 /// The points of a list in order whose time no range covers. It takes one pass over points and ranges, and memory for as many

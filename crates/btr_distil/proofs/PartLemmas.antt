@@ -1,7 +1,6 @@
 -- Lemmas on the parts of a cut, and on the points in them.
 use Rattle.std.specs.Prelude.{◌≡◌, ℤ, ◌≤ℤ◌, ◌<ℤ◌, Bool, true, false, ◌&&◌, ◌||◌, int_le, int_lt, List, [], ◌∷◌, ◌++◌, Ok, map}
 use Rattle.std.specs.declared.result.Result.{Result}
-use Rattle.std.specs.declared.vec.Vec.{Vec}
 use Rattle.std.specs.List.{filter, flat_map, AllZip, AllByRecursion}
 use Rattle.std.specs.Int.{int_max, int_min}
 use Rattle.std.specs.Prelude.{IfOk}
@@ -134,15 +133,15 @@ parts-more cut rest low high m parts is_cut so_far h k b order =
 pub parts-last : (cut rest : List RangeValue) (parts : List (List RangeValue)) → AreSoFar cut parts rest → ArePartsOf cut (parts ++ rest ∷ [])
 parts-last cut rest parts so_far b order = points-one b parts rest ∙ so_far b order
 
--- If each of the lists has the points in its part, together they have those in all parts.
-lists-points : {A : Type 0} (b : List Point) (parts : List (List RangeValue)) (lists : List (Vec Point A)) → AllZip (λ r l. l.items ≡ points_in b r) parts lists → flat_map (λ l. l.items) lists ≡ flat_map (points_in b) parts
-lists-points b [] [] h = refl
-lists-points b [] (l ∷ lists) h = absurd h
-lists-points b (r ∷ parts) [] h = absurd h
-lists-points b (r ∷ parts) (l ∷ lists) h = λ i. h.0 i ++ lists-points b parts lists h.1 i
+-- If each of the bags has the points in its part, together they have those in all parts.
+bags-points : (b : List Point) (parts : List (List RangeValue)) (bags : List (List Point)) → AllZip (λ r l. l ≡ points_in b r) parts bags → flat_map (λ l. l) bags ≡ flat_map (points_in b) parts
+bags-points b [] [] h = refl
+bags-points b [] (l ∷ bags) h = absurd h
+bags-points b (r ∷ parts) [] h = absurd h
+bags-points b (r ∷ parts) (l ∷ bags) h = λ i. h.0 i ++ bags-points b parts bags h.1 i
 
-pub joined-points : {A : Type 0} (cut : List RangeValue) (b : List Point) (parts : List (List RangeValue)) (lists : List (Vec Point A)) → ArePartsOf cut parts → IsInOrder b → AllZip (λ r l. l.items ≡ points_in b r) parts lists → flat_map (λ l. l.items) lists ≡ points_in b cut
-joined-points cut b parts lists are order h = lists-points b parts lists h ∙ are b order
+pub joined-points : (cut : List RangeValue) (b : List Point) (parts : List (List RangeValue)) (bags : List (List Point)) → ArePartsOf cut parts → IsInOrder b → AllZip (λ r l. l ≡ points_in b r) parts bags → flat_map (λ l. l) bags ≡ points_in b cut
+joined-points cut b parts bags are order h = bags-points b parts bags h ∙ are b order
 
 -- What holds at each part of an answer that is Ok, if all of them are Ok.
 pub all-ok : {X Y : Type 0} (E : Type 0) (P : X → Y → Type 0) (xs : List X) (ys : List Y) → AllZip (λ x (r : Result Y E). IfOk r (P x)) xs (map Ok ys) → AllZip P xs ys

@@ -1,8 +1,8 @@
 //! The next commit of an output.
 ghost use Rattle.std.specs.Prelude.{◌≡◌, ◌↔◌, IsNone, IsTrue, IfOk, IfSome, filter};
 ghost use Rattle.btr_base.specs.Range.{covered};
-ghost use Rattle.btr_hist.specs.Distil.{Inputs, output_points};
-ghost use Rattle.btr_distil.specs.Sight.{IsSightOf};
+ghost use Rattle.btr_hist.specs.Distil.{output_points};
+ghost use Rattle.btr_kernel.specs.Sources.{AtEachInputs};
 ghost use Rattle.btr_distil.specs.Plan.{IsPlanFor, IsDistillateOf, IsMapped};
 
 use crate::changed::affected;
@@ -53,8 +53,8 @@ pub fn plan_anew(alloc: Global, sight: &Sight<'_>) -> Result<Plan, AllocError>
 /// If `threads` is at most 1, or the first input has fewer than 10,000 points in the cut, it starts no thread. Otherwise each part
 /// has about the same number of points. The cost is that of `plan`, and for each part that of reading once more the points for as
 /// long before it as the kernel looks back. Before that it counts points, in time logarithmic in the points of the input for each
-/// range of the cut, and for each part some sixty times this at most. It takes memory for the added points twice. An `Err` means
-/// out of memory, in any of the threads.
+/// range of the cut, and for each part some sixty times this at most. After that the calling thread appends the points of the parts,
+/// in time linear in their number. It takes memory for the added points twice. An `Err` means out of memory, in any of the threads.
 pub fn plan_shared<R: Threads + Sync>(
     rt: &R,
     alloc: Global,
@@ -108,8 +108,8 @@ pub(crate) fn output_over(
     sight: &Sight<'_>,
     ranges: &Ranges,
 ) -> Result<Bag, AllocError>
-    ensures { IfOk result (λ b. (old new : Inputs) → IsSightOf sight.now old new
-        → b ≡ filter (λ p. covered ranges.now p.time) (output_points sight.now.spec new)) }
+    ensures { IfOk result (λ b. AtEachInputs sight.now.new_first sight.now.new_second (λ i.
+        b ≡ filter (λ p. covered ranges.now p.time) (output_points sight.now.spec i))) }
 {
     let points = run_over(
         alloc,

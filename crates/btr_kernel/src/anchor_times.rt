@@ -35,7 +35,7 @@ pub(crate) fn anchors_in(
     requires { IsInOrder points.now }
     ensures { IfOk result (λ v. v.items ≡ filter (covered ranges.now) (anchors_of points.now)) }
 {
-    let mut times = Vec::new(alloc);
+    let mut times = Vec::with_capacity(alloc, points.len())?;
     for i in 0..points.len() {
         let time = points[i].time;
         if is_last_at(points, i) && ranges.covers(time) {

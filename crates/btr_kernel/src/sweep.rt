@@ -92,7 +92,7 @@ pub(crate) fn swept(
     ensures { IfOk result (λ v. v.items ≡ points_from (value_of spec.now (record { first = first.now; second = second.now })) times.now) }
 {
     let mut sweep = Sweep::new(alloc);
-    let mut made = Vec::new(alloc);
+    let mut made = Vec::with_capacity(alloc, times.len())?;
     for time in times {
         match sweep.value(spec, *time, first, second)? {
             Some(value) => made.push(Point { time: *time, value })?,

@@ -297,15 +297,17 @@ fn points_outside_ranges(rt: HostRuntime) -> Result<(), Fail> {
     all_hold(rt.alloc(), LEFT)
 }
 
-/// The points of two bags, and those of both.
+/// The points of two bags, and those of both, merged and appended.
 struct Merged(Pairs, Pairs, Pairs);
 
 impl Row for Merged {
     fn holds(&self, alloc: Global) -> Result<bool, Fail> {
-        let a = bag_of(alloc, self.0)?;
+        let mut a = bag_of(alloc, self.0)?;
         let b = bag_of(alloc, self.1)?;
         let both = a.merge(alloc, &b)?;
-        Ok(are_pairs(both.as_slice(), self.2))
+        a.reserve(self.1.len())?;
+        a.append(&b)?;
+        Ok(are_pairs(both.as_slice(), self.2) && are_pairs(a.as_slice(), self.2))
     }
 }
 
@@ -319,6 +321,16 @@ const MERGED: &[Merged] = &[
         &[(5, 0), (6, 0)],
         &[(1, 0), (5, 0)],
         &[(1, 0), (5, 0), (5, 0), (6, 0)],
+    ),
+    Merged(
+        &[(1, 0), (2, 5)],
+        &[(2, 5), (3, 0)],
+        &[(1, 0), (2, 5), (2, 5), (3, 0)],
+    ),
+    Merged(
+        &[(1, 0), (2, 5)],
+        &[(2, 4), (3, 0)],
+        &[(1, 0), (2, 4), (2, 5), (3, 0)],
     ),
     Merged(&[(1, 0)], &[], &[(1, 0)]),
     Merged(&[], &[(1, 0)], &[(1, 0)]),

@@ -1,5 +1,5 @@
-use Rattle.std.proofs.Common.{◌≡◌, ◌+◌, ◌∷◌, ◌++◌, [], take, ℤ, pos, slice_index_or, ◌≤ℤ◌, ◌<ℤ◌, to_z, of_z, w64, rules, sym, ◌∙◌, subst, arith}
-use Rattle.std.proofs.lemmas.List.{take_more, take_all}
+use Rattle.std.proofs.Common.{◌≡◌, ◌∷◌, [], take, pos, slice_index_or, ◌≤ℤ◌, ◌<ℤ◌, to_z, of_z, w64, rules, sym, subst, arith}
+use Rattle.std.proofs.lemmas.List.{take_more}
 use Rattle.std.proofs.lemmas.Int.{ints, to_z-of_z}
 use Rattle.std.specs.List.{AllByRecursion}
 use Rattle.btr_base.specs.declared.point.Point.{Point}

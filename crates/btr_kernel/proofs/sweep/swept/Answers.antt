@@ -29,7 +29,7 @@ loop-time-preserved c =
     let rest = points_from v (drop (i + 1) ts) in
     record {
       sweep = c.in_ok-value.ensures.sweep;
-      made = elim c.match-branch-2.branch [
+      made = elim c.match-branch-3.branch [
         | in-Some+in_ok-push-in-Some w ↦
             let x : ℤ = w.in-Some.value in
             let x_fits : SFits w64 x = search rules in
