@@ -1,9 +1,12 @@
 -- Lemmas on the slots in which two bags differ, part by part in order of time.
-use Rattle.std.specs.Prelude.{◌≡◌, ℕ, ◌+◌, ◌*◌, ◌/◌, ◌^◌, ◌<◌, ℤ, pos, ◌+ℤ◌, ◌-ℤ◌, unsigned_abs, Bool, true, false, not, ◌&&◌, ◌||◌, int_le, int_lt, ◌≤ℤ◌, ◌<ℤ◌, List, [], ◌∷◌, ◌++◌, map, cond, IsTrue}
+use Rattle.std.specs.Prelude.{◌≡◌, ℕ, ◌+◌, ◌-◌, ◌*◌, ◌/◌, ◌^◌, ◌<◌, ◌⊎◌, ℤ, pos, ◌+ℤ◌, ◌-ℤ◌, unsigned_abs, Bool, true, false, not, ◌&&◌, ◌||◌, int_le, int_lt, ◌≤ℤ◌, ◌<ℤ◌, List, [], ◌∷◌, ◌++◌, map, cond, length, drop}
+use Rattle.std.specs.Int.{int_min}
 use Rattle.std.specs.Ordering.{int_eq}
 use Rattle.std.specs.List.{filter, list_any, AllByRecursion}
-use Rattle.std.proofs.Common.{refl, sym, ap, ◌∙◌, arith, append-nil, subst, ◌≤◌}
-use Rattle.std.proofs.lemmas.Int.{ints}
+use Rattle.std.proofs.Common.{zero, suc, refl, sym, ap, ◌∙◌, arith, append-nil, subst, ◌≤◌, get_or, inl, inr}
+use Rattle.std.proofs.lemmas.Bool.{or_left, or_right}
+use Rattle.std.proofs.lemmas.Int.{ints, clamps, by_lt_z}
+use Rattle.std.proofs.lemmas.List.{drop_more}
 use Rattle.std.proofs.lemmas.Nat.{pow_pos, le-div}
 use Rattle.std.proofs.lemmas.List.Folds.{list_any-append}
 use Rattle.btr_base.specs.declared.limits.TheConstants.{FIRST, END}
@@ -16,11 +19,12 @@ use Rattle.btr_base.specs.Changes.{points_at, same_points, differ_at, slot_aroun
 use Rattle.btr_base.specs.Windows.{window_at}
 use Rattle.btr_base.proofs.SpanLemmas.{less-times}
 use Rattle.btr_base.proofs.ListLemmas.{each-weaker, each-both, filter-append, filter-all, filter-none, filter-passes}
-use Rattle.btr_base.proofs.PointLemmas.{same_point-refl, same_point-true, is_not_after-times}
+use Rattle.btr_base.proofs.PointLemmas.{same_point-refl, same_point-true, times-rise}
+use Rattle.btr_base.proofs.RangeLemmas.{contains-from}
 use Rattle.std.proofs.Math.Bool.{or-false}
 use Rattle.btr_base.proofs.CutLemmas.{lengthened-each, union-is}
 use Rattle.btr_base.proofs.WithinLemmas.{within-split}
-use Rattle.btr_base.proofs.ChangesLemmas.{slot-is, changes-cut, changes-lengthened}
+use Rattle.btr_base.proofs.ChangesLemmas.{slot-is, slot-follows, slot-contains, changes-cut, changes-lengthened}
 use Rattle.btr_diff.specs.declared.comparison.Comparison.{Comparison}
 use Rattle.btr_diff.specs.Comparison.{reach, is_changed_at, AddsChangedSlots}
 
@@ -374,26 +378,59 @@ reached-next by was now q b r reaches more t =
     ∙ ap (λ (x : RangeValue). (contains x t || covered was t) || rest) reaches
     ∙ passed (contains (reach by q.time) t) (covered was t) rest
 
--- The ranges cover the reach of each of the points before this end.
-abbrev pub AreAdded : Comparison → ℤ → List RangeValue → List Point → Type 0
-AreAdded by end was b =
-    AllByRecursion (λ q. q.time <ℤ end → (t : ℤ) → contains (reach by q.time) t ≡ true → covered was t ≡ true) b
+-- ---- Points that are jumped over.
 
-absorbed : (x w rest : Bool) → (x ≡ true → w ≡ true) → (w || rest) ≡ (w || (x || rest))
-absorbed true w rest h = ap (λ c. c || rest) (h refl) ∙ sym (ap (λ c. c || true) (h refl))
-absorbed false w rest h = refl
+contains-in : (r : RangeValue) (t : ℤ) → r.from ≤ℤ t → t <ℤ r.to → contains r t ≡ true
+contains-in r t h k = grind (arith, ints)
 
-pub reached-already : (by : Comparison) (was : List RangeValue) (q : Point) (b : List Point) → ((t : ℤ) → contains (reach by q.time) t ≡ true → covered was t ≡ true) → (t : ℤ) → (covered was t || is_reached by b t) ≡ (covered was t || is_reached by (q ∷ b) t)
-reached-already by was q b has t = absorbed (contains (reach by q.time) t) (covered was t) (is_reached by b t) (has t)
+later-end : (s x y : ℤ) (lead : ℕ) → x ≤ℤ y → s <ℤ int_min END (x +ℤ pos lead) → s <ℤ int_min END (y +ℤ pos lead)
+later-end s x y lead h k = omega (arith, ints, clamps)
 
--- No point of the domain is before its first time.
-pub added-none : (by : Comparison) (was : List RangeValue) (b : List Point) → AreInDomain b → AreAdded by FIRST was b
-added-none by was b h =
-    each-weaker (λ q. InDomain q.time) (λ q. q.time <ℤ FIRST → (t : ℤ) → contains (reach by q.time) t ≡ true → covered was t ≡ true) (λ q inside early. let low = inside.0 in absurd (omega (arith, ints))) b h
+-- The reach of a time between two others is in that of the two, if the later one is before the end of that of the earlier one.
+reach-between : (by : Comparison) (t u v s : ℤ) → FIRST ≤ℤ t → t ≤ℤ u → u ≤ℤ v → v <ℤ (reach by t).to → contains (reach by u) s ≡ true → (contains (reach by t) s || contains (reach by v) s) ≡ true
+reach-between by t u v s low first second near h =
+    let begins = (slot-follows by.p t u low first).0 in
+    let ends = (slot-follows by.p u v (omega (arith, ints)) second).1 in
+    let around = (contains-from (slot_around by.p v) v (slot-contains by.p v (omega (arith, ints)))).0 in
+    let has = contains-from (reach by u) s h in
+    let from = has.0 in
+    by_lt_z s (reach by t).to (λ early. or_left (contains (reach by t) s) (contains (reach by v) s) (contains-in (reach by t) s (omega (arith, ints)) early)) (λ late. or_right (contains (reach by t) s) (contains (reach by v) s) (contains-in (reach by v) s (omega (arith, ints)) (later-end s (slot_around by.p u).to (slot_around by.p v).to by.lead ends has.1)))
 
--- After the reach of a point, the later points of its slot are added already.
-pub added-slot : (by : Comparison) (was now : List RangeValue) (q : Point) (b : List Point) (end : ℤ) (r : RangeValue) → FIRST ≤ℤ q.time → IsInOrder (q ∷ b) → end ≡ (slot_around by.p q.time).to → r ≡ reach by q.time → ((t : ℤ) → covered now t ≡ (contains r t || covered was t)) → AreAdded by end now b
-added-slot by was now q b end r low order to reaches more =
-    each-weaker (λ x. IsTrue (is_not_after q x)) (λ x. x.time <ℤ end → (t : ℤ) → contains (reach by x.time) t ≡ true → covered now t ≡ true) (λ x after early t has.
-    let same : reach by x.time ≡ reach by q.time = ap (lengthened by.lead) (slot-later by.p q.time x.time low (is_not_after-times q x after) (subst (λ u. x.time <ℤ u) to early)) in
-    more t ∙ ap (λ c. c || covered was t) (ap (λ (y : RangeValue). contains y t) (reaches ∙ sym same) ∙ has)) b order.0
+over-one : (w c r l : Bool) → (c ≡ true → (w || l) ≡ true) → (w || r) ≡ (w || l) → (w || (c || r)) ≡ (w || l)
+over-one w true r l h e = or_right w true refl ∙ sym (h refl)
+over-one w false r l h e = e
+
+-- The first points of a list add nothing to the others, if what they reach is covered or reached by the others.
+reached-drop : (by : Comparison) (w : Bool) (t : ℤ) (n : ℕ) (b : List Point) → ((j : ℕ) (d : Point) → j < n → j < length b → contains (reach by (get_or b j d).time) t ≡ true → (w || is_reached by (drop n b) t) ≡ true) → (w || is_reached by b t) ≡ (w || is_reached by (drop n b) t)
+reached-drop by w t zero b h = refl
+reached-drop by w t (suc n) [] h = refl
+reached-drop by w t (suc n) (q ∷ b) h =
+    over-one w (contains (reach by q.time) t) (is_reached by b t) (is_reached by (drop n b) t) (h 0 q (omega arith) (omega arith)) (reached-drop by w t n b (λ j d lt inside. h (suc j) d (omega arith) (omega arith)))
+
+-- The points before the index are before the end of a slot, or the point at the index is before the longer end of the slot.
+pub record IsNext (end longer : ℤ) (b : List Point) (n : ℕ) : Type 0 where
+  pub within : n ≤ length b
+  pub before : (d : Point) → 0 < n → ((get_or b (n - 1) d).time <ℤ end) ⊎ ((n < length b) × ((get_or b n d).time <ℤ longer))
+
+or-either : (a c w l : Bool) → (a || c) ≡ true → (a ≡ true → w ≡ true) → (w || (c || l)) ≡ true
+or-either true c w l h k = or_left w (c || l) (k refl)
+or-either false c w l h k = or_right w (c || l) (or_left c l h)
+
+-- After the reach of a point, the later points before such an index add nothing to those from it on.
+pub reached-jump : (by : Comparison) (w : Bool) (t : ℤ) (q : Point) (b : List Point) (n : ℕ) → FIRST ≤ℤ q.time → IsInOrder (q ∷ b) → IsNext (slot_around by.p q.time).to (reach by q.time).to b n → (contains (reach by q.time) t ≡ true → w ≡ true) → (w || is_reached by b t) ≡ (w || is_reached by (drop n b) t)
+reached-jump by w t q b n low order next has =
+    reached-drop by w t n b (λ j d lt inside reaches.
+    let u = (get_or b j d).time in
+    let first : q.time ≤ℤ u = times-rise (q ∷ b) 0 (suc j) d order (omega arith) (omega arith) in
+    elim (next.before d (omega arith)) [
+      | inl near ↦
+          let within = next.within in
+          let second = times-rise b j (n - 1) d order.1 (omega arith) (omega arith) in
+          let same : reach by u ≡ reach by q.time = ap (lengthened by.lead) (slot-later by.p q.time u low first (omega (arith, ints))) in
+          or_left w (is_reached by (drop n b) t) (has (ap (λ (r : RangeValue). contains r t) (sym same) ∙ reaches))
+      | inr far ↦
+          let v = (get_or b n d).time in
+          let second = times-rise b j n d order.1 (omega arith) far.0 in
+          let both = reach-between by q.time u v t low first second far.1 reaches in
+          ap (λ x. w || is_reached by x t) (drop_more b n d far.0) ∙ or-either (contains (reach by q.time) t) (contains (reach by v) t) w (is_reached by (drop (n + 1) b) t) both has
+    ])

@@ -46,8 +46,9 @@ pub fn changes<L>(
 /// joined where they then touch or overlap. `p` is 0 to 62, the caller's condition.
 ///
 /// The answer is exact if `old` is version `since` of the same stream as `new`. It visits the nodes that `changes` visits,
-/// and costs as much. Each changed slot is lengthened as it is added, so no list of all changed slots is made: of ranges,
-/// the call takes memory for those that it returns alone.
+/// and costs as much, or less: where the older tree has no points, it looks at few of those that are closer to each other
+/// than the lead. Each changed slot is lengthened as it is added, so no list of all changed slots is made: of ranges, the
+/// call takes memory for those that it returns alone.
 pub fn changes_with_lead<L>(
     alloc: Global,
     old: Uncounted<'_>,

@@ -1,17 +1,18 @@
 //! The slots in which two lists of points differ.
-ghost use Rattle.std.specs.Prelude.{◌≡◌, ◌<◌, ◌≤◌, ◌-◌, ◌<ℤ◌, ◌≤ℤ◌, int_lt, not};
-ghost use Rattle.std.specs.Prelude.{[], ◌++◌, length, slice_index_or, filter, MatchOption, OnOk};
+ghost use Rattle.std.specs.Prelude.{◌≡◌, ◌<◌, ◌≤◌, ◌-◌, ◌+◌, ◌⊎◌, ◌<ℤ◌, ◌≤ℤ◌, int_lt, not};
+ghost use Rattle.std.specs.Prelude.{[], ◌++◌, length, slice_index_or, filter, MatchOption, OnOk, IsTrue, ◌↔◌};
 ghost use Rattle.btr_base.specs.declared.point.Point.{Point as APoint};
 ghost use Rattle.btr_base.specs.Bag.{IsInOrder};
 ghost use Rattle.btr_base.specs.Point.{AreInDomain};
 ghost use Rattle.btr_diff.specs.Comparison.{AddsChangedSlots, IsFirstTime};
 
 use crate::comparison::Comparison;
-use btr_base::{FIRST, Point, Ranges, slot_around};
+use btr_base::{Point, Ranges, slot_around};
 use std::alloc::AllocError;
 
 /// Adds to `out` the aligned slots of `2^p` ns in which two lists of points in order differ, each lengthened by the lead. It goes
-/// through both lists once: time by time, and from the first time at which they differ to the end of the slot in one step.
+/// through both lists once: time by time, and from the first time at which they differ to the end of the slot in one step. If the older
+/// list is empty, it jumps over points as [`add_each`] says.
 pub(crate) fn compare_points(
     old: &[Point],
     new: &[Point],
@@ -49,23 +50,80 @@ pub(crate) fn compare_points(
 }
 
 /// Adds to `out` the slots of `2^p` ns that have a point, each lengthened by the lead: where the older version has no points, each
-/// point is a change. It goes through the points once, and adds each slot at its first point.
+/// point is a change. It adds the slot of the first point, and then that of the last point before the longer end of the slot, as the
+/// slots between add nothing to these two; and so on. So of points that are closer to each other than the lead it looks at few: it
+/// takes time logarithmic in the points that it jumps over, and constant time for each other point.
 fn add_each(new: &[Point], comparison: Comparison, out: &mut Ranges) -> Result<(), AllocError>
     requires p { comparison.p ≤ 62 }
     requires order { IsInOrder new.now }
     requires domain { AreInDomain new.now }
     ensures { OnOk result (AddsChangedSlots comparison out.old out.new [] new.now) }
 {
-    let mut end = FIRST;
-    for point in new {
-        if point.time >= end {
-            let slot = slot_around(point.time, comparison.p);
-            let longer = slot.lengthened(comparison.lead);
-            out.add(longer)?;
-            end = slot.to;
+    let mut left = new;
+    while let Some((first, rest)) = left.split_first() {
+        let slot = slot_around(first.time, comparison.p);
+        let longer = slot.lengthened(comparison.lead);
+        out.add(longer)?;
+        left = rest;
+        if begins_before(rest, longer.to) {
+            left = &rest[next_place(rest, slot.to, longer.to)..];
         }
     }
     Ok(())
+}
+
+/// Whether there is a first point, and it is before a time.
+fn begins_before(points: &[Point], time: i64) -> bool
+    ensures { IsTrue result ↔ ((0 < length points.now) × ((d : APoint) → (slice_index_or points.now 0 d).time <ℤ time)) }
+{
+    match points.first() {
+        Some(first) => first.time < time,
+        None => false,
+    }
+}
+
+/// Of the points that follow a point whose slot is added, the index of the one to go on with, or their number. It is the last point
+/// before the longer end of the slot, or the one after it if that is before the end of the slot. The first point is before the longer
+/// end, the caller's condition. It takes time logarithmic in the index.
+fn next_place(points: &[Point], slot_end: i64, longer_end: i64) -> usize
+    requires order { IsInOrder points.now }
+    requires some { 0 < length points.now }
+    requires first { (d : APoint) → (slice_index_or points.now 0 d).time <ℤ longer_end }
+    ensures within { result ≤ length points.now }
+    ensures before { (d : APoint) → 0 < result → ((slice_index_or points.now (result - 1) d).time <ℤ slot_end) ⊎
+        ((result < length points.now) × ((slice_index_or points.now result d).time <ℤ longer_end)) }
+    ensures from { (d : APoint) → result + 1 < length points.now → longer_end ≤ℤ (slice_index_or points.now (result + 1) d).time }
+{
+    let last = last_before(points, longer_end);
+    if points[last].time < slot_end {
+        last + 1
+    } else {
+        last
+    }
+}
+
+/// The index of the last point before a time, of points in order of which the first is before it, the caller's condition. It looks
+/// at points 1, 3, 7 and so on until one is not before the time, and then searches by halves. So it takes time logarithmic in the
+/// index, however many points follow.
+// It is not inlined, so that the loop of `add_each` is as fast where no point is jumped over.
+#[inline(never)]
+fn last_before(points: &[Point], time: i64) -> usize
+    requires order { IsInOrder points.now }
+    requires some { 0 < length points.now }
+    requires first { (d : APoint) → (slice_index_or points.now 0 d).time <ℤ time }
+    ensures within { result < length points.now }
+    ensures before { (d : APoint) → (slice_index_or points.now result d).time <ℤ time }
+    ensures from { (d : APoint) → result + 1 < length points.now → time ≤ℤ (slice_index_or points.now (result + 1) d).time }
+{
+    let mut low = 0;
+    let mut high = 1;
+    while high < points.len() && points[high].time < time {
+        low = high;
+        high = 2 * high + 1;
+    }
+    let end = high.min(points.len());
+    let between = &points[low + 1..end];
+    low + between.partition_point(|point| point.time < time)
 }
 
 /// Divides points in order at a time: those before it, and those from it on. It walks through the former, one point at a
