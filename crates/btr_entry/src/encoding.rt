@@ -14,8 +14,8 @@ use btr_base::{Bag, Point, Range, Ranges};
 use btr_hist::{Entry, Reads, Spec};
 use std::alloc::AllocError;
 
-/// Appends the one spelling of an entry. It takes time linear in the spelling. An `Err` means out of memory, which cannot come if
-/// there is room for [`spelling_length`] bytes.
+/// Appends the one spelling of an entry, [`spelling_length`] bytes. It takes time linear in the spelling. An `Err` means out of memory,
+/// and a part of the spelling may have been appended.
 pub fn append_entry(out: &mut Vec<u8>, entry: &Entry) -> Result<(), AllocError>
     requires { IsWithinBounds entry.now }
     ensures bytes { OnOk result (out.new.items ≡ out.old.items ++ spelling entry.now) }
@@ -26,7 +26,7 @@ pub fn append_entry(out: &mut Vec<u8>, entry: &Entry) -> Result<(), AllocError>
 }
 
 /// Appends the spelling of an entry up to its points, and returns the points, whose bytes are the rest of it: none if the entry makes a
-/// stream. It takes time linear in the ranges of the cut.
+/// stream. It takes time linear in the ranges of the cut. An `Err` means out of memory, and a part may have been appended.
 pub fn append_front<'a>(out: &mut Vec<u8>, entry: &'a Entry) -> Result<&'a [Point], AllocError>
     requires { IsWithinBounds entry.now }
     ensures bytes { IfOk result (λ p. out.new.items ++ flat_map point p.now ≡ out.old.items ++ spelling entry.now) }
@@ -46,7 +46,7 @@ pub fn append_front<'a>(out: &mut Vec<u8>, entry: &'a Entry) -> Result<&'a [Poin
     Ok(&[])
 }
 
-/// Appends the bytes of points, 16 for each. It takes linear time.
+/// Appends the bytes of points, 16 for each. It takes linear time. An `Err` means out of memory, and a part may have been appended.
 pub fn append_points(out: &mut Vec<u8>, points: &[Point]) -> Result<(), AllocError>
     ensures bytes { OnOk result (out.new.items ≡ out.old.items ++ flat_map point points.now) }
     ensures values { OnOk result (ValuesFit points.now) }

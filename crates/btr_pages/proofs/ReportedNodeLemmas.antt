@@ -6,7 +6,6 @@ use Rattle.std.proofs.Math.Nat.{eq-or-lt_of_le}
 use Rattle.std.proofs.lemmas.Bool.{cases_lt}
 use Rattle.std.proofs.lemmas.Bool.Decides.{nat_tests}
 use Rattle.std.proofs.lemmas.Int.{ints}
-use Rattle.std.proofs.lemmas.List.{length_push}
 use Rattle.std.proofs.lemmas.List.Sums.{sum_by-cons, sum_by-append}
 use Rattle.std.proofs.lemmas.Option.{slice_get-map}
 use Rattle.btr_base.specs.declared.limits.TheConstants.{FIRST, END, LEAF_POINTS}
@@ -30,7 +29,7 @@ use Rattle.btr_tree.specs.Nodes.{points_of, has_points, touches, is_inner, is_no
 use Rattle.btr_tree.specs.Shape.{ByKind, slot_start, slot_of_points, IsLeaf, IsInner, HasChildren, IsChild}
 use Rattle.btr_tree.specs.Slots.{child_in}
 use Rattle.btr_tree.specs.Stored.{Store, laid, leaf_node, ByBlock, IsStoredLeaf, IsStoredInner, IsStored}
-use Rattle.btr_tree.proofs.KeptSlotLemmas.{get-front, get-last}
+use Rattle.btr_tree.proofs.LeadsLemmas.{items-get, items-length}
 use Rattle.btr_tree.proofs.NewNodeLemmas.{last_change-before, first-next, few-inner}
 use Rattle.btr_tree.proofs.NodeLemmas.{slot-next, slot-end, slot-first, slot-part, prefix-next, prefix-none, prefix-all}
 use Rattle.btr_tree.proofs.RootLemmas.{root-aligned}
@@ -49,20 +48,6 @@ pub each-first : {X : Type 0} (P : X → Type 0) (n : ℕ) (f : ℕ → List X) 
 each-first P zero f h = tt
 each-first P (suc n) f h =
     each-append P (concat_first n f) (f n) (each-first P n f (λ i lt. h i (omega arith))) (h n (omega arith))
-
-pub items-length : {X : Type 0} (n : ℕ) (g : ℕ → X) → length (concat_first n (λ i. g i ∷ [])) ≡ n
-items-length zero g = refl
-items-length (suc n) g =
-    omega (arith, length_push (concat_first n (λ i. g i ∷ [])) (g n), items-length n g)
-
-pub items-get : {X : Type 0} (n : ℕ) (g : ℕ → X) (i : ℕ) → i < n → slice_get (concat_first n (λ j. g j ∷ [])) i ≡ Some (g i)
-items-get zero g i lt = absurd (omega arith)
-items-get (suc n) g i lt =
-    let le : i ≤ n = omega arith in
-    elim (eq-or-lt_of_le le) [
-      | inl e ↦ get-last (concat_first n (λ j. g j ∷ [])) (g n) i (e ∙ sym (items-length n g)) ∙ ap (λ j. Some (g j)) (sym e)
-      | inr less ↦ let long = items-length n g in get-front (concat_first n (λ j. g j ∷ [])) (g n) i (omega arith) ∙ items-get n g i less
-    ]
 
 -- ---- the order of the nodes that a commit writes: by the end of the span, and of spans with one end by height
 

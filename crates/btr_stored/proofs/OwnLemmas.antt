@@ -2,10 +2,9 @@
 use Rattle.std.specs.Prelude.{◌≡◌, ℕ, ◌<◌, ◌≤◌, ℤ, Bool, true, false, not, ◌&&◌, ◌||◌, cond, List, [], ◌∷◌, ◌++◌, length, map, slice_get, Option, Some, None, IfSome}
 use Rattle.std.specs.Option.{option_map}
 use Rattle.std.proofs.Common.{zero, suc, refl, sym, ap, ◌∙◌, arith, subst, inl, inr}
-use Rattle.std.proofs.Math.Nat.{eq-or-lt_of_le}
 use Rattle.std.proofs.lemmas.Bool.{cases_lt}
 use Rattle.std.proofs.lemmas.Bool.Decides.{nat_tests}
-use Rattle.std.proofs.lemmas.List.{length_push, map-append}
+use Rattle.std.proofs.lemmas.List.{map-append}
 use Rattle.std.proofs.lemmas.Option.{slice_get-map, slice_get_past}
 use Rattle.btr_base.specs.declared.limits.TheConstants.{LEAF_POINTS}
 use Rattle.btr_base.specs.declared.point.Point.{Point}
@@ -19,7 +18,7 @@ use Rattle.btr_tree.specs.Nodes.{points_of, has_points, touches, is_inner, is_no
 use Rattle.btr_tree.specs.Packed.{without_address}
 use Rattle.btr_tree.specs.Shape.{slot_start, slot_of_points}
 use Rattle.btr_tree.specs.Stored.{Store}
-use Rattle.btr_tree.proofs.KeptSlotLemmas.{get-front, get-last}
+use Rattle.btr_tree.proofs.LeadsLemmas.{items-get, items-length}
 use Rattle.btr_tree.proofs.NodeLemmas.{slot-part}
 use Rattle.btr_tree.proofs.UntouchedNodeLemmas.{some-has, many-inner}
 use Rattle.btr_tree.proofs.VersionLemmas.{points-untouched}
@@ -29,20 +28,6 @@ use Rattle.btr_stored.proofs.FieldLemmas.{slot-by, node-by}
 use Rattle.btr_stored.proofs.PastLemmas.{rising-up_to, up_to-version, node-then, one-version}
 
 -- ---- lists
-
-pub items-length : {X : Type 0} (n : ℕ) (g : ℕ → X) → length (concat_first n (λ i. g i ∷ [])) ≡ n
-items-length zero g = refl
-items-length (suc n) g =
-    omega (arith, length_push (concat_first n (λ i. g i ∷ [])) (g n), items-length n g)
-
-pub items-get : {X : Type 0} (n : ℕ) (g : ℕ → X) (i : ℕ) → i < n → slice_get (concat_first n (λ j. g j ∷ [])) i ≡ Some (g i)
-items-get zero g i lt = absurd (omega arith)
-items-get (suc n) g i lt =
-    let le : i ≤ n = omega arith in
-    elim (eq-or-lt_of_le le) [
-      | inl e ↦ get-last (concat_first n (λ j. g j ∷ [])) (g n) i (e ∙ sym (items-length n g)) ∙ ap (λ j. Some (g j)) (sym e)
-      | inr less ↦ let long = items-length n g in get-front (concat_first n (λ j. g j ∷ [])) (g n) i (omega arith) ∙ items-get n g i less
-    ]
 
 pub items-past : {X : Type 0} (n : ℕ) (g : ℕ → X) (i : ℕ) → n ≤ i → slice_get (concat_first n (λ j. g j ∷ [])) i ≡ None
 items-past n g i le =

@@ -33,7 +33,8 @@ use Rattle.btr_stored.specs.Found.{IsNodeIn}
 use Rattle.btr_stored.specs.Judged.{above_of}
 use Rattle.btr_stored.specs.Same.{stored_node, IsSameNode, AreLeafFields, AreInnerFields, AreStoredSlots}
 use Rattle.btr_stored.proofs.FieldLemmas.{pair-by, agg-by, slot-by}
-use Rattle.btr_stored.proofs.OwnLemmas.{items-get, items-length, items-past, each-same}
+use Rattle.btr_tree.proofs.LeadsLemmas.{items-get, items-length}
+use Rattle.btr_stored.proofs.OwnLemmas.{items-past, each-same}
 
 -- ---- slots
 

@@ -28,12 +28,12 @@ use Rattle.btr_tree.proofs.UntouchedNodeLemmas.{many-inner}
 
 -- ---- lists of one item each
 
-items-length : {X : Type 0} (n : ℕ) (g : ℕ → X) → length (concat_first n (λ i. g i ∷ [])) ≡ n
+pub items-length : {X : Type 0} (n : ℕ) (g : ℕ → X) → length (concat_first n (λ i. g i ∷ [])) ≡ n
 items-length zero g = refl
 items-length (suc n) g =
     omega (arith, length_push (concat_first n (λ i. g i ∷ [])) (g n), items-length n g)
 
-items-get : {X : Type 0} (n : ℕ) (g : ℕ → X) (i : ℕ) → i < n → slice_get (concat_first n (λ j. g j ∷ [])) i ≡ Some (g i)
+pub items-get : {X : Type 0} (n : ℕ) (g : ℕ → X) (i : ℕ) → i < n → slice_get (concat_first n (λ j. g j ∷ [])) i ≡ Some (g i)
 items-get zero g i lt = absurd (omega arith)
 items-get (suc n) g i lt =
     let le : i ≤ n = omega arith in

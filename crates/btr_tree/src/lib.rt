@@ -5,7 +5,7 @@
 //! and the child of each of its 64 slots. In memory it keeps only the slots that have a point, or a version other than one
 //! that it keeps once. Versions share what a commit does not touch, and any thread can read them.
 //!
-//! Each node has its block on the device. [`Tree::apply`] tells the nodes that it wrote with their blocks, children first, and
+//! Each node has its block on the device. [`Tree::apply`] reports the nodes that are new with their blocks, children first, and
 //! [`Tree::leaf`] and [`Tree::inner`] make trees of nodes that were read, from the leaves up.
 //!
 //! Links to nodes are opaque: [`visit`] counts each node in a [`Steps`]. Only a call that knows a type with [`Label`] can make a
