@@ -3,6 +3,7 @@ pub mod GateLemmas
 pub mod ImageLemmas
 pub mod MomentLemmas
 pub mod PartLemmas
+mod PutLemmas
 mod PublishCalls
 mod NeitherByte
 mod TornBlocks

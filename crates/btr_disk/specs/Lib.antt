@@ -4,6 +4,7 @@ pub mod Moments
 pub mod Causes
 pub mod Gate
 pub mod Publish
+pub mod Put
 pub mod Numbers
 pub mod Memory
 pub mod Fuse

@@ -1,11 +1,11 @@
 //! The block device, and what each of its calls does to what a read returns and to what a crash may leave.
-ghost use Rattle.std.specs.Prelude.{◌≡◌, ◌*◌, ◌≤◌, ℕ, length, OnOk, OnErr};
+ghost use Rattle.std.specs.Prelude.{◌≡◌, ◌*◌, ◌≤◌, ℕ, ◌++◌, length, OnOk, OnErr};
 ghost use Rattle.btr_disk.specs.Bytes.{Image, Has, Same, SameBut, AreBytes, IsBlockRange};
 ghost use Rattle.btr_disk.specs.Images.{Only, SameImages, Tears};
 ghost use Rattle.btr_disk.specs.Moments.{Elapses};
 ghost use Rattle.btr_disk.specs.Causes.{Counted, HasCause};
 
-use crate::Parts;
+use crate::{Parts, Supply};
 
 /// Bytes in a block.
 pub const BLOCK: usize = 4096;
@@ -17,7 +17,7 @@ pub struct Failed;
 /// A device of blocks of 4096 bytes.
 ///
 /// The caller passes a buffer that is a whole positive number of blocks inside the device. No call
-/// allocates memory. Each call is counted, and so is each failure.
+/// allocates memory, but a supply may start threads. Each call is counted, and so is each failure.
 ///
 /// A device whose type is observable promises what a read returns and what a crash may leave. After a
 /// write, whether it succeeds or fails, a crash may leave any bytes in the written blocks. A sync
@@ -75,15 +75,18 @@ pub trait Disk {
         ensures images { is_observable → Tears (4096 * first) (length bytes.now) (images_now self.old) (images_now self.new) }
         ensures time { is_observable → Elapses (calls self.old) (images_since self.old) (images_since self.new) (images_now self.new) };
 
-    /// Writes `bytes` as [`Disk::write`] does, from several parts, in one call.
-    fn write_parts(&mut self, first: u64, bytes: &Parts) -> Result<(), Failed>
-        requires { IsBlockRange (size self.old) first (length bytes.now) }
+    /// Writes `front` and then the blocks of `rest` as [`Disk::write`] does, in one call.
+    fn write_parts<S: Supply>(&mut self, first: u64, front: &Parts, rest: &S) -> Result<(), Failed>
+        requires able { S.can_work }
+        requires range { IsBlockRange (size self.old) first (length (front.now ++ S.bytes rest.now)) }
         ensures size { size self.new ≡ size self.old }
         ensures calls { Counted (calls self.old) (calls self.new) }
         ensures cause { HasCause (faults self.old) (faults self.new) result }
-        ensures written { is_observable → OnOk result (Has (contents self.new) (4096 * first) bytes.now) }
-        ensures elsewhere { is_observable → SameBut (4096 * first) (length bytes.now) (contents self.old) (contents self.new) }
-        ensures images { is_observable → Tears (4096 * first) (length bytes.now) (images_now self.old) (images_now self.new) }
+        ensures written { is_observable → OnOk result (Has (contents self.new) (4096 * first) (front.now ++ S.bytes rest.now)) }
+        ensures elsewhere { is_observable
+            → SameBut (4096 * first) (length (front.now ++ S.bytes rest.now)) (contents self.old) (contents self.new) }
+        ensures images { is_observable
+            → Tears (4096 * first) (length (front.now ++ S.bytes rest.now)) (images_now self.old) (images_now self.new) }
         ensures time { is_observable → Elapses (calls self.old) (images_since self.old) (images_since self.new) (images_now self.new) };
 
     /// After a sync that succeeds a crash leaves what a read returns. A sync that fails changes nothing.

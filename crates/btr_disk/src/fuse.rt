@@ -2,7 +2,7 @@
 ghost use Rattle.std.specs.Prelude.{◌≡◌, ◌+◌, ◌<◌, ℕ, length};
 
 use crate::memory::fault;
-use crate::{Disk, Failed, Parts};
+use crate::{Disk, Failed, Parts, Supply};
 
 /// A device that passes a number of calls on to another device, and then fails each call, as at a stop.
 ///
@@ -53,7 +53,7 @@ impl<D: Disk> FuseDisk<D> {
 }
 
 impl<D: Disk> Disk for FuseDisk<D> {
-    ghost use Rattle.std.specs.Prelude.{◌*◌, IsErr, OnOk, OnErr};
+    ghost use Rattle.std.specs.Prelude.{◌*◌, ◌++◌, IsErr, OnOk, OnErr};
     ghost use Rattle.btr_disk.specs.Bytes.{Has, IsBlockRange, Same, SameBut};
     ghost use Rattle.btr_disk.specs.Images.{Only, SameImages, Tears};
     ghost use Rattle.btr_disk.specs.Moments.{Elapses};
@@ -136,26 +136,28 @@ impl<D: Disk> Disk for FuseDisk<D> {
     }
 
     /// The clauses of the trait, and one more: which calls reach the other device and fail.
-    fn write_parts(&mut self, first: u64, bytes: &Parts) -> Result<(), Failed>
-        requires { IsBlockRange (D.size self.old.disk) first (length bytes.now) }
+    fn write_parts<S: Supply>(&mut self, first: u64, front: &Parts, rest: &S) -> Result<(), Failed>
+        requires able { S.can_work }
+        requires range { IsBlockRange (D.size self.old.disk) first (length (front.now ++ S.bytes rest.now)) }
         ensures size { D.size self.new.disk ≡ D.size self.old.disk }
         ensures calls { Counted (fuse_calls self.old) (fuse_calls self.new) }
         ensures cause { HasCause (fuse_faults self.old) (fuse_faults self.new) result }
-        ensures written { D.is_observable → OnOk result (Has (D.contents self.new.disk) (4096 * first) bytes.now) }
+        ensures written { D.is_observable
+            → OnOk result (Has (D.contents self.new.disk) (4096 * first) (front.now ++ S.bytes rest.now)) }
         ensures elsewhere { D.is_observable
-            → SameBut (4096 * first) (length bytes.now) (D.contents self.old.disk) (D.contents self.new.disk) }
+            → SameBut (4096 * first) (length (front.now ++ S.bytes rest.now)) (D.contents self.old.disk) (D.contents self.new.disk) }
         ensures images { D.is_observable
-            → Tears (4096 * first) (length bytes.now) (D.images_now self.old.disk) (D.images_now self.new.disk) }
+            → Tears (4096 * first) (length (front.now ++ S.bytes rest.now)) (D.images_now self.old.disk) (D.images_now self.new.disk) }
         ensures time { D.is_observable
             → Elapses (fuse_calls self.old) (fuse_since self.old) (fuse_since self.new) (D.images_now self.new.disk) }
         ensures cut_off { CutsOffIfSpent self.old self.new (IsErr result) }
     {
         if self.left == 0 {
-            let _ = self.disk.write_parts(first, bytes);
+            let _ = self.disk.write_parts(first, front, rest);
             return Err(fault(&mut self.failed));
         }
         self.left -= 1;
-        self.disk.write_parts(first, bytes)
+        self.disk.write_parts(first, front, rest)
     }
 
     /// The clauses of the trait, and one more: which calls are withheld.

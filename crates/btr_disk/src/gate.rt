@@ -7,7 +7,7 @@ ghost use Rattle.btr_disk.specs.Images.{Only};
 ghost use Rattle.btr_disk.specs.Moments.{Leaves};
 ghost use Rattle.btr_disk.specs.Publish.{IsBeforeOrHasBody, Published};
 
-use crate::{BLOCK, Disk, Failed, Parts};
+use crate::{BLOCK, Disk, Failed, Parts, Supply};
 
 /// The first eight bytes of an open gate: ASCII `BTR-GATE`.
 pub const GATE_MARK: [u8; 8] = *b"BTR-GATE";
@@ -30,7 +30,8 @@ pub fn open_gate() -> [u8; BLOCK]
     block
 }
 
-/// Makes `body` durable at block `first`, and then writes `gate`, one block, at block `at`, durably.
+/// Makes the body, which is `front` and then the blocks of `rest`, durable at block `first`, and then writes `gate`, one block, at block
+/// `at`, durably.
 ///
 /// The caller passes whole blocks inside the device, and a gate outside the body. It makes four calls, a
 /// write and a sync for each of the two, and stops at the first that fails.
@@ -38,30 +39,33 @@ pub fn open_gate() -> [u8; BLOCK]
 /// A crash before the gate is written leaves all blocks but the body's as they were, also the gate's
 /// old block. A crash after that leaves the whole body. After `Ok` both are durable. After `Failed` the
 /// device is as a crash at that moment might leave it.
-pub fn publish<D: Disk>(
+pub fn publish<D: Disk, S: Supply>(
     device: &mut D,
     first: u64,
-    body: &Parts,
+    front: &Parts,
+    rest: &S,
     at: u64,
     gate: &[u8],
 ) -> Result<(), Failed>
-    requires body { IsBlockRange (D.size device.old) first (length body.now) }
+    requires able { S.can_work }
+    requires body { IsBlockRange (D.size device.old) first (length (front.now ++ S.bytes rest.now)) }
     requires gate { IsBlockRange (D.size device.old) at (length gate.now) }
     requires one_block { length gate.now ≡ 4096 }
-    requires apart { IsOutside (4096 * first) (length body.now) (4096 * at) }
+    requires apart { IsOutside (4096 * first) (length (front.now ++ S.bytes rest.now)) (4096 * at) }
     ensures size { D.size device.new ≡ D.size device.old }
     ensures called { Rose (D.calls device.old) (D.calls device.new) }
     ensures calls { CountsCalls 4 (D.calls device.old) (D.calls device.new) result }
     ensures cause { HasCause (D.faults device.old) (D.faults device.new) result }
     ensures published { D.is_observable
-        → OnOk result (Published (D.contents device.old) (4096 * first) body.now (4096 * at) gate.now (D.contents device.new)) }
+        → OnOk result (Published (D.contents device.old) (4096 * first) (front.now ++ S.bytes rest.now) (4096 * at) gate.now
+        (D.contents device.new)) }
     ensures synced { D.is_observable → OnOk result (Only (D.contents device.new) (D.images_now device.new)) }
     // Given that a crash before the call left what a read returns.
     ensures moments { D.is_observable → Only (D.contents device.old) (D.images_now device.old)
         → Leaves D.calls D.images_since device.old device.new
-        (IsBeforeOrHasBody (D.contents device.old) (4096 * first) body.now (4096 * at)) }
+        (IsBeforeOrHasBody (D.contents device.old) (4096 * first) (front.now ++ S.bytes rest.now) (4096 * at)) }
 {
-    device.write_parts(first, body)?;
+    device.write_parts(first, front, rest)?;
     device.sync()?;
     device.write(at, gate)?;
     device.sync()

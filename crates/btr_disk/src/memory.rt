@@ -8,7 +8,7 @@ ghost use Rattle.btr_disk.specs.Images.{Only};
 ghost use Rattle.btr_disk.specs.Causes.{Counted};
 
 use crate::call_record::{Call, CallRecord};
-use crate::{BLOCK, Disk, Failed, Fill, Parts};
+use crate::{BLOCK, Blocks, Disk, Failed, Fill, Parts, Supply};
 use std::alloc::{AllocError, Global};
 
 /// How much a [`MemDisk`] can remember.
@@ -231,8 +231,20 @@ fn overwrite_parts(file: &mut Vec<u8>, at: usize, parts: &[Vec<u8>])
     }
 }
 
+/// Writes the blocks at the address `at`, where it makes them.
+fn overwrite_blocks<B: Blocks>(file: &mut Vec<u8>, at: usize, rest: &B)
+    requires { at + length (B.bytes rest.now) ≤ length file.old.items }
+    ensures length { length file.new.items ≡ length file.old.items }
+    ensures written { Has (contents_of file.new.items) at (B.bytes rest.now) }
+    ensures elsewhere { SameBut at (length (B.bytes rest.now)) (contents_of file.old.items) (contents_of file.new.items) }
+    ensures are_bytes { AreBytes (contents_of file.new.items) }
+{
+    let end = at + BLOCK * rest.blocks();
+    rest.fill(0, &mut file[at..end]);
+}
+
 impl Disk for MemDisk {
-    ghost use Rattle.std.specs.Prelude.{◌≡◌, ◌*◌, ◌/◌, ◌%◌, length, refl, IsErr, OnOk, OnErr};
+    ghost use Rattle.std.specs.Prelude.{◌≡◌, ◌*◌, ◌/◌, ◌%◌, ◌++◌, length, refl, IsErr, OnOk, OnErr};
     ghost use Rattle.btr_disk.specs.Bytes.{Has, IsBlockRange, Same, SameBut};
     ghost use Rattle.btr_disk.specs.Images.{Only, SameImages, Tears};
     ghost use Rattle.btr_disk.specs.Moments.{Elapses};
@@ -312,20 +324,23 @@ impl Disk for MemDisk {
     }
 
     /// The clauses of the trait, and one more: which calls fail.
-    fn write_parts(&mut self, first: u64, bytes: &Parts) -> Result<(), Failed>
-        requires { IsBlockRange (length self.old.bytes.items / 4096) first (length bytes.now) }
+    fn write_parts<S: Supply>(&mut self, first: u64, front: &Parts, rest: &S) -> Result<(), Failed>
+        requires able { S.can_work }
+        requires range { IsBlockRange (length self.old.bytes.items / 4096) first (length (front.now ++ S.bytes rest.now)) }
         ensures size { length self.new.bytes.items / 4096 ≡ length self.old.bytes.items / 4096 }
         ensures calls { Counted (call_count self.old.made) (call_count self.new.made) }
         ensures cause { HasCause self.old.faults self.new.faults result }
-        ensures fails { FailsAsListed (length bytes.now) self.old (IsErr result) }
-        ensures written { OnOk result (Has (contents_of self.new.bytes.items) (4096 * first) bytes.now) }
-        ensures elsewhere { SameBut (4096 * first) (length bytes.now)
+        ensures fails { FailsAsListed (length (front.now ++ S.bytes rest.now)) self.old (IsErr result) }
+        ensures written { OnOk result (Has (contents_of self.new.bytes.items) (4096 * first) (front.now ++ S.bytes rest.now)) }
+        ensures elsewhere { SameBut (4096 * first) (length (front.now ++ S.bytes rest.now))
             (contents_of self.old.bytes.items) (contents_of self.new.bytes.items) }
-        ensures images { Tears (4096 * first) (length bytes.now) (images_of self.old) (images_of self.new) }
+        ensures images { Tears (4096 * first) (length (front.now ++ S.bytes rest.now)) (images_of self.old) (images_of self.new) }
         ensures time { Elapses (call_count self.old.made) (since_of self.old) (since_of self.new) (images_of self.new) }
     {
-        self.begin_write(first, bytes.len())?;
-        overwrite_parts(&mut self.bytes, BLOCK * first as usize, bytes.as_slices());
+        let at = BLOCK * first as usize;
+        self.begin_write(first, front.len() + BLOCK * rest.blocks())?;
+        overwrite_parts(&mut self.bytes, at, front.as_slices());
+        overwrite_blocks(&mut self.bytes, at + front.len(), rest);
         Ok(())
     }
 

@@ -1,15 +1,18 @@
 -- The bytes of an extent from its pieces.
-use Rattle.std.specs.Prelude.{◌≡◌, ℕ, ◌+◌, ◌-◌, ◌*◌, List, [], ◌++◌, length, take, replicate}
+use Rattle.std.specs.Prelude.{◌≡◌, ℕ, ◌+◌, ◌-◌, ◌*◌, true, List, [], ◌++◌, length, take, replicate}
+use Rattle.std.specs.List.{flat_map}
 use Rattle.std.proofs.Common.{refl, sym, ◌∙◌, ap, arith, append_assoc}
 use Rattle.std.proofs.lemmas.List.{take_all, length-map}
 use Rattle.btr_disk.specs.Gate.{zeros}
 use Rattle.btr_log.specs.declared.head.Head.{Head}
-use Rattle.btr_log.specs.Head.{content_blocks, entry_head}
+use Rattle.btr_log.specs.Head.{content_blocks, head_bytes, entry_head}
 use Rattle.btr_tree.specs.NewNodes.{NewNodeValue}
+use Rattle.btr_node.specs.Page.{page_bytes}
 use Rattle.btr_pages.specs.Pages.{page_of, pages_of}
 use Rattle.btr_hist.specs.declared.entry.Entry.{Entry}
 use Rattle.btr_entry.specs.Grammar.{spelling}
 use Rattle.btr_engine.specs.Body.{padding, body_of, extent_bytes}
+use Rattle.btr_engine.specs.Late.{late_bytes}
 
 -- A head and a content, and zeros up to the end of the last block of the content.
 pub filled_up : (written run : List ℕ) (content size filled : ℕ) → length written ≡ 64 + content → size ≡ content_blocks content * 4096 → filled ≡ length written → run ≡ take size written ++ replicate (size - filled) 0 → run ≡ written ++ zeros (padding content)
@@ -39,6 +42,16 @@ in_order head front written first pages run content padded bytes front_is writte
     let start : first ≡ head ++ filled = first_is ∙ ap (λ l. l ++ padded) (written_is ∙ ap (λ l. l ++ content) front_is) ∙ append_assoc head content padded in
     let body : pages ≡ head ++ (filled ++ bytes) = pages_is ∙ ap (λ l. l ++ bytes) start ∙ append_assoc head filled bytes in
     run_is ∙ ap (λ l. l ++ replicate 4096 0) body ∙ ap (λ l. (head ++ (filled ++ bytes)) ++ l) zero_block
+
+-- A head, a content and zeros, and then the blocks that are made late.
+pub late_is : (head : Head) (e : Entry) (stream : ℕ) (nodes : List NewNodeValue) (front : List ℕ) → front ≡ head_bytes head ++ (spelling e ++ zeros (padding (length (spelling e)))) → front ++ late_bytes true stream nodes ≡ extent_bytes head (spelling e) (pages_of stream nodes)
+late_is head e stream nodes front is =
+    let content = spelling e ++ zeros (padding (length (spelling e))) in
+    let bytes = flat_map page_bytes (pages_of stream nodes) in
+    ap (λ l. l ++ (bytes ++ zeros 4096)) is
+    ∙ append_assoc (head_bytes head) content (bytes ++ zeros 4096)
+    ∙ ap (λ l. head_bytes head ++ l) (sym (append_assoc content bytes (zeros 4096)))
+    ∙ sym (append_assoc (head_bytes head) (content ++ bytes) (zeros 4096))
 
 -- The extent of an entry is its body, and one block of zeros.
 pub extent_is : (number : ℕ) (e : Entry) (stream root count : ℕ) (nodes : List NewNodeValue) (head : Head) → count ≡ length (spelling e) → head ≡ entry_head number count (length nodes) root → extent_bytes head (spelling e) (pages_of stream nodes) ≡ body_of number e root (pages_of stream nodes) ++ zeros 4096

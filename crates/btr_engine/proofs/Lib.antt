@@ -2,6 +2,7 @@ pub mod BodyLemmas
 pub mod NeedLemmas
 pub mod EngineLemmas
 mod ExtentBytes
+mod LateLemmas
 mod Streams
 mod RejectionBounds
 pub mod HoldsLemmas

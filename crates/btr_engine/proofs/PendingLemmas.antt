@@ -24,7 +24,7 @@ use Rattle.btr_engine.specs.Board.{Kept, IsBoardOf}
 use Rattle.btr_engine.specs.Roots.{LeadsToLatest, IsRootOf}
 use Rattle.btr_engine.specs.Stored.{AreStored, HaveRoots}
 use Rattle.btr_engine.specs.Stage.{IsReceipt, MakesVersion, WritesCommit, WritesStream, WritesEntry, change}
-use Rattle.btr_engine.specs.Travel.{written_pages, IsMade, IsStaged}
+use Rattle.btr_engine.specs.Travel.{run_of, written_pages, IsMade, IsStaged}
 use Rattle.btr_engine.proofs.BoardStreamLemmas.{commit-makes, distillate-makes}
 use Rattle.btr_engine.proofs.BodyLemmas.{FitsBody}
 use Rattle.btr_engine.proofs.NeedLemmas.{few_nodes}
@@ -51,10 +51,10 @@ fits_ready e r some few made = record {
 }
 
 -- Its bytes are the blocks that it needs.
-pub need_of_ready : (e : Entry) (r : Ready) → 1 ≤ r.staged.next.entries → r.staged.next.entries < 2 ^ 64 → IsMade e r → (need (body_in_run r.extent) ≡ length r.extent / 4096) × IsAppendRun r.extent
+pub need_of_ready : (e : Entry) (r : Ready) → 1 ≤ r.staged.next.entries → r.staged.next.entries < 2 ^ 64 → IsMade e r → (need (body_in_run (run_of r)) ≡ length (run_of r) / 4096) × IsAppendRun (run_of r)
 need_of_ready e r some few made =
-    let run = is_append_run r.staged.next.entries e r.staged.root (written_pages r.staged) r.extent made.bytes (fits_ready e r some few made) in
-    (omega (arith, length-run r.extent run), run)
+    let run = is_append_run r.staged.next.entries e r.staged.root (written_pages r.staged) (run_of r) made.bytes (fits_ready e r some few made) in
+    (omega (arith, length-run (run_of r) run), run)
 
 module _ (h : List Entry) (b : Kept) (of : IsBoardOf h b) (tail : ℕ) where
   -- There are as many nodes as the entry has node blocks.
@@ -69,7 +69,7 @@ module _ (h : List Entry) (b : Kept) (of : IsBoardOf h b) (tail : ℕ) where
       nodes-counted h b s.next of e (first_page tail e) stream (change cut added) _ (distillate-makes stream cut added reads) s.nodes.items s.root w
 
   -- The extent of an entry that was made ready.
-  pub extent_of_ready : (e : Entry) (r : Ready) (run : List ℕ) → IsMade e r → IsStaged h b tail e r → run ≡ r.extent → IsExtentOf h e r.staged.root (written_pages r.staged) run
+  pub extent_of_ready : (e : Entry) (r : Ready) (run : List ℕ) → IsMade e r → IsStaged h b tail e r → run ≡ run_of r → IsExtentOf h e r.staged.root (written_pages r.staged) run
   extent_of_ready e r run made is same = record {
     allowed = is.allowed;
     spelled = made.spelled;

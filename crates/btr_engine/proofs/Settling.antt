@@ -11,7 +11,7 @@ use Rattle.btr_super.specs.declared.superblock.Super.{Super}
 use Rattle.btr_engine.specs.declared.engine.Engine.{Engine}
 use Rattle.btr_engine.specs.declared.travel.Ready.{Ready}
 use Rattle.btr_engine.specs.Engine.{log_of, board_of, super_of, synced_of, entries_at_open}
-use Rattle.btr_engine.specs.Travel.{Settles, settled_board, written_pages}
+use Rattle.btr_engine.specs.Travel.{run_of, Settles, settled_board, written_pages}
 use Rattle.btr_engine.proofs.Stepping.{needs_two}
 use Rattle.btr_engine.proofs.Written.{pages-places}
 
@@ -44,7 +44,7 @@ module _ {D : Type 0} {disk : Ghosts D} where
       let on = is.0.1 in
       let w = is.1 in
       let runs : old.stopped ≡ false = old.marked ∙ on.ready_for.runs in
-      let two = needs_two r.staged.next.entries is.0.0 r.staged.root (written_pages r.staged) r.extent on.ready_for.made.bytes (pages-places r.staged.receipt.stream r.staged.nodes.items) in
+      let two = needs_two r.staged.next.entries is.0.0 r.staged.root (written_pages r.staged) (run_of r) on.ready_for.made.bytes (pages-places r.staged.receipt.stream r.staged.nodes.items) in
       record {
         marked = ap (λ b. b || false) runs ∙ sym w.appended.runs;
         counted = omega (arith, old.counted, on.next, w.appended.extents);

@@ -26,7 +26,7 @@ use Rattle.btr_engine.specs.Place.{log_in, log_here}
 use Rattle.btr_engine.specs.Engine.{log_of, device, board_of, entries_of, tail_of, room_of, super_of, is_stopped, is_home, IsEngineOf, IsAtRest, IsDurable, KeepsOpening}
 use Rattle.btr_engine.specs.Stage.{IsReceipt}
 use Rattle.btr_engine.specs.Step.{IsBeforeOrAfter, CanStep, StopsByFault, HasResult, StepCause, IsStep, in_flight_after}
-use Rattle.btr_engine.specs.Travel.{IsStaged, HoldsNow, IsReadyFor, IsReadyOn, IsWritten, HasFailed, IsLike, IsHomeAgain}
+use Rattle.btr_engine.specs.Travel.{run_of, IsStaged, HoldsNow, IsReadyFor, IsReadyOn, IsWritten, HasFailed, IsLike, IsHomeAgain}
 use Rattle.btr_engine.proofs.EngineLemmas.{durable_as}
 use Rattle.btr_engine.proofs.HoldsLemmas.{roots-held}
 use Rattle.btr_engine.proofs.Streams.{few_versions}
@@ -80,12 +80,12 @@ module _ {D : Type 0} {disk : Ghosts D} where
         let have = roots-written h b (has-streams h b staged.before) now.holds.leads.roots counted now.roots e (log.log_tail l) r.staged staged.writes in
         writes-rightly h b staged.before (log.log_tail l) now.holds.leads.roots now.holds.leads.pages now.stored (omega (arith, ready.behind)) (omega (arith, l.tail_inside, l.addressable)) few e r.staged staged.writes staged.is_receipt ready.made.spelled have
 
-    pub moments_of_write : (run : List ℕ) → run ≡ r.extent → (after : Log D disk) → log.LogLeaves l after (append.IsMoment (disk.contents (log.log_device l)) (log.log_tail l) now.holds.bodies (append.body_in_run run)) → log.LogLeaves l after (IsBeforeOrAfter (disk.size (log.log_device l)) h e)
+    pub moments_of_write : (run : List ℕ) → run ≡ run_of r → (after : Log D disk) → log.LogLeaves l after (append.IsMoment (disk.contents (log.log_device l)) (log.log_tail l) now.holds.bodies (append.body_in_run run)) → log.LogLeaves l after (IsBeforeOrAfter (disk.size (log.log_device l)) h e)
     moments_of_write run same after leaves =
         let is = extent_of_ready h b staged.before (log.log_tail l) e r run ready.made staged same in
         moments h l e _ _ run is b s now (subst (λ x. need (append.body_in_run x) ≤ log.log_room l) (sym same) ready.fits) writing.stand after leaves
 
-    pub holds_of_write : (run : List ℕ) → run ≡ r.extent → (after : Log D disk) → append.IsAppended l after run → log.KeepsBounds l after → Published (disk.contents (log.log_device l)) (4096 * (log.log_tail l + 1)) run (4096 * log.log_tail l) gate_block (disk.contents (log.log_device after)) → log.IsLogAtRest after (now.holds.bodies ++ append.body_in_run run ∷ []) → HoldsNow (h ++ e ∷ []) r.staged.next s after
+    pub holds_of_write : (run : List ℕ) → run ≡ run_of r → (after : Log D disk) → append.IsAppended l after run → log.KeepsBounds l after → Published (disk.contents (log.log_device l)) (4096 * (log.log_tail l + 1)) run (4096 * log.log_tail l) gate_block (disk.contents (log.log_device after)) → log.IsLogAtRest after (now.holds.bodies ++ append.body_in_run run ∷ []) → HoldsNow (h ++ e ∷ []) r.staged.next s after
     holds_of_write run same after appended kept written rests =
         let is = extent_of_ready h b staged.before (log.log_tail l) e r run ready.made staged same in
         holds_after h l e _ _ run is b s now (subst (λ x. need (append.body_in_run x) ≤ log.log_room l) (sym same) ready.fits) writing.stand after r.staged.next appended kept writing.stored writing.have written rests
@@ -188,10 +188,10 @@ module _ {D : Type 0} {disk : Ghosts D} where
   StagesOn old e r = (h : List Entry) → IsEngineOf h old → IsStaged h (board_of old) (tail_of old) e r
 
   module _ (laws : HasMoments disk) (old out new : Engine D disk) (l : Log D disk) (e : Entry) (r : Ready) (like : IsLike out old) (on : IsReadyOn old e r) (staged : StagesOn old e r) (moments : LeavesEntry (log_of old) l e r) where
-    could : (h : List Entry) → IsEngineOf h old → (need_of h e ≡ need (append.body_in_run r.extent)) × CanStep h old e
+    could : (h : List Entry) → IsEngineOf h old → (need_of h e ≡ need (append.body_in_run (run_of r))) × CanStep h old e
     could h of =
         let st = staged h of in
-        let size = needed h (log_of old) e _ _ r.extent (extent_of_ready h (board_of old) of (tail_of old) e r r.extent on.ready_for.made st refl) in
+        let size = needed h (log_of old) e _ _ (run_of r) (extent_of_ready h (board_of old) of (tail_of old) e r (run_of r) on.ready_for.made st refl) in
         (sym size, record { runs = on.ready_for.runs; allowed = st.allowed; fits = omega (arith, size, on.ready_for.fits) })
 
     module _ (is_l : log_of new ≡ l) where

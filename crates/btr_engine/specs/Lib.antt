@@ -4,6 +4,7 @@ pub mod Past
 pub mod Rolling
 -- the bytes of an extent
 pub mod Body
+pub mod Late
 -- to which nodes roots lead
 pub mod Roots
 -- which history a device holds

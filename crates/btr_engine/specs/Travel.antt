@@ -20,6 +20,7 @@ use Rattle.btr_engine.specs.declared.board.Staged.{Staged}
 use Rattle.btr_engine.specs.declared.board.Receipt.{Receipt}
 use Rattle.btr_engine.specs.declared.travel.Ready.{Ready}
 use Rattle.btr_engine.specs.Body.{body_of}
+use Rattle.btr_engine.specs.Late.{late_bytes}
 use Rattle.btr_engine.specs.Board.{Kept, IsBoardOf}
 use Rattle.btr_engine.specs.Stored.{AreStored, HaveRoots}
 use Rattle.btr_engine.specs.Holds.{HoldsHistoryTo}
@@ -33,13 +34,18 @@ use Rattle.btr_engine.specs.Engine.{log_of, board_of, entries_of, super_of, entr
 abbrev pub written_pages : Staged → List NodePage
 written_pages s = pages_of s.receipt.stream s.nodes.items
 
--- The extent is the entry's, with the number of entries of the board that was staged, and with the root and the pages of what was
--- staged. The receipt says this number.
+-- The run that is to be appended: what was made of the extent before it is written, and the blocks that are made late.
+abbrev pub run_of : Ready → List ℕ
+run_of r = r.front ++ late_bytes r.is_late r.staged.receipt.stream r.staged.nodes.items
+
+-- The run is the extent of the entry, and one block of zeros. The extent has the number of entries of the board that was staged, and the
+-- root and the pages of what was staged. The receipt says this number.
 pub record IsMade (e : Entry) (r : Ready) : Type 0 where
   pub spelled : IsSpelled e
-  pub bytes : r.extent ≡ body_of r.staged.next.entries e r.staged.root (written_pages r.staged) ++ zeros 4096
+  pub bytes : run_of r ≡ body_of r.staged.next.entries e r.staged.root (written_pages r.staged) ++ zeros 4096
   pub low : r.staged.root < 2 ^ 64
   pub room : content_blocks (length (spelling e)) + length r.staged.nodes.items < 2 ^ 64
+  pub few : r.is_late ≡ true → length r.staged.nodes.items < 2 ^ 62
   pub numbered : r.staged.receipt.number ≡ r.staged.next.entries
 
 -- What was made ready for this entry was staged on this board of the history, with the gate before its extent at block `tail`. The entry
@@ -75,12 +81,12 @@ module _ {D : Type 0} {disk : Ghosts D} where
     pub some : 1 ≤ r.staged.next.entries
     pub behind : 2 * r.staged.next.entries + 2 ≤ log_tail l
     pub runs : is_log_stopped l ≡ false
-    pub fits : need (body_in_run r.extent) ≤ log_room l
+    pub fits : need (body_in_run (run_of r)) ≤ log_room l
 
   -- The second log is the first one with the extent that was made ready. It is durable.
   pub record IsWritten (old new : Log D disk) (r : Ready) : Type 0 where
     pub kept : KeepsBounds old new
-    pub appended : IsAppended old new r.extent
+    pub appended : IsAppended old new (run_of r)
 
   -- The device has failed, within the calls of a write, and the log is stopped.
   pub record HasFailed (old new : Log D disk) : Type 0 where

@@ -12,7 +12,7 @@ use crate::board::Board;
 use crate::engine::Engine;
 use crate::extent::encode_checkpoint;
 use crate::step::{StepFault, step_fault};
-use btr_disk::{Disk, Parts};
+use btr_disk::{Disk, NoBlocks, Parts};
 use btr_super::{FORMAT, Super, replace};
 use std::alloc::{AllocError, Global};
 
@@ -90,7 +90,7 @@ impl<D: Disk> Engine<D> {
             unreachable!()
         };
         let gate = log.tail();
-        if let Err(fault) = log.append(extent) {
+        if let Err(fault) = log.append(extent, &NoBlocks) {
             self.stopped = log.stopped();
             self.place.put_back(log);
             return Err(step_fault(fault));

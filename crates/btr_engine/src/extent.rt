@@ -1,5 +1,5 @@
 //! The bytes of the extent of an entry, and of that of a checkpoint.
-ghost use Rattle.std.specs.Prelude.{◌≡◌, ◌+◌, ◌*◌, ◌^◌, ◌<◌, ◌≤◌, ◌++◌, length, IfOk, OnOk};
+ghost use Rattle.std.specs.Prelude.{◌≡◌, ◌+◌, ◌*◌, ◌^◌, ◌<◌, ◌≤◌, true, ◌++◌, length, IfOk, OnOk};
 ghost use Rattle.std.specs.List.{flat_map};
 ghost use Rattle.btr_disk.specs.Gate.{zeros};
 ghost use Rattle.btr_log.specs.Head.{content_blocks, head_bytes, IsHead};
@@ -9,6 +9,7 @@ ghost use Rattle.btr_pages.specs.Pages.{pages_of};
 ghost use Rattle.btr_entry.specs.Grammar.{spelling, IsSpelled, IsWithinBounds};
 ghost use Rattle.btr_roll.specs.Roll.{IsRollWithinBounds};
 ghost use Rattle.btr_engine.specs.Body.{padding, body_of, extent_bytes};
+ghost use Rattle.btr_engine.specs.Late.{late_bytes};
 ghost use Rattle.btr_engine.specs.Mark.{body_of_roll};
 
 use crate::maker::Maker;
@@ -21,12 +22,25 @@ use btr_roll::{Roll, encode_roll};
 use btr_tree::NewNode;
 use std::alloc::{AllocError, Global};
 
-/// The least number of nodes whose pages are worth a thread.
+/// The least number of nodes whose pages are made late.
 const LEAST_NODES: usize = 512;
 
+/// The most nodes whose pages are made late: more than a device has blocks.
+const MOST_NODES: usize = 1 << 40;
+
+/// What is made of an extent before it is written.
+#[derive(Drop)]
+pub(crate) struct Extent {
+    /// The bytes, up to those that are made while they are written.
+    pub(crate) front: Parts,
+
+    /// Whether the pages, and the block of zeros after them, are made while they are written.
+    pub(crate) is_late: bool,
+}
+
 /// Returns the body of the entry with this number, followed by one block of zeros. The body has this root, and the pages of these nodes of
-/// this stream. It takes time linear in the entry and the nodes, and memory for what it returns alone. If there are many nodes, `maker`
-/// makes it in parts.
+/// this stream. It takes time linear in the entry and the nodes, and memory for what it returns alone. If there are many nodes, it makes what
+/// stands before the pages in the parts of `maker`, and leaves the pages and the block of zeros for later.
 pub(crate) fn encode_extent<M: Maker>(
     maker: &M,
     alloc: Global,
@@ -35,20 +49,30 @@ pub(crate) fn encode_extent<M: Maker>(
     stream: u32,
     root: u64,
     nodes: &[NewNode],
-) -> Result<Parts, AllocError>
+) -> Result<Extent, AllocError>
     requires able { M.can_make }
     requires bounds { IsWithinBounds entry.now }
     requires number { 1 ≤ number }
-    ensures bytes { IfOk result (λ p. p ≡ body_of number entry.now root (pages_of stream nodes.now) ++ zeros 4096) }
+    ensures bytes { IfOk result (λ x. x.front ++ late_bytes x.is_late stream nodes.now
+        ≡ body_of number entry.now root (pages_of stream nodes.now) ++ zeros 4096) }
+    ensures few { IfOk result (λ x. x.is_late ≡ true → length nodes.now < 2 ^ 62) }
     ensures spelled { OnOk result (IsSpelled entry.now) }
     ensures low { OnOk result (root < 2 ^ 64) }
     ensures room { OnOk result (content_blocks (length (spelling entry.now)) + length nodes.now < 2 ^ 64) }
 {
     let head = Head::for_entry(number, spelling_length(entry), nodes.len() as u64, root);
-    if maker.threads() < 2 || nodes.len() < LEAST_NODES {
-        return in_one_part(alloc, &head, entry, stream, nodes);
+    if nodes.len() < LEAST_NODES || nodes.len() > MOST_NODES {
+        let front = in_one_part(alloc, &head, entry, stream, nodes)?;
+        return Ok(Extent {
+            front,
+            is_late: false,
+        });
     }
-    in_parts(maker, alloc, &head, entry, stream, nodes)
+    let front = before_pages(maker, alloc, &head, entry)?;
+    Ok(Extent {
+        front,
+        is_late: true,
+    })
 }
 
 /// Returns a head, the spelling of an entry, zeros up to the end of its last block, the pages of nodes, and one block of zeros, in one
@@ -74,19 +98,17 @@ fn in_one_part(
     Parts::of(alloc, extent)
 }
 
-/// Returns what [`in_one_part`] returns, in parts that `maker` makes.
-fn in_parts<M: Maker>(
+/// Returns a head, the spelling of an entry, and zeros up to the end of its last block, in parts that `maker` makes.
+fn before_pages<M: Maker>(
     maker: &M,
     alloc: Global,
     head: &Head,
     entry: &Entry,
-    stream: u32,
-    nodes: &[NewNode],
 ) -> Result<Parts, AllocError>
     requires able { M.can_make }
     requires head { IsHead head.now }
     requires bounds { IsWithinBounds entry.now }
-    ensures bytes { IfOk result (λ p. p ≡ extent_bytes head.now (spelling entry.now) (pages_of stream nodes.now)) }
+    ensures bytes { IfOk result (λ p. p ≡ head_bytes head.now ++ (spelling entry.now ++ zeros (padding (length (spelling entry.now))))) }
     ensures spelled { OnOk result (IsSpelled entry.now) }
 {
     let mut front = Vec::new(alloc);
@@ -95,8 +117,6 @@ fn in_parts<M: Maker>(
     let mut extent = Parts::of(alloc, front)?;
     extent.append(maker.points(alloc, points)?)?;
     extent.push(zeros_after(alloc, spelling_length(entry))?)?;
-    extent.append(maker.pages(alloc, stream, nodes)?)?;
-    extent.push(Vec::from_slice(alloc, &[0; BLOCK])?)?;
     Ok(extent)
 }
 
@@ -161,11 +181,7 @@ fn zeros_after(alloc: Global, content: u64) -> Result<Vec<u8>, AllocError>
 }
 
 /// Appends the pages of nodes of a stream, one in each block. An `Err` is out of memory.
-pub(crate) fn put_pages(
-    extent: &mut Vec<u8>,
-    stream: u32,
-    nodes: &[NewNode],
-) -> Result<(), AllocError>
+fn put_pages(extent: &mut Vec<u8>, stream: u32, nodes: &[NewNode]) -> Result<(), AllocError>
     ensures { OnOk result (extent.new.items ≡ extent.old.items ++ flat_map page_bytes (pages_of stream nodes.now)) }
 {
     for node in nodes {

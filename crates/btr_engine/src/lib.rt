@@ -10,6 +10,7 @@
 // the bytes of an entry
 mod extent;
 mod extent_parts;
+mod late;
 mod maker;
 // the history in memory
 mod answering;
@@ -29,6 +30,7 @@ mod travel;
 
 pub use board::{Board, PushFault, Receipt, Staged};
 pub use engine::Engine;
+pub use late::LatePages;
 pub use maker::{Alone, Crew, Maker};
 pub use remains::Remains;
 pub use snapshot::Snapshot;

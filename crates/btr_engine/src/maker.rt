@@ -1,18 +1,19 @@
 //! Who makes what a commit needs: the calling thread alone, or several threads.
-ghost use Rattle.std.specs.Prelude.{◌≡◌, ◌≤◌, ◌^◌, IfOk, IfErr, OnOk};
+ghost use Rattle.std.specs.Prelude.{◌≡◌, ◌*◌, ◌≤◌, ◌^◌, length, IfOk, IfErr, IsTrue, OnOk};
 ghost use Rattle.std.specs.List.{flat_map};
 ghost use Rattle.btr_base.specs.Point.{AreInDomain};
 ghost use Rattle.btr_tree.specs.History.{bag, ◌▷◌};
 ghost use Rattle.btr_tree.specs.Root.{IsTreeFault, AfterCommit};
 ghost use Rattle.btr_tree.specs.Applied.{IsCommitApplied};
-ghost use Rattle.btr_node.specs.Page.{page_bytes};
-ghost use Rattle.btr_pages.specs.Pages.{pages_of};
 ghost use Rattle.btr_entry.specs.Grammar.{point, ValuesFit};
+ghost use Rattle.btr_disk.specs.Put.{HasBlocks};
+ghost use Rattle.btr_engine.specs.Late.{late_bytes};
 
-use crate::extent_parts::{pages_by, pages_in, points_by, points_in};
+use crate::extent_parts::{points_by, points_in};
+use crate::late::LatePages;
 use btr_base::{Bag, Point, Ranges};
-use btr_disk::Parts;
-use btr_tree::{Applied, NewNode, Steps, Tree, TreeFault};
+use btr_disk::{Outlet, Parts, write_alone, write_by_threads};
+use btr_tree::{Applied, Steps, Tree, TreeFault};
 use std::alloc::{AllocError, Global};
 use std::marker::Sync;
 use std::thread::Threads;
@@ -21,9 +22,6 @@ use std::thread::Threads;
 pub trait Maker {
     /// What its threads need: that they can share what starts them.
     ghost can_make: { Type 0 };
-
-    /// The greatest number of threads that work at once, the calling one among them.
-    fn threads(&self) -> usize;
 
     /// Returns what [`Tree::apply`] returns.
     fn apply<L>(
@@ -42,10 +40,13 @@ pub trait Maker {
         ensures applied { IfOk result (IsCommitApplied tree.now version cut.now added.now first steps.old steps.new) }
         ensures fault { IfErr result (λ e. AfterCommit tree.now version cut.now added.now (λ h c. IsTreeFault (bag (c ▷ h)) e)) };
 
-    /// Returns the pages of nodes of a stream, one in each block. An `Err` is out of memory.
-    fn pages(&self, alloc: Global, stream: u32, nodes: &[NewNode]) -> Result<Parts, AllocError>
-        requires { can_make }
-        ensures { IfOk result (λ p. p ≡ flat_map page_bytes (pages_of stream nodes.now)) };
+    /// Has the outlet write its front and each of the blocks. Returns whether all of it was written.
+    fn write_late(&self, blocks: &LatePages<'_>, outlet: &(dyn Outlet + Sync)) -> bool
+        requires able { can_make }
+        requires room { length (late_bytes blocks.now.is_late blocks.now.stream blocks.now.nodes.now) ≤ 4096 * room outlet.now }
+        ensures front { IsTrue result → has_front outlet.now }
+        ensures blocks { IsTrue result
+            → HasBlocks (has_block outlet.now) (late_bytes blocks.now.is_late blocks.now.stream blocks.now.nodes.now) };
 
     /// Returns the bytes of points as an entry has them. An `Err` is out of memory.
     fn points(&self, alloc: Global, points: &[Point]) -> Result<Parts, AllocError>
@@ -63,10 +64,6 @@ impl Maker for Alone {
 
     ghost can_make = { ⊤ };
 
-    fn threads(&self) -> usize {
-        1
-    }
-
     fn apply<L>(
         &self,
         alloc: Global,
@@ -80,8 +77,8 @@ impl Maker for Alone {
         tree.apply(alloc, cut, added, version, first, steps)
     }
 
-    fn pages(&self, alloc: Global, stream: u32, nodes: &[NewNode]) -> Result<Parts, AllocError> {
-        pages_by(alloc, stream, nodes)
+    fn write_late(&self, blocks: &LatePages<'_>, outlet: &(dyn Outlet + Sync)) -> bool {
+        write_alone(blocks, outlet)
     }
 
     fn points(&self, alloc: Global, points: &[Point]) -> Result<Parts, AllocError> {
@@ -100,10 +97,6 @@ impl<R: Threads + Sync> Maker for Crew<'_, R> {
     ghost use Rattle.std.specs.Thread.{IsSync};
 
     ghost can_make = { IsSync R.row };
-
-    fn threads(&self) -> usize {
-        self.threads
-    }
 
     fn apply<L>(
         &self,
@@ -127,8 +120,8 @@ impl<R: Threads + Sync> Maker for Crew<'_, R> {
         )
     }
 
-    fn pages(&self, alloc: Global, stream: u32, nodes: &[NewNode]) -> Result<Parts, AllocError> {
-        pages_in(self.rt, alloc, stream, nodes, self.threads)
+    fn write_late(&self, blocks: &LatePages<'_>, outlet: &(dyn Outlet + Sync)) -> bool {
+        write_by_threads(self.rt, blocks, self.threads, outlet)
     }
 
     fn points(&self, alloc: Global, points: &[Point]) -> Result<Parts, AllocError> {

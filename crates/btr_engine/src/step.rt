@@ -82,7 +82,7 @@ impl<D: Disk> Engine<D> {
                 return Err(fault);
             }
         };
-        let (log, written) = ready.write(log);
+        let (log, written) = ready.write(&Alone, log);
         if let Err(_) = written {
             self.settle(log, None, true);
             return Err(StepFault::DeviceFault);

@@ -1,5 +1,5 @@
 //! The travel of the log: it is taken out of the engine, written beside it, and brought back.
-ghost use Rattle.std.specs.Prelude.{◌≡◌, ◌+◌, List, [], ◌∷◌, ◌++◌, false, not, IfErr, IfOk, IsTrue, OnOk, Err, length};
+ghost use Rattle.std.specs.Prelude.{◌≡◌, ◌+◌, ◌/◌, ◌^◌, ◌<◌, List, [], ◌∷◌, ◌++◌, true, false, not, IfErr, IfOk, IsTrue, OnOk, Err, length};
 ghost use Rattle.btr_hist.specs.declared.entry.Entry.{Entry as EntrySpec};
 ghost use Rattle.btr_super.specs.declared.superblock.Super.{Super as SuperSpec};
 ghost use Rattle.btr_log.specs.Log.{log_device, log_tail, LogLeaves};
@@ -8,12 +8,13 @@ ghost use Rattle.btr_engine.specs.Board.{Kept};
 ghost use Rattle.btr_engine.specs.Engine.{log_of, board_of, entries_of, tail_of, is_stopped, is_home, IsEngineOf};
 ghost use Rattle.btr_engine.specs.Step.{IsBeforeOrAfter, HasResult, StepCause};
 ghost use Rattle.btr_engine.specs.Stage.{WritesEntry};
-ghost use Rattle.btr_engine.specs.Travel.{IsMade, IsStaged, HoldsNow, IsReadyFor, IsReadyOn, IsWritten, HasFailed};
+ghost use Rattle.btr_engine.specs.Travel.{run_of, IsMade, IsStaged, HoldsNow, IsReadyFor, IsReadyOn, IsWritten, HasFailed};
 ghost use Rattle.btr_engine.specs.Travel.{IsTaken, Settles, IsHomeAgain};
 
 use crate::board::{Receipt, Staged};
 use crate::engine::Engine;
-use crate::extent::encode_extent;
+use crate::extent::{Extent, encode_extent};
+use crate::late::{LateBlocks, LatePages};
 use crate::maker::Maker;
 use crate::step::StepFault;
 use btr_disk::{BLOCK, Disk, Failed, Parts};
@@ -27,20 +28,36 @@ pub struct Ready {
     /// The board with the entry, and the receipt.
     pub(crate) staged: Staged,
 
-    /// The body of the entry with the pages of its nodes, and one block of zeros.
-    pub(crate) extent: Parts,
+    /// The body of the entry with the pages of its nodes, and one block of zeros, up to those that are made while they are written.
+    pub(crate) front: Parts,
+
+    /// Whether the pages, and the block of zeros after them, are made while they are written.
+    pub(crate) is_late: bool,
 }
 
 impl Ready {
+    /// The number of blocks of the extent of the entry and of the block of zeros after it.
+    fn blocks(&self) -> u64
+        requires { self.now.is_late ≡ true → length self.now.staged.nodes.items < 2 ^ 62 }
+        ensures { result ≡ length (run_of self.now) / 4096 }
+    {
+        let made = (self.front.len() / BLOCK) as u64;
+        if self.is_late {
+            return made + self.staged.nodes.len() as u64 + 1;
+        }
+        made
+    }
+
     /// Appends the extent of the entry to a log that is out of its engine. The caller passes the log that the entry was staged with.
-    /// After `Ok` the extent is durable.
+    /// After `Ok` the extent is durable. If the entry writes many pages, `maker` makes them while they are written.
     ///
     /// A crash at any moment of the write leaves the history as before, or with the entry. `Err` is that the device failed. Then the log
     /// is stopped.
     ///
     /// It makes four calls of the device, a write and a sync for the extent and then for the gate before it, or fewer if one of them
-    /// fails. It takes no memory.
-    pub fn write<D: Disk>(&self, log: Log<D>) -> (Log<D>, Result<(), Failed>)
+    /// fails. It takes no memory but what starts the maker's threads.
+    pub fn write<M: Maker, D: Disk>(&self, maker: &M, log: Log<D>) -> (Log<D>, Result<(), Failed>)
+        requires able { M.can_make }
         requires ready { (e : EntrySpec) × IsReadyFor log e self.now }
         ensures written { OnOk result.1 (IsWritten log result.0 self.now) }
         ensures failed { IfErr result.1 (λ _. HasFailed log result.0) }
@@ -52,7 +69,15 @@ impl Ready {
             → LogLeaves log result.0 (IsBeforeOrAfter (D.size (log_device log)) h e) }
     {
         let mut log = log;
-        if let Err(_fault) = log.append(&self.extent) {
+        let late = LateBlocks {
+            maker,
+            pages: LatePages {
+                stream: self.staged.receipt.stream,
+                nodes: &self.staged.nodes,
+                is_late: self.is_late,
+            },
+        };
+        if let Err(_fault) = log.append(&self.front, &late) {
             return (log, Err(Failed));
         }
         (log, Ok(()))
@@ -100,7 +125,7 @@ impl<D: Disk> Engine<D> {
             });
         }
         let ready = self.make_ready(maker, alloc, log.tail(), entry)?;
-        let need = (ready.extent.len() / BLOCK) as u64;
+        let need = ready.blocks();
         let left = log.room();
         if need > left {
             return Err(StepFault::DeviceFull { need, left });
@@ -129,7 +154,7 @@ impl<D: Disk> Engine<D> {
     {
         let staged = self.board.stage(maker, alloc, entry, tail)?;
         let receipt = staged.receipt;
-        let extent = encode_extent(
+        let Extent { front, is_late } = encode_extent(
             maker,
             alloc,
             entry,
@@ -138,7 +163,11 @@ impl<D: Disk> Engine<D> {
             staged.root,
             &staged.nodes,
         )?;
-        Ok(Ready { staged, extent })
+        Ok(Ready {
+            staged,
+            front,
+            is_late,
+        })
     }
 
     /// Brings the log back. With an entry that was made ready and written, the engine adds the entry, and the receipt is returned. The

@@ -1,5 +1,5 @@
 //! The log over a device in memory.
-ghost use Rattle.std.specs.Prelude.{◌≡◌, ◌<◌, ◌≤◌, ◌^◌, length, IfOk};
+ghost use Rattle.std.specs.Prelude.{◌≡◌, ◌<◌, ◌≤◌, ◌^◌, ◌++◌, length, IfOk};
 ghost use Rattle.btr_log.specs.Head.{content_blocks, IsHead};
 ghost use Rattle.btr_log.specs.Extents.{IsBody};
 ghost use Rattle.btr_log.specs.Log.{log_blocks};
@@ -7,7 +7,9 @@ ghost use Rattle.btr_log.specs.Append.{IsAppendRun};
 
 use crate::fixture::no_wrong;
 use btr_disk::bytes::put;
-use btr_disk::{BLOCK, Capacity, Disk, GATE_MARK, MemDisk, Parts, is_open_gate};
+use btr_disk::{
+    BLOCK, Capacity, Disk, GATE_MARK, HeldBlocks, MemDisk, NoBlocks, Parts, is_open_gate,
+};
 use btr_log::laws::is_same_head;
 use btr_log::*;
 use std::alloc::{AllocError, Global};
@@ -93,6 +95,18 @@ fn run_of(alloc: Global, head: &Head) -> Result<Parts, AllocError>
     Ok(run)
 }
 
+/// A body with this head, and apart from it a block of zeros.
+fn run_in_two(alloc: Global, head: &Head) -> Result<(Parts, Vec<u8>), AllocError>
+    requires head { IsHead head.now }
+    requires few { head.now.n ≤ 2 ^ 20 }
+    ensures run { IfOk result (λ r. IsAppendRun (r.0 ++ r.1.items)) }
+    ensures block { IfOk result (λ r. length r.1.items ≡ 4096) }
+{
+    let front = Parts::of(alloc, body_of(alloc, head)?)?;
+    let zeros = vec![in alloc; 0; BLOCK]?;
+    Ok((front, zeros))
+}
+
 /// The head of an entry with this number and a content of `length` bytes.
 fn entry(number: u64, n: u64, length: u64) -> Head
     requires number { 1 ≤ number }
@@ -134,7 +148,7 @@ fn append(alloc: Global, log: &mut Log<MemDisk>, head: &Head) -> Result<(), Fail
     requires few { head.now.n ≤ 2 ^ 20 }
     ensures { log_blocks log.new ≡ log_blocks log.old }
 {
-    match log.append(&run_of(alloc, head)?) {
+    match log.append(&run_of(alloc, head)?, &NoBlocks) {
         Ok(()) => Ok(()),
         Err(_) => Err("it was not appended".into()),
     }
@@ -176,7 +190,7 @@ fn stopped_by_its_holder(alloc: Global) -> Result<(State, Result<(), AppendFault
     if log.disk.sync().is_err() {
         log.stop();
     }
-    let appended = log.append(&run_of(alloc, &entry(1, 1, 4032))?);
+    let appended = log.append(&run_of(alloc, &entry(1, 1, 4032))?, &NoBlocks);
     Ok((state_of(&log), appended))
 }
 
@@ -262,8 +276,8 @@ fn the_gate_at_the_tail_is_closed(rt: HostRuntime) -> Result<(), Fail> {
     Ok(())
 }
 
-/// Appends a body of two blocks to a log of this many blocks. Returns what the append gave, what the log says, and the calls of
-/// the device.
+/// Appends a body of two blocks, with the block of zeros from a supply, to a log of this many blocks. Returns what the append gave, what
+/// the log says, and the calls of the device.
 fn two_blocks_in(
     alloc: Global,
     blocks: u64,
@@ -271,9 +285,9 @@ fn two_blocks_in(
     requires some { 5 ≤ blocks }
     requires few { blocks ≤ 2 ^ 10 }
 {
-    let run = run_of(alloc, &entry(1, 2, 5000))?;
+    let (front, zeros) = run_in_two(alloc, &entry(1, 2, 5000))?;
     let mut log = log_of(alloc, blocks, Vec::new(alloc))?;
-    let appended = log.append(&run);
+    let appended = log.append(&front, &HeldBlocks::new(&zeros));
     let state = state_of(&log);
     Ok((appended, state, log.into_disk().calls()))
 }
@@ -299,9 +313,9 @@ fn appended_twice(
 ) -> Result<([Result<(), AppendFault>; 2], bool, State, u64), AllocError> {
     let run = run_of(alloc, &entry(1, 1, 0))?;
     let mut log = log_of(alloc, 8, vec![in alloc; call]?)?;
-    let first = log.append(&run);
+    let first = log.append(&run, &NoBlocks);
     let is_stopped = log.stopped();
-    let second = log.append(&run);
+    let second = log.append(&run, &NoBlocks);
     let state = state_of(&log);
     Ok(([first, second], is_stopped, state, log.into_disk().calls()))
 }

@@ -76,7 +76,7 @@ pub(crate) fn add_in<R: Threads + Wait + Sync, D: Disk>(
         }
         Ok((log, ready)) => {
             hall.gate.leave(pass, turn);
-            let (log, written) = ready.write(log);
+            let (log, written) = ready.write(&Crew { rt, threads }, log);
             let mut last = hall.gate.enter(rt, pass);
             let (result, item) = last.state.bring(log, ready, written, entry);
             last.added = item;

@@ -1,12 +1,12 @@
 //! A device in a file.
-ghost use Rattle.std.specs.Prelude.{◌≡◌, ◌+◌, ◌^◌, ◌<◌, ◌≤◌, ◌≤ℤ◌, ◌↔◌, length, max, pos, IfOk, IsOk};
+ghost use Rattle.std.specs.Prelude.{◌≡◌, ◌+◌, ◌*◌, ◌^◌, ◌<◌, ◌≤◌, ◌≤ℤ◌, ◌↔◌, length, max, pos, IfOk, IsOk, IsTrue};
 ghost use Rattle.std.specs.Fd.{file_raw_fd};
 ghost use Rattle.std.specs.List.{flat_map};
 ghost use Rattle.btr_disk.specs.Causes.{Counted, HasCause};
 
 use crate::MAX_BLOCKS;
 use crate::count::raise;
-use btr_disk::{BLOCK, Disk, Failed, Parts};
+use btr_disk::{BLOCK, Disk, Failed, Outlet, Parts, Supply};
 use std::fs::{File, Files, OpenOptions};
 use std::io;
 use std::io::ErrorKind;
@@ -92,18 +92,17 @@ impl FileDisk {
         };
     }
 
-    /// Counts a fault if the system has returned an error.
-    fn counted(&mut self, answer: io::Result<()>) -> Result<(), Failed>
+    /// Counts a fault if the system has returned an error, and so the call is not done.
+    fn counted(&mut self, is_done: bool) -> Result<(), Failed>
         ensures calls { self.new.calls ≡ self.old.calls }
         ensures cause { HasCause self.old.faults self.new.faults result }
-        ensures ok { IsOk result ↔ IsOk answer }
+        ensures ok { IsOk result ↔ IsTrue is_done }
     {
-        match answer {
-            Ok(()) => Ok(()),
-            Err(_) => {
-                raise(&mut self.faults);
-                Err(Failed)
-            }
+        if is_done {
+            Ok(())
+        } else {
+            raise(&mut self.faults);
+            Err(Failed)
         }
     }
 }
@@ -130,7 +129,7 @@ impl Disk for FileDisk {
     fn read(&mut self, first: u64, buf: &mut [u8]) -> Result<(), Failed> {
         raise(&mut self.calls);
         let answer = read_full(&self.file, first * BLOCK as u64, buf);
-        self.counted(answer)
+        self.counted(answer.is_ok())
     }
 
     fn write(&mut self, first: u64, bytes: &[u8]) -> Result<(), Failed> {
@@ -138,21 +137,32 @@ impl Disk for FileDisk {
         let offset = first * BLOCK as u64;
         self.lengthen(offset + bytes.len() as u64);
         let answer = self.file.write_all_at(bytes, offset);
-        self.counted(answer)
+        self.counted(answer.is_ok())
     }
 
-    fn write_parts(&mut self, first: u64, bytes: &Parts) -> Result<(), Failed> {
+    fn write_parts<S: Supply>(
+        &mut self,
+        first: u64,
+        front: &Parts,
+        rest: &S,
+    ) -> Result<(), Failed> {
         raise(&mut self.calls);
         let offset = first * BLOCK as u64;
-        self.lengthen(offset + bytes.len() as u64);
-        let answer = write_each(&self.file, offset, bytes.as_slices());
-        self.counted(answer)
+        let room = rest.blocks();
+        self.lengthen(offset + (front.len() + room * BLOCK) as u64);
+        let is_written = rest.write_to(&FileOutlet {
+            file: &self.file,
+            offset,
+            front,
+            room,
+        });
+        self.counted(is_written)
     }
 
     fn sync(&mut self) -> Result<(), Failed> {
         raise(&mut self.calls);
         let answer = self.file.sync_data();
-        self.counted(answer)
+        self.counted(answer.is_ok())
     }
 
     ghost image_bytes = { λ observable. absurd observable };
@@ -199,6 +209,46 @@ fn take_lock(file: &File, lock: Lock) -> io::Result<()> {
         Lock::Exclusive => file.try_lock()?,
     }
     Ok(())
+}
+
+/// Where a write puts the front and the blocks after it.
+#[derive(Drop)]
+struct FileOutlet<'a> {
+    file: &'a File,
+    /// Where the front begins.
+    offset: u64,
+    front: &'a Parts,
+    /// The number of blocks after the front.
+    room: usize,
+    ghost inside: { offset + length front.now + 4096 * room < 2 ^ 63 },
+}
+
+impl Outlet for FileOutlet<'_> {
+    ghost use Rattle.std.specs.Prelude.{⊤};
+
+    ghost room = { λ outlet. outlet.room };
+
+    ghost front_size = { λ outlet. length outlet.front.now };
+
+    // No contract says what the file holds.
+    ghost has_front = { λ _. ⊤ };
+
+    ghost has_block = { λ _ _ _. ⊤ };
+
+    fn front_len(&self) -> usize {
+        self.front.len()
+    }
+
+    fn put_front(&self) -> bool {
+        write_each(self.file, self.offset, self.front.as_slices()).is_ok()
+    }
+
+    fn put(&self, first: usize, blocks: &[u8]) -> bool {
+        let place = self.front.len() + first * BLOCK;
+        self.file
+            .write_all_at(blocks, self.offset + place as u64)
+            .is_ok()
+    }
 }
 
 /// Writes the parts from this offset on, one after the other, and stops at the first that fails.

@@ -4,7 +4,7 @@ ghost use Rattle.btr_disk.specs.Causes.{Counted};
 
 use crate::MAX_BLOCKS;
 use crate::count::raise;
-use btr_disk::{Disk, Failed, Parts};
+use btr_disk::{Disk, Failed, Parts, Supply};
 
 /// A device of `2^32` blocks on which each read, write and sync fails: the device of a run without a path, or whose
 /// file cannot be opened. Its contents are not observable.
@@ -64,7 +64,12 @@ impl Disk for NoDisk {
         Err(self.fail())
     }
 
-    fn write_parts(&mut self, _first: u64, _bytes: &Parts) -> Result<(), Failed> {
+    fn write_parts<S: Supply>(
+        &mut self,
+        _first: u64,
+        _front: &Parts,
+        _rest: &S,
+    ) -> Result<(), Failed> {
         Err(self.fail())
     }
 

@@ -7,7 +7,7 @@ ghost use Rattle.btr_log.specs.Log.{log_device, log_tail, log_room, extents_of, 
 ghost use Rattle.btr_log.specs.Append.{body_in_run, IsAppendRun, IsTooLong, IsMoment, AppendCause, IsAppended};
 
 use crate::Log;
-use btr_disk::{BLOCK, Disk, Parts, open_gate, publish};
+use btr_disk::{BLOCK, Disk, Parts, Supply, open_gate, publish};
 
 /// Why a body was not appended.
 #[derive(Clone, Copy, PartialEq, Eq)]
@@ -25,43 +25,53 @@ pub enum AppendFault {
 impl<D: Disk> Log<D> {
     /// Appends a body. After `Ok` it is durable, and no crash takes it away.
     ///
-    /// The caller passes a run: the body, which begins with its head, and then one block of zeros.
+    /// The caller passes a run: the body, which begins with its head, and then one block of zeros. The run is `front`, and then the
+    /// blocks of `rest`.
     ///
     /// `Stopped` is returned exactly if the log is stopped. `Full` is returned exactly if the log is not
     /// stopped and the body's blocks and one more are more than the room. Neither calls the device. A
     /// crash at any moment leaves the log as it was or with this body.
     ///
     /// It makes four calls of the device, a write and a sync for the run and then for the gate, or fewer
-    /// if one of them fails. It allocates no memory.
-    pub fn append(&mut self, run: &Parts) -> Result<(), AppendFault>
-        requires { IsAppendRun run.now }
+    /// if one of them fails. It allocates no memory itself.
+    pub fn append<S: Supply>(&mut self, front: &Parts, rest: &S) -> Result<(), AppendFault>
+        requires able { S.can_work }
+        requires run { IsAppendRun (front.now ++ S.bytes rest.now) }
         ensures stopped { IsTrue (is_log_stopped self.old)
             → result ≡ Err (AppendFault.Stopped (extents_of self.old)) }
-        ensures full { IsFalse (is_log_stopped self.old) → IsTooLong self.old run.now
-            → result ≡ Err (AppendFault.Full (need (body_in_run run.now)) (log_room self.old)) }
-        ensures cause { IfErr result (AppendCause self.old self.new run.now) }
+        ensures full { IsFalse (is_log_stopped self.old) → IsTooLong self.old (front.now ++ S.bytes rest.now)
+            → result ≡ Err (AppendFault.Full (need (body_in_run (front.now ++ S.bytes rest.now))) (log_room self.old)) }
+        ensures cause { IfErr result (AppendCause self.old self.new (front.now ++ S.bytes rest.now)) }
         ensures kept { KeepsBounds self.old self.new }
-        ensures appended { OnOk result (IsAppended self.old self.new run.now) }
+        ensures appended { OnOk result (IsAppended self.old self.new (front.now ++ S.bytes rest.now)) }
         ensures written { D.is_observable
-            → OnOk result (Published (D.contents (log_device self.old)) (4096 * (log_tail self.old + 1)) run.now
+            → OnOk result (Published (D.contents (log_device self.old)) (4096 * (log_tail self.old + 1)) (front.now ++ S.bytes rest.now)
             (4096 * log_tail self.old) gate_block (D.contents (log_device self.new))) }
         // Given that the log was at rest with these bodies.
         ensures at_rest { D.is_observable → (bodies : List (List ℕ)) → IsLogAtRest self.old bodies
-            → OnOk result (IsLogAtRest self.new (bodies ++ body_in_run run.now ∷ [])) }
+            → OnOk result (IsLogAtRest self.new (bodies ++ body_in_run (front.now ++ S.bytes rest.now) ∷ [])) }
         ensures moments { D.is_observable → (bodies : List (List ℕ)) → IsLogAtRest self.old bodies
-            → LogLeaves self.old self.new (IsMoment (D.contents (log_device self.old)) (log_tail self.old) bodies (body_in_run run.now)) }
+            → LogLeaves self.old self.new
+            (IsMoment (D.contents (log_device self.old)) (log_tail self.old) bodies (body_in_run (front.now ++ S.bytes rest.now))) }
     {
         if self.stopped {
             return Err(AppendFault::Stopped {
                 extents: self.extents,
             });
         }
-        let need = (run.len() / BLOCK) as u64;
+        let need = (front.len() / BLOCK) as u64 + rest.blocks() as u64;
         let left = self.room();
         if need > left {
             return Err(AppendFault::Full { need, left });
         }
-        let written = publish(&mut self.disk, self.tail + 1, run, self.tail, &open_gate());
+        let written = publish(
+            &mut self.disk,
+            self.tail + 1,
+            front,
+            rest,
+            self.tail,
+            &open_gate(),
+        );
         if written.is_err() {
             self.stopped = true;
             return Err(AppendFault::Fault);

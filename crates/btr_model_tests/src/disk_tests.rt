@@ -1,15 +1,17 @@
 //! The calls of the device in memory and of the fuse, and each generic function over them.
-ghost use Rattle.std.specs.Prelude.{◌≡◌, IfOk, length};
+ghost use Rattle.std.specs.Prelude.{◌≡◌, ◌*◌, ◌<◌, IfOk, length};
 
 use btr_disk::laws::{sync_and_write, write_elsewhere, write_sync_read, write_two, write_unsynced};
-use btr_disk::{BLOCK, Capacity, Disk, Fill, FuseDisk, MemDisk, Parts, publish};
+use btr_disk::{
+    BLOCK, Capacity, Disk, Fill, FuseDisk, HeldBlocks, MemDisk, NoBlocks, Parts, publish,
+};
 use std::alloc::{AllocError, Global};
 use std::process::Abort;
 use std::test::Fail;
 
 const CAPACITY: Capacity = Capacity {
     calls: 8,
-    blocks: 4,
+    blocks: 8,
 };
 
 /// A block of one value.
@@ -67,13 +69,55 @@ fn parts_are_written_one_after_the_other(rt: HostRuntime) -> Result<(), Fail> {
     let alloc = rt.alloc();
     let mut disk = disk(alloc, Vec::new(alloc))?;
     let parts = three_parts(alloc)?;
-    let is_written = disk.write_parts(3, &parts).is_ok();
+    let is_written = disk.write_parts(3, &parts, &NoBlocks).is_ok();
     assert!(rt; (is_written, disk.calls(), disk.faults()) == (true, 1, 0));
     let mut buf = vec![in alloc; 9; 8192]?;
     let is_read = disk.read(3, &mut buf).is_ok();
     let read = (buf[0], buf[9], buf[10], buf[4095], buf[4096], buf[8191]);
     assert!(rt; (is_read, read) == (true, (1, 1, 2, 2, 3, 3)));
     assert!(rt; bytes_of(disk, [12287, 20479, 20480]) == (32768, [Some(0), Some(3), Some(0)]));
+    Ok(())
+}
+
+/// Blocks of which the byte at address k is k / 16 % 251: no two blocks of the first fifteen are alike.
+fn counted(alloc: Global, blocks: usize) -> Result<Vec<u8>, AllocError>
+    requires { blocks < 1000 }
+    ensures { IfOk result (λ bytes. length bytes.items ≡ 4096 * blocks) }
+{
+    let mut bytes = vec![in alloc; 0; BLOCK * blocks]?;
+    for k in 0..bytes.len() {
+        bytes[k] = (k / 16 % 251) as u8;
+    }
+    Ok(bytes)
+}
+
+/// Writes two blocks in parts and then three of a supply at block 2. Returns whether that is one call which succeeded, and what the device
+/// has then.
+fn written_from_a_supply(alloc: Global) -> Result<(bool, Vec<u8>), AllocError>
+    ensures { IfOk result (λ r. length r.1.items ≡ 32768) }
+{
+    let capacity = Capacity {
+        calls: 1,
+        blocks: 5,
+    };
+    let mut disk = MemDisk::new(alloc, 8, capacity, Vec::new(alloc))?;
+    let parts = three_parts(alloc)?;
+    let blocks = counted(alloc, 3)?;
+    let is_written = disk
+        .write_parts(2, &parts, &HeldBlocks::new(&blocks))
+        .is_ok();
+    let is_one_call = disk.calls() == 1;
+    Ok((is_written && is_one_call, disk.into_bytes()))
+}
+
+#[test]
+fn blocks_of_a_supply_are_written_after_the_front(rt: HostRuntime) -> Result<(), Fail> {
+    let alloc = rt.alloc();
+    let (is_written, bytes) = written_from_a_supply(alloc)?;
+    assert!(rt; is_written);
+    let ends = (bytes[8191], bytes[8192], bytes[16383], bytes[28672]);
+    assert!(rt; ends == (0, 1, 3, 0));
+    assert!(rt; &bytes[16384..28672] == counted(alloc, 3)?.as_slice());
     Ok(())
 }
 
@@ -152,12 +196,20 @@ fn an_unsynced_block_is_old_or_new_or_neither(rt: HostRuntime) -> Result<(), Fai
     Ok(())
 }
 
-/// Publishes a body of two blocks at block 1 with its gate at block 0, on a device at which the calls of the
-/// list fail. Returns the first byte of each of the three blocks, and the number of faults.
+/// Publishes a body of two blocks, of which a supply makes the second, at block 1 with its gate at block 0, on a device at which the
+/// calls of the list fail. Returns the first byte of each of the three blocks, and the number of faults.
 fn published(rt: &impl Abort, alloc: Global, failing: Vec<u64>) -> Result<(u8, u8, u8, u64), Fail> {
     let mut disk = disk(alloc, failing)?;
-    let body = Parts::of(alloc, vec![in alloc; 3; 8192]?)?;
-    let outcome = publish(&mut disk, 1, &body, 0, &block(alloc, 2)?);
+    let front = Parts::of(alloc, block(alloc, 3)?)?;
+    let rest = block(alloc, 4)?;
+    let outcome = publish(
+        &mut disk,
+        1,
+        &front,
+        &HeldBlocks::new(&rest),
+        0,
+        &block(alloc, 2)?,
+    );
     let faults = disk.faults();
     assert!(rt; outcome.is_ok() == (faults == 0));
     let bytes = disk.into_bytes();
@@ -168,10 +220,10 @@ fn published(rt: &impl Abort, alloc: Global, failing: Vec<u64>) -> Result<(u8, u
 /// The number of a call that fails, and what is published then.
 const PUBLISHED: [(u64, (u8, u8, u8, u64)); 5] = [
     (0, (0, 0, 0, 1)),
-    (1, (0, 3, 3, 1)),
-    (2, (0, 3, 3, 1)),
-    (3, (2, 3, 3, 1)),
-    (4, (2, 3, 3, 0)),
+    (1, (0, 3, 4, 1)),
+    (2, (0, 3, 4, 1)),
+    (3, (2, 3, 4, 1)),
+    (4, (2, 3, 4, 0)),
 ];
 
 #[test]
@@ -223,18 +275,19 @@ fn a_fuse_passes_its_calls_and_then_fails(rt: HostRuntime) -> Result<(), Fail> {
     Ok(())
 }
 
-/// The first byte of each of blocks 1 and 2, and the number of calls and of faults of the other device, after a write of parts at
-/// block 1, a sync, and a write of parts at block 2 that fails.
-fn parts_after_the_fuse(alloc: Global) -> Result<(bool, [Option<u8>; 2], u64, u64), AllocError> {
+/// The first byte of each of blocks 1, 2 and 4, and the number of calls and of faults of the other device, after a write of parts and a
+/// block of sixes at block 1, a sync, and the same write at block 2, which fails.
+fn parts_after_the_fuse(alloc: Global) -> Result<(bool, [Option<u8>; 3], u64, u64), AllocError> {
     let mut fuse = fuse(alloc)?;
     let parts = three_parts(alloc)?;
-    let passed = fuse.write_parts(1, &parts).is_ok() && fuse.sync().is_ok();
-    let cut_off = fuse.write_parts(2, &parts).is_err();
+    let six = block(alloc, 6)?;
+    let rest = HeldBlocks::new(&six);
+    let passed = fuse.write_parts(1, &parts, &rest).is_ok() && fuse.sync().is_ok();
+    let cut_off = fuse.write_parts(2, &parts, &rest).is_err();
     let disk = fuse.into_disk();
     let calls = disk.calls();
     let faults = disk.faults();
-    let bytes = disk.into_bytes();
-    let found = [bytes.get(4096).copied(), bytes.get(8192).copied()];
+    let (_, found) = bytes_of(disk, [4096, 8192, 16384]);
     Ok((passed && cut_off, found, calls, faults))
 }
 
@@ -242,7 +295,7 @@ fn parts_after_the_fuse(alloc: Global) -> Result<(bool, [Option<u8>; 2], u64, u6
 fn a_write_of_parts_is_one_call_of_the_fuse(rt: HostRuntime) -> Result<(), Fail> {
     let found = parts_after_the_fuse(rt.alloc())?;
     // The write that fails reaches the other device.
-    assert!(rt; found == (true, [Some(1), Some(1)], 3, 0));
+    assert!(rt; found == (true, [Some(1), Some(1), Some(6)], 3, 0));
     Ok(())
 }
 

@@ -20,4 +20,6 @@ mod io_tests;
 #[cfg(test)]
 mod node_tests;
 #[cfg(test)]
+mod put_tests;
+#[cfg(test)]
 mod roll_tests;

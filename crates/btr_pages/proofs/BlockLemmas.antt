@@ -64,7 +64,7 @@ length-rest : length (zeros 448) ≡ 448
 unfolding zeros
 length-rest = refl
 
-length-page : (p : NodePage) → HasPlaces p → length (page_bytes p) ≡ 4096
+pub length-page : (p : NodePage) → HasPlaces p → length (page_bytes p) ≡ 4096
 unfolding page_bytes
 length-page (Leaf start height stream version count points) fits =
     let f : Front = front (Leaf start height stream version count points) in

@@ -4,6 +4,7 @@ pub mod NumberLemmas
 pub mod KnownLemmas
 pub mod PageOfLemmas
 mod AppendLemmas
+mod FilledLemmas
 pub mod ReportedLemmas
 pub mod ReportedNodeLemmas
 pub mod PagesLemmas

@@ -75,7 +75,7 @@ fn append_slots(to: &mut Vec<u8>, slots: &NewSlots) -> Result<(), AllocError>
 }
 
 /// The slot of a number, or a slot without a point if there are not that many.
-fn slot_at(slots: &NewSlots, i: u8) -> PageSlot
+pub(crate) fn slot_at(slots: &NewSlots, i: u8) -> PageSlot
     ensures { result ≡ get_or (map page_slot slots.now) i unused_slot }
 {
     match slots.get(i) {
@@ -93,7 +93,7 @@ fn slot_at(slots: &NewSlots, i: u8) -> PageSlot
 }
 
 /// The sum of the counts of all slots of a page. It wraps at the end of its type.
-fn total(slots: &NewSlots) -> u64
+pub(crate) fn total(slots: &NewSlots) -> u64
     ensures { result ≡ sum_by (λ s. s.agg.count) (page_slots_of slots.now) % 2 ^ 64 }
 {
     let mut all: u64 = 0;

@@ -1,7 +1,7 @@
 //! What no contract can say: a file and a pipe hold what was written to them, and a locked file is refused.
 ghost use Rattle.std.specs.Prelude.{◌≡◌, ◌+◌, ◌*◌, ◌^◌, ◌<◌, ◌≤◌, length, IfOk, vec_len};
 
-use btr_disk::{Disk, Parts};
+use btr_disk::{BLOCK, Disk, HeldBlocks, NoBlocks, Parts};
 use btr_host::*;
 use btr_io::{ReadAllFault, Sink, Source, read_all, write_all};
 use std::alloc::{AllocError, Global};
@@ -99,7 +99,7 @@ fn three_parts(alloc: Global) -> Result<Parts, AllocError>
 fn is_written_in_parts(rt: &HostRuntime, path: &str) -> Result<bool, Fail> {
     let parts = three_parts(rt.alloc())?;
     let mut disk = FileDisk::open(rt, path, Lock::Exclusive)?;
-    Ok(disk.write_parts(1, &parts).is_ok() && disk.sync().is_ok())
+    Ok(disk.write_parts(1, &parts, &NoBlocks).is_ok() && disk.sync().is_ok())
 }
 
 /// How often the four blocks of a file from 0 on have a byte, and the place of the first.
@@ -118,6 +118,54 @@ fn a_file_keeps_parts(rt: HostRuntime) -> Result<(), Fail> {
     assert!(rt; found(&rt, &path, 5)? == (10, Some(4096)));
     assert!(rt; found(&rt, &path, 6)? == (4086, Some(4106)));
     assert!(rt; found(&rt, &path, 7)? == (4096, Some(8192)));
+    fs::remove_file(&rt, &path)?;
+    Ok(())
+}
+
+/// Blocks of which the byte at address k is k / 16 % 251: no two blocks of the first fifteen are alike.
+fn counted(alloc: Global, blocks: usize) -> Result<Vec<u8>, AllocError>
+    requires { blocks < 100 }
+    ensures { IfOk result (λ bytes. vec_len bytes ≡ 4096 * blocks) }
+{
+    let mut bytes = vec![in alloc; 0; BLOCK * blocks]?;
+    for k in 0..bytes.len() {
+        bytes[k] = (k / 16 % 251) as u8;
+    }
+    Ok(bytes)
+}
+
+/// Makes a file, writes two blocks in parts and then 37 of a supply to it from block 3 on, and syncs.
+fn is_written_from_a_supply(rt: &HostRuntime, path: &str) -> Result<bool, Fail> {
+    let parts = three_parts(rt.alloc())?;
+    let blocks = counted(rt.alloc(), 37)?;
+    let rest = HeldBlocks::new(&blocks);
+    let mut disk = FileDisk::open(rt, path, Lock::Exclusive)?;
+    Ok(disk.write_parts(3, &parts, &rest).is_ok() && disk.sync().is_ok())
+}
+
+/// What a file has in the 41 blocks from block 2 on.
+fn blocks_from_two(rt: &HostRuntime, path: &str) -> Result<Vec<u8>, Fail> {
+    let mut disk = FileDisk::open(rt, path, Lock::Shared)?;
+    Ok(read_blocks(rt.alloc(), &mut disk, 2, 41)?)
+}
+
+/// What a write of three parts and 37 blocks at block 3 leaves from block 2 on, with a block of zeros on both sides.
+fn wanted(alloc: Global) -> Result<Vec<u8>, AllocError> {
+    let mut bytes = filled(alloc, 1, 0)?;
+    for part in three_parts(alloc)?.as_slices() {
+        bytes.extend_from_slice(part)?;
+    }
+    bytes.extend_from_slice(&counted(alloc, 37)?)?;
+    bytes.extend_from_slice(&filled(alloc, 1, 0)?)?;
+    Ok(bytes)
+}
+
+/// A file keeps the blocks of a supply after the front, in order, also where the last piece is not whole.
+#[test]
+fn a_file_keeps_the_blocks_of_a_supply(rt: HostRuntime) -> Result<(), Fail> {
+    let path = path_for(&rt, "supply")?;
+    assert!(rt; is_written_from_a_supply(&rt, &path)?);
+    assert!(rt; blocks_from_two(&rt, &path)? == wanted(rt.alloc())?);
     fs::remove_file(&rt, &path)?;
     Ok(())
 }
@@ -160,7 +208,9 @@ fn no_disk_fails_each_call(rt: HostRuntime) -> Result<(), Fail> {
     assert!(rt; disk.blocks() == 4294967296);
     let read = disk.read(0, &mut block).is_err();
     let write = disk.write(0, &block).is_err();
-    let parts = disk.write_parts(0, &three_parts(rt.alloc())?).is_err();
+    let parts = disk
+        .write_parts(0, &three_parts(rt.alloc())?, &NoBlocks)
+        .is_err();
     assert!(rt; read && write && parts && disk.sync().is_err());
     Ok(())
 }

@@ -1,4 +1,4 @@
-use Rattle.std.specs.Prelude.{ℕ, ◌+◌, ◌*◌, ◌<◌, ◌≤◌, List, length}
+use Rattle.std.specs.Prelude.{ℕ, ◌+◌, ◌*◌, ◌<◌, ◌≤◌, List, ◌++◌, length}
 use Rattle.std.proofs.Common.{arith, inl}
 use Rattle.btr_disk.specs.declared.disk.Disk.{Ghosts}
 use Rattle.btr_disk.specs.Bytes.{Image, Has, Same, SameBut, IsOutside}
@@ -58,7 +58,7 @@ pub returns-in_err-write_parts-clause-moments : goal.returns-in_err-write_parts-
 returns-in_err-write_parts-clause-moments g c is_observable settled =
     let disk = g.D.Disk in
     let d0 = c.args.device.now in
-    to_first disk.calls disk.images_since disk.images_now disk.contents d0 (4096 * c.args.first) c.args.body.now (4096 * c.args.at) c.write_parts.new.self (g.met.D.Disk.only_now is_observable d0) settled
+    to_first disk.calls disk.images_since disk.images_now disk.contents d0 (4096 * c.args.first) (c.args.front.now ++ g.S.Blocks.bytes c.args.rest.now) (4096 * c.args.at) c.write_parts.new.self (g.met.D.Disk.only_now is_observable d0) settled
     (record { counted = c.write_parts.ensures.calls; time = c.write_parts.ensures.time is_observable }) (c.write_parts.ensures.images is_observable).torn
 
 pub returns-in_err-sync-clause-moments : goal.returns-in_err-sync-clause-moments
@@ -67,7 +67,7 @@ returns-in_err-sync-clause-moments g c is_observable settled =
     let d0 = c.args.device.now in
     let d1 = c.write_parts.new.self in
     let a = 4096 * c.args.first in
-    let body = c.args.body.now in
+    let body = c.args.front.now ++ g.S.Blocks.bytes c.args.rest.now in
     let p = 4096 * c.args.at in
     let first = to_first disk.calls disk.images_since disk.images_now disk.contents d0 a body p d1 (g.met.D.Disk.only_now is_observable d0) settled
     (record { counted = c.write_parts.ensures.calls; time = c.write_parts.ensures.time is_observable }) (c.write_parts.ensures.images is_observable).torn in
@@ -83,7 +83,7 @@ returns-in_err-write-clause-moments g c is_observable settled =
     let d2 = c.sync.new.self in
     let d3 = c.write.new.self in
     let a = 4096 * c.args.first in
-    let body = c.args.body.now in
+    let body = c.args.front.now ++ g.S.Blocks.bytes c.args.rest.now in
     let p = 4096 * c.args.at in
     let done = body_is_synced disk d0 d1 d2 a body (c.in_ok-write_parts.ensures.written is_observable) (c.write_parts.ensures.elsewhere is_observable) (c.sync.ensures.contents is_observable) (c.in_ok-sync.ensures.synced is_observable) in
     let above : p < a → p + 4096 ≤ a = λ lt. omega arith in
@@ -101,7 +101,7 @@ returns-clause-published g c is_observable =
     let d2 = c.sync.new.self in
     let d3 = c.write.new.self in
     let a = 4096 * c.args.first in
-    let body = c.args.body.now in
+    let body = c.args.front.now ++ g.S.Blocks.bytes c.args.rest.now in
     let p = 4096 * c.args.at in
     let d4 = c.sync-2.new.self in
     let gate = c.args.gate.now in
@@ -121,7 +121,7 @@ returns-clause-moments g c is_observable settled =
     let d2 = c.sync.new.self in
     let d3 = c.write.new.self in
     let a = 4096 * c.args.first in
-    let body = c.args.body.now in
+    let body = c.args.front.now ++ g.S.Blocks.bytes c.args.rest.now in
     let p = 4096 * c.args.at in
     let d4 = c.sync-2.new.self in
     let P : Image → Type 0 = IsBeforeOrHasBody (disk.contents d0) a body p in

@@ -1,12 +1,16 @@
-use Rattle.std.proofs.Common.{◌∙◌}
-use Rattle.std.proofs.lemmas.Result.{IfOk-weaker}
-use Rattle.btr_engine.proofs.ExtentBytes.{extent_is}
+use Rattle.std.specs.Prelude.{◌++◌}
+use Rattle.std.proofs.Common.{◌∙◌, append-nil, ap}
+use Rattle.btr_engine.specs.Late.{late_bytes}
+use Rattle.btr_engine.proofs.ExtentBytes.{extent_is, late_is}
 use Rattle.btr_engine.proofs.extent.encode_extent.Goals as goal
 
-pub returns-then-threads-lt2-clause-bytes : goal.returns-then-threads-lt2-clause-bytes
-returns-then-threads-lt2-clause-bytes g c =
-    IfOk-weaker c.in_one_part.result _ _ (λ p is. is ∙ extent_is c.args.number c.args.entry.now c.args.stream c.args.root c.spelling_length.result c.args.nodes.now c.for_entry-head.result c.spelling_length.ensures c.for_entry-head.ensures) c.in_one_part.ensures.bytes
+pub returns-then-nodes-lt-LEAST_NODES-clause-bytes : goal.returns-then-nodes-lt-LEAST_NODES-clause-bytes
+returns-then-nodes-lt-LEAST_NODES-clause-bytes g c =
+    append-nil _
+    ∙ c.in_ok-front.ensures.bytes
+    ∙ extent_is c.args.number c.args.entry.now c.args.stream c.args.root c.spelling_length.result c.args.nodes.now c.for_entry-head.result c.spelling_length.ensures c.for_entry-head.ensures
 
 pub returns-clause-bytes : goal.returns-clause-bytes
 returns-clause-bytes g c =
-    IfOk-weaker c.in_parts.result _ _ (λ p is. is ∙ extent_is c.args.number c.args.entry.now c.args.stream c.args.root c.spelling_length.result c.args.nodes.now c.for_entry-head.result c.spelling_length.ensures c.for_entry-head.ensures) c.in_parts.ensures.bytes
+    late_is c.for_entry-head.result c.args.entry.now c.args.stream c.args.nodes.now _ c.in_ok-front-2.ensures.bytes
+    ∙ extent_is c.args.number c.args.entry.now c.args.stream c.args.root c.spelling_length.result c.args.nodes.now c.for_entry-head.result c.spelling_length.ensures c.for_entry-head.ensures

@@ -1,4 +1,4 @@
-use Rattle.std.specs.Prelude.{◌*◌, length}
+use Rattle.std.specs.Prelude.{◌*◌, ◌++◌, length}
 use Rattle.btr_disk.proofs.FuseImages.{cut_off_time}
 use Rattle.btr_disk.proofs.fuse.FuseDiskDisk.write_parts.Goals as goal
 
@@ -8,5 +8,5 @@ returns-then-self-eq0-clause-time g c is_observable =
     let old = c.args.self.now.disk in
     let new = c.write_parts.new.self in
     cut_off_time g.D.Disk old new c.write_parts.ensures.calls (c.write_parts.ensures.time is_observable) c.args.self.now.withheld
-    (4096 * c.args.first) (length c.args.bytes.now) (laws.image_bytes is_observable old) (c.write_parts.ensures.images is_observable).unsynced
+    (4096 * c.args.first) (length (c.args.front.now ++ g.S.Blocks.bytes c.args.rest.now)) (laws.image_bytes is_observable old) (c.write_parts.ensures.images is_observable).unsynced
     (laws.counts_now is_observable new) (laws.only_now is_observable old) (laws.fewer_later is_observable new)

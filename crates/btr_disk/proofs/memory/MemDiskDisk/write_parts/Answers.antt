@@ -1,33 +1,62 @@
-use Rattle.std.specs.Prelude.{◌≡◌, ◌+◌, ◌*◌, ◌≤◌, ℕ, List, length, drop}
-use Rattle.std.proofs.Common.{arith, subst, length-take, length-drop}
-use Rattle.btr_disk.specs.Bytes.{Image, SameBut}
+use Rattle.std.specs.Prelude.{◌≡◌, ◌+◌, ◌*◌, ◌≤◌, ◌++◌, ℕ, List, length, drop}
+use Rattle.std.proofs.Common.{arith, subst, length-append, length-take, length-drop}
+use Rattle.btr_disk.specs.Bytes.{Image, Has, SameBut}
 use Rattle.btr_disk.specs.CallRecord.{contents_of}
 use Rattle.btr_disk.specs.Memory.{RecordsWrite}
+use Rattle.btr_disk.proofs.PartLemmas.{written_more, changed_more}
 use Rattle.btr_disk.proofs.Recording.{Has-part, write_recorded, write_images}
 use Rattle.btr_disk.proofs.memory.MemDiskDisk.write_parts.Goals as goal
 
--- what the parts leave, said of the bytes before the call and of the list that the parts are
-elsewhere : (address : ℕ) (bytes kept parts written : List ℕ) (now : Image) → kept ≡ bytes → parts ≡ written → SameBut address (length parts) (contents_of kept) now → SameBut address (length written) (contents_of bytes) now
-elsewhere address bytes kept parts written now same list but =
-    subst (λ (l : List ℕ). SameBut address (length written) (contents_of l) now) same
-    (subst (λ (l : List ℕ). SameBut address (length l) (contents_of kept) now) list but)
+-- what the front and the blocks after it leave
+module _ (address n : ℕ) (parts front rest : List ℕ) (mid now : Image) (list : parts ≡ front) (place : n ≡ length front) (then : SameBut (address + n) (length rest) mid now) where
+  after : SameBut (address + length front) (length rest) mid now
+  after = subst (λ (i : ℕ). SameBut (address + i) (length rest) mid now) place then
+
+  written : Has mid address parts → Has now (address + n) rest → Has now address (front ++ rest)
+  written first last =
+      written_more address front rest mid mid now after (subst (Has mid address) list first)
+      (subst (λ (i : ℕ). Has now (address + i) rest) place last)
+
+  changed : (bytes kept : List ℕ) → kept ≡ bytes → SameBut address (length parts) (contents_of kept) mid → SameBut address (length (front ++ rest)) (contents_of bytes) now
+  changed bytes kept same but =
+      changed_more address front rest (contents_of bytes) mid now after
+      (subst (λ (l : List ℕ). SameBut address (length front) (contents_of l) mid) same
+      (subst (λ (l : List ℕ). SameBut address (length l) (contents_of kept) mid) list but))
+
+pub returns-clause-written : goal.returns-clause-written
+returns-clause-written g c =
+    let mid : Image = contents_of c.overwrite_parts.new.file.items in
+    let now : Image = contents_of c.overwrite_blocks.new.file.items in
+    written (4096 * c.args.first) c.len-2.result _ c.args.front.now (g.S.Blocks.bytes c.args.rest.now) mid now c.as_slices.ensures c.len-2.ensures c.overwrite_blocks.ensures.elsewhere
+    c.overwrite_parts.ensures.written c.overwrite_blocks.ensures.written
 
 pub returns-clause-images : goal.returns-clause-images
-returns-clause-images c =
-    let was : Image = contents_of c.args.self.now.bytes.items in
-    let now : Image = contents_of c.overwrite_parts.new.file.items in
-    let recorded = subst (λ (x : ℕ). RecordsWrite (4096 * c.args.first) x c.args.self.now c.begin_write.new.self) c.len.ensures c.in_ok-begin_write.ensures.recorded in
-    let but = elsewhere (4096 * c.args.first) c.args.self.now.bytes.items c.begin_write.new.self.bytes.items _ c.args.bytes.now now c.begin_write.ensures.bytes c.as_slices.ensures c.overwrite_parts.ensures.elsewhere in
-    write_images (4096 * c.args.first) (length c.args.bytes.now) _ was now c.args.self.now.made c.begin_write.new.self.made recorded but c.args.self.now.are_bytes
+returns-clause-images g c =
+    let front = c.args.front.now in
+    let rest = g.S.Blocks.bytes c.args.rest.now in
+    let bytes = c.args.self.now.bytes.items in
+    let a = 4096 * c.args.first in
+    let mid : Image = contents_of c.overwrite_parts.new.file.items in
+    let now : Image = contents_of c.overwrite_blocks.new.file.items in
+    let count : c.len.result + 4096 * c.blocks-2.result ≡ length (front ++ rest) = omega (arith, c.len.ensures, c.blocks-2.ensures.whole, length-append front rest) in
+    let recorded = subst (λ (x : ℕ). RecordsWrite a x c.args.self.now c.begin_write.new.self) count c.in_ok-begin_write.ensures.recorded in
+    let but = changed a c.len-2.result _ front rest mid now c.as_slices.ensures c.len-2.ensures c.overwrite_blocks.ensures.elsewhere
+    bytes c.begin_write.new.self.bytes.items c.begin_write.ensures.bytes c.overwrite_parts.ensures.elsewhere in
+    write_images a (length (front ++ rest)) _ (contents_of bytes) now c.args.self.now.made c.begin_write.new.self.made recorded but c.args.self.now.are_bytes
 
 pub returns-clause-time : goal.returns-clause-time
-returns-clause-time c =
+returns-clause-time g c =
+    let front = c.args.front.now in
+    let rest = g.S.Blocks.bytes c.args.rest.now in
     let bytes = c.args.self.now.bytes.items in
-    let now : Image = contents_of c.overwrite_parts.new.file.items in
     let a = 4096 * c.args.first in
-    let n = length c.args.bytes.now in
-    let fits : a + n ≤ length bytes = omega (arith, c.requires.inside) in
-    let recorded = subst (λ (x : ℕ). RecordsWrite a x c.args.self.now c.begin_write.new.self) c.len.ensures c.in_ok-begin_write.ensures.recorded in
-    let but = elsewhere a bytes c.begin_write.new.self.bytes.items _ c.args.bytes.now now c.begin_write.ensures.bytes c.as_slices.ensures c.overwrite_parts.ensures.elsewhere in
+    let n = length (front ++ rest) in
+    let mid : Image = contents_of c.overwrite_parts.new.file.items in
+    let now : Image = contents_of c.overwrite_blocks.new.file.items in
+    let fits : a + n ≤ length bytes = omega (arith, c.requires.range.inside) in
+    let count : c.len.result + 4096 * c.blocks-2.result ≡ n = omega (arith, c.len.ensures, c.blocks-2.ensures.whole, length-append front rest) in
+    let recorded = subst (λ (x : ℕ). RecordsWrite a x c.args.self.now c.begin_write.new.self) count c.in_ok-begin_write.ensures.recorded in
+    let but = changed a c.len-2.result _ front rest mid now c.as_slices.ensures c.len-2.ensures c.overwrite_blocks.ensures.elsewhere
+    bytes c.begin_write.new.self.bytes.items c.begin_write.ensures.bytes c.overwrite_parts.ensures.elsewhere in
     write_recorded a n _ (contents_of bytes) now c.args.self.now.made c.begin_write.new.self.made (omega (arith, fits, length-take n (drop a bytes), length-drop a bytes)) recorded
     (Has-part bytes a n fits) but

@@ -1,10 +1,10 @@
 use Rattle.std.specs.Prelude.{◌≡◌, ◌+◌, ◌≤◌, List, [], ◌∷◌, ◌++◌, Ok, true, false, is_err}
-use Rattle.std.proofs.Common.{refl, sym, ◌∙◌, ap, subst, arith}
+use Rattle.std.proofs.Common.{ℕ, refl, sym, ◌∙◌, ap, subst, arith, append-nil}
 use Rattle.btr_disk.specs.Bytes.{Image}
 use Rattle.btr_disk.specs.Causes.{KeepsCounts}
 use Rattle.btr_disk.specs.Moments.{Leaves}
 use Rattle.btr_disk.proofs.MomentLemmas.{composes}
-use Rattle.btr_log.specs.Append.{body_in_run, AppendCause}
+use Rattle.btr_log.specs.Append.{body_in_run, AppendCause, IsAppendRun}
 use Rattle.btr_log.specs.Log as log
 use Rattle.btr_super.specs.declared.superblock.Super.{Super}
 use Rattle.btr_super.specs.Replace.{IsFollowed, HasOnePrefix}
@@ -25,14 +25,21 @@ use Rattle.btr_engine.proofs.engine.Engine.mark.Goals as goal
 
 -- ---- what several goals share
 
+-- the run is the extent alone
+whole : {extent run : List ℕ} → extent ≡ run → extent ++ [] ≡ run
+whole is = append-nil _ ∙ is
+
+pub append-requires-clause-run : goal.append-requires-clause-run
+append-requires-clause-run g c = subst IsAppendRun (sym (append-nil c.args.extent.now)) c.requires.run
+
 -- the log is that of the engine
 its_log : (g : Over) (c : After-append g) → c.in-Some.log ≡ log_of c.args.self.now
 its_log g c = taken_is c.args.self.now.place c.in-Some.log c.in-Some.ensures.is
 
 -- the append took the run
-takes : (g : Over) (c : In_default-append g) → TakesAppend (log_of c.args.self.now) c.append.new.self c.args.extent.now
+takes : (g : Over) (c : In_default-append g) → TakesAppend (log_of c.args.self.now) c.append.new.self (c.args.extent.now ++ [])
 takes g c =
-    subst (λ l. TakesAppend l c.append.new.self c.args.extent.now) (its_log g (goal.at.In_default-append g c).After-append) (record {
+    subst (λ l. TakesAppend l c.append.new.self (c.args.extent.now ++ [])) (its_log g (goal.at.In_default-append g c).After-append) (record {
       appends = record { full = c.in_default-append.ensures.full; kept = c.append.ensures.kept; moments = c.in_default-append.ensures.moments };
       appended = c.in_default-append.ensures.appended;
       written = c.in_default-append.ensures.written;
@@ -40,9 +47,9 @@ takes g c =
     })
 
 -- the append failed
-fails : (g : Over) (c : In-Err g) → FailsAppend (log_of c.args.self.now) c.append.new.self c.args.extent.now c.in-Err.fault
+fails : (g : Over) (c : In-Err g) → FailsAppend (log_of c.args.self.now) c.append.new.self (c.args.extent.now ++ []) c.in-Err.fault
 fails g c =
-    subst (λ l. FailsAppend l c.append.new.self c.args.extent.now c.in-Err.fault) (its_log g (goal.at.In-Err g c).After-append) (record {
+    subst (λ l. FailsAppend l c.append.new.self (c.args.extent.now ++ []) c.in-Err.fault) (its_log g (goal.at.In-Err g c).After-append) (record {
       appends = record { full = c.in-Err.ensures.full; kept = c.append.ensures.kept; moments = c.in-Err.ensures.moments };
       cause = c.in-Err.ensures.cause;
     })
@@ -50,13 +57,13 @@ fails g c =
 -- there was room
 fits : (g : Over) (c : In_default-append g) → need_of_board (board_of c.args.self.now) ≤ room_of c.args.self.now
 fits g c =
-    fits_unless_full c.args.self.now c.args.extent.now c.requires.bytes (Ok tt) c.requires.runs (takes g c).appends.full (λ no. absurd (cc))
+    fits_unless_full c.args.self.now (c.args.extent.now ++ []) (whole c.requires.bytes) (Ok tt) c.requires.runs (takes g c).appends.full (λ no. absurd (cc))
 
 -- the append failed, and left the history at each moment
 left_by_fault : (g : Over) (c : In-Err g) → g.D.Disk.is_observable → (h : List Entry) → IsAtRest h c.args.self.now → log.LogLeaves (log_of c.args.self.now) c.append.new.self (λ x. HoldsHistory (g.D.Disk.size (device c.args.self.now)) x h)
 left_by_fault g c is_observable h rest =
     let f = fails g c in
-    fault_leaves h c.args.self.now c.args.extent.now c.requires.bytes c.append.new.self c.in-Err.fault c.requires.runs f.appends.full f.cause (g.met.D.Disk.only_now is_observable (device c.args.self.now)) rest (f.appends.moments is_observable _ (log_at_rest h c.args.self.now rest))
+    fault_leaves h c.args.self.now (c.args.extent.now ++ []) (whole c.requires.bytes) c.append.new.self c.in-Err.fault c.requires.runs f.appends.full f.cause (g.met.D.Disk.only_now is_observable (device c.args.self.now)) rest (f.appends.moments is_observable _ (log_at_rest h c.args.self.now rest))
 
 -- the superblock that was written
 is_next : (g : Over) (c : After-replace g) → c.next_super-next.result ≡ next_super (super_of c.args.self.now) (tail_of c.args.self.now) (log.log_tail c.append.new.self)
@@ -70,31 +77,31 @@ counts g c =
     record { same_size = c.replace.ensures.size; more_calls = c.replace.ensures.calls.later; more_faults = c.replace.ensures.cause.later }
 
 module _ (g : Over) (c : After-replace g) where
-  its_takes : TakesAppend (log_of c.args.self.now) c.append.new.self c.args.extent.now
+  its_takes : TakesAppend (log_of c.args.self.now) c.append.new.self (c.args.extent.now ++ [])
   its_takes = takes g (goal.at.After-replace g c).In_default-append
 
   module _ (is_observable : g.D.Disk.is_observable) (h : List Entry) (rest : IsAtRest h c.args.self.now) where
     room : need_of_board (board_of c.args.self.now) ≤ room_of c.args.self.now
     room = fits g (goal.at.After-replace g c).In_default-append
 
-    rests : log.IsLogAtRest c.append.new.self (rest.holds.bodies ++ body_in_run c.args.extent.now ∷ [])
+    rests : log.IsLogAtRest c.append.new.self (rest.holds.bodies ++ body_in_run (c.args.extent.now ++ []) ∷ [])
     rests = its_takes.at_rest is_observable rest.holds.bodies (log_at_rest h c.args.self.now rest)
 
     -- what stands before the replacement
     its_super : IsFollowed (g.D.Disk.size (log.log_device c.append.new.self)) (g.D.Disk.contents (log.log_device c.append.new.self)) (super_of c.args.self.now) c.next_super-next.result
     its_super =
-        followed c.args.self.now c.args.extent.now c.requires.bytes room h rest c.append.new.self its_takes.appends.kept its_takes.appended.tail (its_takes.written is_observable) rests c.next_super-next.result (is_next g c)
+        followed c.args.self.now (c.args.extent.now ++ []) (whole c.requires.bytes) room h rest c.append.new.self its_takes.appends.kept its_takes.appended.tail (its_takes.written is_observable) rests c.next_super-next.result (is_next g c)
 
     its_prefix : HasOnePrefix (g.D.Disk.contents (log.log_device c.append.new.self)) (g.D.Disk.images_now (log.log_device c.append.new.self))
     its_prefix =
-        one_prefix c.args.self.now c.args.extent.now c.requires.bytes room h rest c.append.new.self its_takes.appends.kept its_takes.appended.tail (its_takes.written is_observable) rests c.next_super-next.result (is_next g c)
+        one_prefix c.args.self.now (c.args.extent.now ++ []) (whole c.requires.bytes) room h rest c.append.new.self its_takes.appends.kept its_takes.appended.tail (its_takes.written is_observable) rests c.next_super-next.result (is_next g c)
 
     -- each moment of both leaves the history
     left_by_both : Leaves g.D.Disk.calls g.D.Disk.images_since (device c.args.self.now) c.replace.new.device (λ x. HoldsHistory (g.D.Disk.size (device c.args.self.now)) x h)
     left_by_both =
         composes g.D.Disk.calls g.D.Disk.images_since (device c.args.self.now) (log.log_device c.append.new.self) c.replace.new.device (λ x. HoldsHistory (g.D.Disk.size (device c.args.self.now)) x h)
-        (appending c.args.self.now c.args.extent.now c.requires.bytes room h rest c.append.new.self (its_takes.appends.moments is_observable rest.holds.bodies (log_at_rest h c.args.self.now rest)))
-        (replacing c.args.self.now c.args.extent.now c.requires.bytes room h rest c.append.new.self its_takes.appends.kept its_takes.appended.tail (its_takes.written is_observable) rests c.next_super-next.result (is_next g c) c.replace.new.device
+        (appending c.args.self.now (c.args.extent.now ++ []) (whole c.requires.bytes) room h rest c.append.new.self (its_takes.appends.moments is_observable rest.holds.bodies (log_at_rest h c.args.self.now rest)))
+        (replacing c.args.self.now (c.args.extent.now ++ []) (whole c.requires.bytes) room h rest c.append.new.self its_takes.appends.kept its_takes.appended.tail (its_takes.written is_observable) rests c.next_super-next.result (is_next g c) c.replace.new.device
         (c.replace.ensures.moments is_observable (super_of c.args.self.now) its_super its_prefix))
 
     -- so it is up to an engine with this device
@@ -112,7 +119,7 @@ pub invariant_of-self : goal.invariant_of-self
 invariant_of-self g c =
     let old = c.args.self.now in
     let f = fails g (goal.at.invariant_of-self g c).In-Err in
-    let go = subst (λ l. Goes old (super_of old) l c.stopped-self.result (board_of old).entries) (sym (ap log_in c.put_back.ensures)) (goes_fault old c.append.new.self c.args.extent.now c.in-Err.fault c.stopped-self.result c.stopped-self.ensures.stopped f.cause f.appends.kept) in
+    let go = subst (λ l. Goes old (super_of old) l c.stopped-self.result (board_of old).entries) (sym (ap log_in c.put_back.ensures)) (goes_fault old c.append.new.self (c.args.extent.now ++ []) c.in-Err.fault c.stopped-self.result c.stopped-self.ensures.stopped f.cause f.appends.kept) in
     record {
       marked = go.marked;
       counted = go.counted;
@@ -130,8 +137,8 @@ pub returns-in-Err-clause-cause : goal.returns-in-Err-clause-cause
 returns-in-Err-clause-cause g c =
     let old = c.args.self.now in
     let f = fails g (goal.at.returns-in-Err-clause-cause g c).In-Err in
-    let cause = subst (λ l. AppendCause (log_of old) l c.args.extent.now c.in-Err.fault) (sym (ap log_in c.put_back.ensures)) f.cause in
-    refused old c.args.extent.now c.requires.bytes _ c.in-Err.fault c.step_fault.result c.requires.home (ap has_log c.put_back.ensures) c.requires.runs f.appends.full cause refl refl refl refl c.step_fault.ensures.full c.step_fault.ensures.failed
+    let cause = subst (λ l. AppendCause (log_of old) l (c.args.extent.now ++ []) c.in-Err.fault) (sym (ap log_in c.put_back.ensures)) f.cause in
+    refused old (c.args.extent.now ++ []) (whole c.requires.bytes) _ c.in-Err.fault c.step_fault.result c.requires.home (ap has_log c.put_back.ensures) c.requires.runs f.appends.full cause refl refl refl refl c.step_fault.ensures.full c.step_fault.ensures.failed
 
 pub returns-in-Err-clause-moments : goal.returns-in-Err-clause-moments
 returns-in-Err-clause-moments g c is_observable h rest =
@@ -183,7 +190,7 @@ invariant_of-self-2 g c =
     let go = subst (λ l. Goes old c.next_super-next.result l old.stopped (board_of old).entries) (sym (ap log_in c.put_back-2.ensures)) (record {
       marked = old.marked ∙ c.requires.runs ∙ sym w.appended.runs;
       counted = omega (arith, old.counted, w.appended.extents);
-      ends = omega (arith, old.ends, w.appended.extents, w.appended.tail, two_blocks old c.args.extent.now c.requires.bytes);
+      ends = omega (arith, old.ends, w.appended.extents, w.appended.tail, two_blocks old (c.args.extent.now ++ []) (whole c.requires.bytes));
       began = old.began;
       called = omega (arith, old.called, w.appends.kept.device_kept.more_calls, c.replace.ensures.calls.later);
       failed = omega (arith, old.failed, w.appends.kept.faults);
@@ -219,7 +226,7 @@ returns-clause-marked g c =
       runs = ap (λ p. log.is_log_stopped (log_in p)) back ∙ w.appended.runs;
       board = refl;
       fits = fits g (goal.at.returns-clause-marked g c).In_default-append;
-      tail = tail_is ∙ w.appended.tail ∙ ap (λ n. tail_of old + n) (needed old c.args.extent.now c.requires.bytes);
+      tail = tail_is ∙ w.appended.tail ∙ ap (λ n. tail_of old + n) (needed old (c.args.extent.now ++ []) (whole c.requires.bytes));
       chosen = is_next g a ∙ ap (next_super (super_of old) (tail_of old)) (sym tail_is);
       called = subst (CountsMark (g.D.Disk.calls (device old))) (sym (ap (λ p. g.D.Disk.calls (log.log_device (log_in p))) back))
           (counted-both (g.D.Disk.calls (device old)) (g.D.Disk.calls (log.log_device c.append.new.self)) (g.D.Disk.calls c.replace.new.device) w.appended.calls (on_ok c.replace.result done c.replace.ensures.calls.all));
@@ -232,7 +239,7 @@ returns-clause-at_rest g c is_observable h rest =
     let w = its_takes g a in
     let back = c.put_back-2.ensures in
     let done : is_err c.replace.result ≡ false = sym c.is_err.ensures.value ∙ c.if-is_err.false in
-    at_rest old c.args.extent.now c.requires.bytes (room g a is_observable h rest) h rest c.append.new.self w.appends.kept w.appended.tail (w.written is_observable) (rests g a is_observable h rest) c.next_super-next.result (is_next g a)
+    at_rest old (c.args.extent.now ++ []) (whole c.requires.bytes) (room g a is_observable h rest) h rest c.append.new.self w.appends.kept w.appended.tail (w.written is_observable) (rests g a is_observable h rest) c.next_super-next.result (is_next g a)
     c.replace.new.device c.replace.ensures.size (c.replace.ensures.elsewhere is_observable)
     (on_ok c.replace.result done (c.replace.ensures.replaced is_observable (super_of old) (its_super g a is_observable h rest) (its_prefix g a is_observable h rest)))
     _ (ap (λ p. log.log_device (log_in p)) back) (ap (λ p. log.log_blocks (log_in p)) back ∙ w.appends.kept.blocks) (ap (λ p. log.log_tail (log_in p)) back) refl refl (on_ok c.replace.result done (c.replace.ensures.synced is_observable))
@@ -246,7 +253,7 @@ returns-clause-named g c is_observable h rest =
     let back = c.put_back-2.ensures in
     let done : is_err c.replace.result ≡ false = sym c.is_err.ensures.value ∙ c.if-is_err.false in
     subst (λ d. (x : Image) → g.D.Disk.images_now d x → IsNamed (g.D.Disk.size d) x (log.log_blocks (log_in p)) (log.log_tail (log_in p)) h) (sym (ap (λ q. log.log_device (log_in q)) back))
-    (named_in old c.args.extent.now c.requires.bytes (room g a is_observable h rest) h rest c.append.new.self w.appends.kept w.appended.tail (w.written is_observable) (rests g a is_observable h rest) c.next_super-next.result (is_next g a)
+    (named_in old (c.args.extent.now ++ []) (whole c.requires.bytes) (room g a is_observable h rest) h rest c.append.new.self w.appends.kept w.appended.tail (w.written is_observable) (rests g a is_observable h rest) c.next_super-next.result (is_next g a)
     c.replace.new.device c.replace.ensures.size (c.replace.ensures.elsewhere is_observable)
     (on_ok c.replace.result done (c.replace.ensures.replaced is_observable (super_of old) (its_super g a is_observable h rest) (its_prefix g a is_observable h rest)))
     (log.log_blocks (log_in p)) (log.log_tail (log_in p)) (ap (λ q. log.log_blocks (log_in q)) back ∙ w.appends.kept.blocks) (ap (λ q. log.log_tail (log_in q)) back) (on_ok c.replace.result done (c.replace.ensures.synced is_observable)))

@@ -4,6 +4,7 @@ use Rattle.btr_log.specs.Extents.{need}
 use Rattle.btr_log.specs.Append.{body_in_run}
 use Rattle.btr_log.specs.Log.{log_room}
 use Rattle.btr_engine.specs.Engine.{log_of, board_of, tail_of, room_of, is_stopped}
+use Rattle.btr_engine.specs.Travel.{run_of}
 use Rattle.btr_engine.proofs.Appending.{needed}
 use Rattle.btr_engine.proofs.PendingLemmas.{need_of_ready, extent_of_ready}
 use Rattle.btr_engine.proofs.engine.Engine.stage.Given.{Over}
@@ -15,12 +16,12 @@ runs : (g : Over) (c : After-room-left g) → is_stopped c.args.self.now ≡ fal
 runs g c = sym c.args.self.now.marked ∙ c.if-self.false
 
 -- the blocks of the extent are those that it needs
-blocks : (g : Over) (c : After-room-left g) → need (body_in_run c.in_ok-ready.ready.extent) ≡ c.len.result / 4096
+blocks : (g : Over) (c : After-room-left g) → need (body_in_run (run_of c.in_ok-ready.ready)) ≡ c.blocks-need.result
 blocks g c =
     let old = c.args.self.now in
     let next = c.in_ok-ready.ensures.next in
     let size = need_of_ready c.args.entry.now c.in_ok-ready.ready (omega (arith, next)) (omega (arith, next, old.counted, old.ends, (log_of old).tail_inside, (log_of old).addressable)) c.in_ok-ready.ensures.made in
-    omega (arith, size.0, c.len.ensures)
+    size.0 ∙ sym c.blocks-need.ensures
 
 -- the room is that of the engine
 room : (g : Over) (c : After-room-left g) → c.room-left.result ≡ room_of c.args.self.now
@@ -32,7 +33,7 @@ returns-then-need-left-clause-cause g c h of =
     let a = (goal.at.returns-then-need-left-clause-cause g c).After-room-left in
     let staged = c.in_ok-ready.ensures.staged h of in
     let ready = c.in_ok-ready.ready in
-    let size = needed h (log_of old) c.args.entry.now _ _ ready.extent (extent_of_ready h (board_of old) of (tail_of old) c.args.entry.now ready ready.extent c.in_ok-ready.ensures.made staged refl) in
+    let size = needed h (log_of old) c.args.entry.now _ _ (run_of ready) (extent_of_ready h (board_of old) of (tail_of old) c.args.entry.now ready (run_of ready) c.in_ok-ready.ensures.made staged refl) in
     (runs g a, staged.allowed, sym (blocks g a) ∙ size, room g a, omega arith, refl)
 
 pub returns-clause-ready : goal.returns-clause-ready

@@ -1,5 +1,5 @@
-use Rattle.std.specs.Prelude.{◌≡◌, ◌+◌, ◌*◌, false, is_err}
-use Rattle.std.proofs.Common.{sym, ◌∙◌}
+use Rattle.std.specs.Prelude.{◌≡◌, ◌+◌, ◌*◌, ◌/◌, ◌++◌, false, length, is_err}
+use Rattle.std.proofs.Common.{arith, sym, ◌∙◌, length-append}
 use Rattle.btr_disk.proofs.MomentLemmas.{weakens}
 use Rattle.btr_disk.specs.Publish.{IsBeforeOrHasBody}
 use Rattle.btr_log.specs.Append.{body_in_run, IsMoment}
@@ -11,9 +11,9 @@ returns-then-is_err-clause-moments g c is_observable bodies rest =
     let disk = g.D.Disk in
     let log = c.args.self.now in
     let old = disk.contents log.disk in
-    let run = c.args.run.now in
+    let run = c.args.front.now ++ g.S.Blocks.bytes c.args.rest.now in
     weakens disk.calls disk.images_since log.disk c.publish-written.new.device (IsBeforeOrHasBody old (4096 * (log.tail + 1)) run (4096 * log.tail)) (IsMoment old log.tail bodies (body_in_run run))
-    (at_a_moment old log.tail bodies run c.requires rest.extents rest.closed)
+    (at_a_moment old log.tail bodies run c.requires.run rest.extents rest.closed)
     (c.publish-written.ensures.moments is_observable rest.only)
 
 pub returns-clause-moments : goal.returns-clause-moments
@@ -21,19 +21,23 @@ returns-clause-moments g c is_observable bodies rest =
     let disk = g.D.Disk in
     let log = c.args.self.now in
     let old = disk.contents log.disk in
-    let run = c.args.run.now in
+    let run = c.args.front.now ++ g.S.Blocks.bytes c.args.rest.now in
     weakens disk.calls disk.images_since log.disk c.publish-written.new.device (IsBeforeOrHasBody old (4096 * (log.tail + 1)) run (4096 * log.tail)) (IsMoment old log.tail bodies (body_in_run run))
-    (at_a_moment old log.tail bodies run c.requires rest.extents rest.closed)
+    (at_a_moment old log.tail bodies run c.requires.run rest.extents rest.closed)
     (c.publish-written.ensures.moments is_observable rest.only)
 
 pub returns-clause-at_rest : goal.returns-clause-at_rest
 returns-clause-at_rest g c is_observable bodies rest =
     let disk = g.D.Disk in
     let log = c.args.self.now in
+    let front = c.args.front.now in
+    let blocks = g.S.Blocks.bytes c.args.rest.now in
     let new = c.publish-written.new.device in
     let ran : is_err c.publish-written.result ≡ false = sym c.is_err.ensures.value ∙ c.if-is_err.false in
+    let needed : length front / 4096 + c.blocks-2.result ≡ length (front ++ blocks) / 4096 = omega (arith, c.blocks-2.ensures.whole, length-append front blocks) in
     rw c.len.ensures
-    (at_the_end (disk.contents log.disk) log.tail bodies c.args.run.now c.requires rest.extents (disk.contents new) (disk.images_now new)
+    (rw needed
+    (at_the_end (disk.contents log.disk) log.tail bodies (front ++ blocks) c.requires.run rest.extents (disk.contents new) (disk.images_now new)
     c.open_gate.result c.open_gate.ensures
     (from_ok c.publish-written.result _ ran (c.publish-written.ensures.published is_observable))
-    (from_ok c.publish-written.result _ ran (c.publish-written.ensures.synced is_observable)))
+    (from_ok c.publish-written.result _ ran (c.publish-written.ensures.synced is_observable))))

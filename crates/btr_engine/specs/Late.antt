@@ -1,0 +1,13 @@
+-- The blocks of an extent that are made while they are written.
+use Rattle.std.specs.Prelude.{ℕ, Bool, true, false, List, [], ◌++◌}
+use Rattle.std.specs.List.{flat_map}
+use Rattle.btr_disk.specs.Gate.{zeros}
+use Rattle.btr_tree.specs.NewNodes.{NewNodeValue}
+use Rattle.btr_node.specs.Page.{page_bytes}
+use Rattle.btr_pages.specs.Pages.{pages_of}
+
+-- The bytes of blocks that are made late: the pages of these nodes of a stream, and one block of zeros. There are none if they were made
+-- before.
+abbrev pub late_bytes : Bool → ℕ → List NewNodeValue → List ℕ
+late_bytes false stream nodes = []
+late_bytes true stream nodes = flat_map page_bytes (pages_of stream nodes) ++ zeros 4096
