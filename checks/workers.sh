@@ -103,15 +103,20 @@ if ! [ -r "/proc/$$/stat" ]; then
     exit 0
 fi
 
-# The greatest number of threads that was seen of `distil` on a copy of a store: STORE WORKERS.
+# The greatest number of threads that was seen of `distil` on a copy of a store: STORE WORKERS. A thread that is ending does not count: who
+# waited for it has gone on, and may start another one, before the system takes it off its list. It has the flag 4.
 threads() {
-    local running words most=0
+    local running stat words now most=0
     cp "$1" device
     "$program" device distil --workers "$2" </dev/null >out 2>err &
     running=$!
     while kill -0 "$running" 2>/dev/null; do
-        { read -r -a words; } 2>/dev/null <"/proc/$running/stat" || break
-        [ "${words[19]:-0}" -le "$most" ] || most=${words[19]}
+        now=0
+        for stat in "/proc/$running/task/"*/stat; do
+            { read -r -a words; } 2>/dev/null <"$stat" || continue
+            [ $((${words[8]:-4} & 4)) != 0 ] || now=$((now + 1))
+        done
+        [ "$now" -le "$most" ] || most=$now
     done 2>/dev/null
     wait "$running" || most="status $?"
     echo "$most"

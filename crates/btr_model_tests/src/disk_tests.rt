@@ -80,7 +80,7 @@ fn parts_are_written_one_after_the_other(rt: HostRuntime) -> Result<(), Fail> {
 }
 
 /// Blocks of which the byte at address k is k / 16 % 251: no two blocks of the first fifteen are alike.
-fn counted(alloc: Global, blocks: usize) -> Result<Vec<u8>, AllocError>
+pub(crate) fn counted(alloc: Global, blocks: usize) -> Result<Vec<u8>, AllocError>
     requires { blocks < 1000 }
     ensures { IfOk result (λ bytes. length bytes.items ≡ 4096 * blocks) }
 {

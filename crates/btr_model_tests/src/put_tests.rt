@@ -2,6 +2,7 @@
 ghost use Rattle.std.specs.Prelude.{◌≡◌, ◌*◌, ◌<◌, length, IfOk, vec_len};
 ghost use Rattle.std.specs.Thread.{IsSync};
 
+use crate::disk_tests::counted;
 use btr_disk::{BLOCK, Blocks, HeldBlocks, Outlet, Supply, write_by_threads};
 use std::alloc::{AllocError, Global};
 use std::marker::Sync;
@@ -100,18 +101,6 @@ fn is_raised(count: &AtomicU32) -> bool {
         yield_now();
     }
     false
-}
-
-/// Blocks of which the byte at address k is k / 16 % 251.
-fn counted(alloc: Global, blocks: usize) -> Result<Vec<u8>, AllocError>
-    requires { blocks < 1000 }
-    ensures { IfOk result (λ bytes. vec_len bytes ≡ 4096 * blocks) }
-{
-    let mut bytes = vec![in alloc; 0; BLOCK * blocks]?;
-    for k in 0..bytes.len() {
-        bytes[k] = (k / 16 % 251) as u8;
-    }
-    Ok(bytes)
 }
 
 /// As many counts of nothing.
