@@ -22,8 +22,11 @@ use btr_roll::{Roll, encode_roll};
 use btr_tree::NewNode;
 use std::alloc::{AllocError, Global};
 
-/// The least number of nodes whose pages are made late.
+/// The least number of nodes whose pages several threads make late.
 const LEAST_NODES: usize = 512;
+
+/// The least number of nodes whose pages one thread makes late. The memory for fewer is often at hand, left from an extent before.
+const LEAST_NODES_ALONE: usize = 4096;
 
 /// The most nodes whose pages are made late: more than a device has blocks.
 const MOST_NODES: usize = 1 << 40;
@@ -61,7 +64,7 @@ pub(crate) fn encode_extent<M: Maker>(
     ensures room { OnOk result (content_blocks (length (spelling entry.now)) + length nodes.now < 2 ^ 64) }
 {
     let head = Head::for_entry(number, spelling_length(entry), nodes.len() as u64, root);
-    if nodes.len() < LEAST_NODES || nodes.len() > MOST_NODES {
+    if nodes.len() < least_nodes(maker) || nodes.len() > MOST_NODES {
         let front = in_one_part(alloc, &head, entry, stream, nodes)?;
         return Ok(Extent {
             front,
@@ -73,6 +76,15 @@ pub(crate) fn encode_extent<M: Maker>(
         front,
         is_late: true,
     })
+}
+
+/// The least number of nodes whose pages are made late.
+fn least_nodes<M: Maker>(maker: &M) -> usize {
+    if maker.threads() < 2 {
+        LEAST_NODES_ALONE
+    } else {
+        LEAST_NODES
+    }
 }
 
 /// Returns a head, the spelling of an entry, zeros up to the end of its last block, the pages of nodes, and one block of zeros, in one

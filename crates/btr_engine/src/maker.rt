@@ -23,6 +23,9 @@ pub trait Maker {
     /// What its threads need: that they can share what starts them.
     ghost can_make: { Type 0 };
 
+    /// The greatest number of threads that work at once, the calling one among them.
+    fn threads(&self) -> usize;
+
     /// Returns what [`Tree::apply`] returns.
     fn apply<L>(
         &self,
@@ -64,6 +67,10 @@ impl Maker for Alone {
 
     ghost can_make = { ⊤ };
 
+    fn threads(&self) -> usize {
+        1
+    }
+
     fn apply<L>(
         &self,
         alloc: Global,
@@ -97,6 +104,10 @@ impl<R: Threads + Sync> Maker for Crew<'_, R> {
     ghost use Rattle.std.specs.Thread.{IsSync};
 
     ghost can_make = { IsSync R.row };
+
+    fn threads(&self) -> usize {
+        self.threads
+    }
 
     fn apply<L>(
         &self,

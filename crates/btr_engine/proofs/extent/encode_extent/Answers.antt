@@ -4,8 +4,8 @@ use Rattle.btr_engine.specs.Late.{late_bytes}
 use Rattle.btr_engine.proofs.ExtentBytes.{extent_is, late_is}
 use Rattle.btr_engine.proofs.extent.encode_extent.Goals as goal
 
-pub returns-then-nodes-lt-LEAST_NODES-clause-bytes : goal.returns-then-nodes-lt-LEAST_NODES-clause-bytes
-returns-then-nodes-lt-LEAST_NODES-clause-bytes g c =
+pub returns-then-nodes-least_nodes-clause-bytes : goal.returns-then-nodes-least_nodes-clause-bytes
+returns-then-nodes-least_nodes-clause-bytes g c =
     append-nil _
     ∙ c.in_ok-front.ensures.bytes
     ∙ extent_is c.args.number c.args.entry.now c.args.stream c.args.root c.spelling_length.result c.args.nodes.now c.for_entry-head.result c.spelling_length.ensures c.for_entry-head.ensures
