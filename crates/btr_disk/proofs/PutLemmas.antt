@@ -1,5 +1,5 @@
 -- Blocks that are put in pieces: a piece has the blocks of its supply, and the pieces so far have all of them.
-use Rattle.std.specs.Prelude.{◌≡◌, ℕ, ◌+◌, ◌-◌, ◌*◌, ◌/◌, ◌%◌, ◌<◌, ◌≤◌, List, Bool, true, false, not, length, take, drop}
+use Rattle.std.specs.Prelude.{◌≡◌, ℕ, ◌+◌, ◌-◌, ◌*◌, ◌/◌, ◌%◌, ◌<◌, ◌≤◌, List, [], ◌∷◌, Bool, true, false, not, ◌||◌, length, take, drop}
 use Rattle.std.proofs.Common.{get_or, refl, zero, suc, sym, ◌∙◌, ap, subst, arith, ⊎_elim, length-take, length-drop, get_or-take, get_or-drop}
 use Rattle.std.proofs.lemmas.Bool.{cases_lt}
 use Rattle.std.specs.List.{list_any}
@@ -77,3 +77,16 @@ module _ (is_false : Bool → Bool) (knows : is_false false ≡ true) (marks : L
 
   pub all_marked : (mark : Bool) → mark ≡ get_or marks i false → mark ≡ true
   all_marked mark is = is ∙ marked_is (get_or marks i false) refl
+
+pub some_is : (is_any : Bool) → not is_any ≡ false → is_any ≡ true
+some_is true is_not = refl
+some_is false is_not = sym is_not
+
+-- where a mark is false, there is one of that kind
+pub unmarked_at : (is_false : Bool → Bool) → is_false true ≡ false → (marks : List Bool) → list_any is_false marks ≡ true → (i : ℕ) × (i < length marks) × (get_or marks i false ≡ false)
+unmarked_at is_false knows [] some = cc
+unmarked_at is_false knows (true ∷ marks) some =
+    let rest : list_any is_false marks ≡ true = sym (ap (λ (b : Bool). b || list_any is_false marks) knows) ∙ some in
+    let found = unmarked_at is_false knows marks rest in
+    (suc found.0, omega (arith, found.1), found.2)
+unmarked_at is_false knows (false ∷ marks) some = (0, omega arith, refl)

@@ -1,5 +1,5 @@
 //! How a supply has its blocks written: by the calling thread alone, or by several threads.
-ghost use Rattle.std.specs.Prelude.{◌≡◌, ◌*◌, ◌+◌, ◌/◌, ◌%◌, ◌^◌, ◌<◌, ◌≤◌, ℕ, length, IsTrue};
+ghost use Rattle.std.specs.Prelude.{◌≡◌, ◌*◌, ◌+◌, ◌/◌, ◌%◌, ◌^◌, ◌<◌, ◌≤◌, ℕ, length, IsTrue, IsFalse};
 ghost use Rattle.btr_disk.specs.Put.{HasBlocks, HasBlocksBetween, HasPortion};
 
 use crate::{BLOCK, Blocks, Outlet};
@@ -17,18 +17,19 @@ const BYTES_FOR_BLOCK: usize = 2 * BLOCK;
 const PORTIONS: usize = 64;
 
 /// Has the outlet write its front and each block of the supply, by the calling thread. It takes no memory, and 128 KiB of the stack.
-/// Returns whether all of it was written.
+/// Returns whether all of it was written, and false only if a call of the outlet returned false.
 pub fn write_alone<B: Blocks>(supply: &B, outlet: &(dyn Outlet + Sync)) -> bool
     requires room { length (B.bytes supply.now) ≤ 4096 * room outlet.now }
     ensures front { IsTrue result → has_front outlet.now }
     ensures blocks { IsTrue result → HasBlocks (has_block outlet.now) (B.bytes supply.now) }
+    ensures failed { IsFalse result → has_failed outlet.now }
 {
     outlet.put_front() && put_part(supply, 0, supply.blocks(), outlet)
 }
 
 /// Has the outlet write its front and each block of the supply, by at most `threads` threads at once, the calling one among them, or by the
 /// calling one alone if there is no block. It takes no memory but what starts the threads, and 128 KiB of the stack of each. Returns whether
-/// all of it was written.
+/// all of it was written, and false only if a call of the outlet returned false.
 pub fn write_by_threads<R: Threads + Sync, B: Blocks + Sync>(
     rt: &R,
     supply: &B,
@@ -38,6 +39,7 @@ pub fn write_by_threads<R: Threads + Sync, B: Blocks + Sync>(
     requires room { length (B.bytes supply.now) ≤ 4096 * room outlet.now }
     ensures front { IsTrue result → has_front outlet.now }
     ensures blocks { IsTrue result → HasBlocks (has_block outlet.now) (B.bytes supply.now) }
+    ensures failed { IsFalse result → has_failed outlet.now }
 {
     let blocks = supply.blocks();
     if blocks == 0 {
@@ -74,6 +76,7 @@ fn write_portions<R: Threads + Sync, B: Blocks + Sync>(
     ensures front { IsTrue result → has_front outlet.now }
     ensures portions { IsTrue result → (i : ℕ) → i < portions
         → HasPortion (has_block outlet.now) weight (each * i) (each * i + each) (B.bytes supply.now) }
+    ensures failed { IsFalse result → has_failed outlet.now }
 {
     mark_portions(rt, supply, weight, each, &mut marks[..portions], outlet)
 }
@@ -94,12 +97,14 @@ fn mark_portions<R: Threads + Sync, B: Blocks + Sync>(
     ensures front { IsTrue result → has_front outlet.now }
     ensures portions { IsTrue result → (i : ℕ) → i < length marks.old
         → HasPortion (has_block outlet.now) weight (each * i) (each * i + each) (B.bytes supply.now) }
+    ensures failed { IsFalse result → has_failed outlet.now }
 {
     let portion = move |i: usize, mark: &mut bool|
         requires { (weight < 2 ^ 63) × (length (B.bytes supply.now) ≤ 4096 * room outlet.now) }
         ensures front { IsTrue mark.exit.now → i ≡ 0 → has_front outlet.entry.now }
         ensures blocks { IsTrue mark.exit.now
             → HasPortion (has_block outlet.entry.now) weight (each * i) (each * i + each) (B.bytes supply.entry.now) }
+        ensures failed { IsFalse mark.exit.now → has_failed outlet.entry.now }
     { *mark = write_portion(supply, i, weight, each, outlet) };
     for_each_mut(rt, marks, marks.len(), &portion);
     !marks.contains(&false)
@@ -118,6 +123,7 @@ fn write_portion<B: Blocks>(
     requires room { length (B.bytes supply.now) ≤ 4096 * room outlet.now }
     ensures front { IsTrue result → i ≡ 0 → has_front outlet.now }
     ensures blocks { IsTrue result → HasPortion (has_block outlet.now) weight (each * i) (each * i + each) (B.bytes supply.now) }
+    ensures failed { IsFalse result → has_failed outlet.now }
 {
     if i == 0 && !outlet.put_front() {
         return false;
@@ -135,7 +141,8 @@ fn put_part<B: Blocks>(supply: &B, from: usize, to: usize, outlet: &(dyn Outlet 
     requires order { from ≤ to }
     requires inside { 4096 * to ≤ length (B.bytes supply.now) }
     requires room { length (B.bytes supply.now) ≤ 4096 * room outlet.now }
-    ensures { IsTrue result → HasBlocksBetween (has_block outlet.now) from to (B.bytes supply.now) }
+    ensures written { IsTrue result → HasBlocksBetween (has_block outlet.now) from to (B.bytes supply.now) }
+    ensures failed { IsFalse result → has_failed outlet.now }
 {
     if from == to {
         return true;
@@ -162,7 +169,8 @@ fn put_piece<B: Blocks>(
     requires whole { length piece.old % 4096 ≡ 0 }
     requires inside { 4096 * first + length piece.old ≤ length (B.bytes supply.now) }
     requires room { length (B.bytes supply.now) ≤ 4096 * room outlet.now }
-    ensures { IsTrue result → HasBlocksBetween (has_block outlet.now) first (first + length piece.old / 4096) (B.bytes supply.now) }
+    ensures written { IsTrue result → HasBlocksBetween (has_block outlet.now) first (first + length piece.old / 4096) (B.bytes supply.now) }
+    ensures failed { IsFalse result → has_failed outlet.now }
 {
     supply.fill(first, piece);
     outlet.put(first, piece)

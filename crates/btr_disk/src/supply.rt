@@ -1,5 +1,5 @@
 //! Blocks that are made when they are wanted, and where several threads may write them.
-ghost use Rattle.std.specs.Prelude.{◌≡◌, ◌*◌, ◌+◌, ◌%◌, ◌^◌, ◌<◌, ◌≤◌, ℕ, List, length, take, drop, IsTrue};
+ghost use Rattle.std.specs.Prelude.{◌≡◌, ◌*◌, ◌+◌, ◌%◌, ◌^◌, ◌<◌, ◌≤◌, ℕ, List, length, take, drop, IsTrue, IsFalse};
 ghost use Rattle.btr_disk.specs.Put.{HasBlocks, HasBlocksFrom};
 
 use std::marker::Sync;
@@ -18,19 +18,24 @@ pub trait Outlet {
     /// What has come about once the block of this number, of those after the front, is written with these bytes.
     ghost has_block: { Self → ℕ → List ℕ → Type 0 };
 
+    /// What has come about once a call of it has returned false.
+    ghost has_failed: { Self → Type 0 };
+
     /// The length of the front in bytes, in constant time. Threads that share the work go by it.
     fn front_len(&self) -> usize
         ensures { result ≡ front_size self.now };
 
     /// Writes the front, and returns whether it was written.
     fn put_front(&self) -> bool
-        ensures { IsTrue result → has_front self.now };
+        ensures written { IsTrue result → has_front self.now }
+        ensures failed { IsFalse result → has_failed self.now };
 
     /// Writes whole blocks, the first of which has the number `first`, and returns whether they were written. It takes no memory.
     fn put(&self, first: usize, blocks: &[u8]) -> bool
         requires whole { length blocks.now % 4096 ≡ 0 }
         requires room { 4096 * first + length blocks.now ≤ 4096 * room self.now }
-        ensures { IsTrue result → HasBlocksFrom (has_block self.now) first blocks.now };
+        ensures written { IsTrue result → HasBlocksFrom (has_block self.now) first blocks.now }
+        ensures failed { IsFalse result → has_failed self.now };
 }
 
 /// Whole blocks that are made when they are wanted.
@@ -55,12 +60,14 @@ pub trait Supply: Blocks {
     /// What its threads need.
     ghost can_work: { Type 0 };
 
-    /// Has the outlet write its front and each of the blocks, and returns whether all of it was written.
+    /// Has the outlet write its front and each of the blocks, and returns whether all of it was written. It returns false only if a call
+    /// of the outlet did.
     fn write_to(&self, outlet: &(dyn Outlet + Sync)) -> bool
         requires able { can_work }
         requires room { length (Self.bytes self.now) ≤ 4096 * room outlet.now }
         ensures front { IsTrue result → has_front outlet.now }
-        ensures blocks { IsTrue result → HasBlocks (has_block outlet.now) (Self.bytes self.now) };
+        ensures blocks { IsTrue result → HasBlocks (has_block outlet.now) (Self.bytes self.now) }
+        ensures failed { IsFalse result → has_failed outlet.now };
 }
 
 /// A supply of no blocks. The calling thread has the front written.
