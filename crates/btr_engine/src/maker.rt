@@ -1,5 +1,5 @@
 //! Who makes what a commit needs: the calling thread alone, or several threads.
-ghost use Rattle.std.specs.Prelude.{◌≡◌, ◌*◌, ◌≤◌, ◌^◌, length, IfOk, IfErr, IsTrue, OnOk};
+ghost use Rattle.std.specs.Prelude.{◌≡◌, ◌*◌, ◌≤◌, ◌^◌, length, IfOk, IfErr, IsTrue, IsFalse, OnOk};
 ghost use Rattle.std.specs.List.{flat_map};
 ghost use Rattle.btr_base.specs.Point.{AreInDomain};
 ghost use Rattle.btr_tree.specs.History.{bag, ◌▷◌};
@@ -43,13 +43,15 @@ pub trait Maker {
         ensures applied { IfOk result (IsCommitApplied tree.now version cut.now added.now first steps.old steps.new) }
         ensures fault { IfErr result (λ e. AfterCommit tree.now version cut.now added.now (λ h c. IsTreeFault (bag (c ▷ h)) e)) };
 
-    /// Has the outlet write its front and each of the blocks. Returns whether all of it was written.
+    /// Has the outlet write its front and each of the blocks. Returns whether all of it was written, and false only if a call of the outlet
+    /// returned false.
     fn write_late(&self, blocks: &LatePages<'_>, outlet: &(dyn Outlet + Sync)) -> bool
         requires able { can_make }
         requires room { length (late_bytes blocks.now.is_late blocks.now.stream blocks.now.nodes.now) ≤ 4096 * room outlet.now }
         ensures front { IsTrue result → has_front outlet.now }
         ensures blocks { IsTrue result
-            → HasBlocks (has_block outlet.now) (late_bytes blocks.now.is_late blocks.now.stream blocks.now.nodes.now) };
+            → HasBlocks (has_block outlet.now) (late_bytes blocks.now.is_late blocks.now.stream blocks.now.nodes.now) }
+        ensures failed { IsFalse result → has_failed outlet.now };
 
     /// Returns the bytes of points as an entry has them. An `Err` is out of memory.
     fn points(&self, alloc: Global, points: &[Point]) -> Result<Parts, AllocError>
