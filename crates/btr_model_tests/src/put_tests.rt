@@ -1,5 +1,5 @@
 //! Blocks of a supply that several threads have written.
-ghost use Rattle.std.specs.Prelude.{◌≡◌, ◌*◌, ◌<◌, length, IfOk, vec_len};
+ghost use Rattle.std.specs.Prelude.{◌≡◌, ◌*◌, ◌<◌, length, IfOk, IsFalse, vec_len};
 ghost use Rattle.std.specs.Thread.{IsSync};
 
 use crate::disk_tests::counted;
@@ -57,7 +57,7 @@ struct Counting {
 }
 
 impl Outlet for Counting {
-    ghost use Rattle.std.specs.Prelude.{⊤};
+    ghost use Rattle.std.specs.Prelude.{⊤, ◌<◌, vec_len};
 
     ghost room = { λ counting. vec_len counting.blocks };
 
@@ -66,6 +66,8 @@ impl Outlet for Counting {
     ghost has_front = { λ _. ⊤ };
 
     ghost has_block = { λ _ _ _. ⊤ };
+
+    ghost has_failed = { λ counting. counting.failing < vec_len counting.blocks };
 
     fn front_len(&self) -> usize {
         self.front
@@ -122,11 +124,15 @@ struct Case {
     failing: usize,
 }
 
-/// Has these blocks written to the outlet by at most this many threads.
+/// Has these blocks written to the outlet by at most this many threads, or by the calling thread alone if there are none.
 fn is_written<R: Threads + Sync>(rt: &R, bytes: &[u8], threads: usize, outlet: &Counting) -> bool
     requires { length bytes.now ≡ 4096 * vec_len outlet.now.blocks }
+    ensures { IsFalse result → outlet.now.failing < vec_len outlet.now.blocks }
 {
     let held = HeldBlocks::new(bytes);
+    if threads == 0 {
+        return held.write_to(outlet);
+    }
     Shared { rt, held, threads }.write_to(outlet)
 }
 
@@ -199,6 +205,7 @@ fn threads_share_the_work_of_a_front(rt: HostRuntime) -> Result<(), Fail> {
 #[test]
 fn one_thread_puts_each_block_once(rt: HostRuntime) -> Result<(), Fail> {
     let alloc = rt.alloc();
+    assert!(rt; came(&rt, alloc, 150, of_threads(0, 100_000))? == (true, 1, 0, 150));
     assert!(rt; came(&rt, alloc, 150, of_threads(1, 100_000))? == (true, 1, 0, 150));
     assert!(rt; came(&rt, alloc, 0, of_threads(4, 100_000))? == (true, 1, 0, 0));
     Ok(())
@@ -215,6 +222,30 @@ fn a_put_that_fails_is_not_passed_over(rt: HostRuntime) -> Result<(), Fail> {
             failing,
         };
         assert!(rt; !came(&rt, alloc, 150, case)?.0);
+    }
+    Ok(())
+}
+
+/// Whoever writes, one thread alone or at most one, two or four, has written exactly if no put failed.
+#[test]
+fn all_is_written_exactly_if_no_put_fails(rt: HostRuntime) -> Result<(), Fail> {
+    let alloc = rt.alloc();
+    for (threads, failing) in [
+        (0, 69),
+        (1, 0),
+        (2, 34),
+        (4, 35),
+        (0, 70),
+        (1, 70),
+        (2, 70),
+        (4, 70),
+    ] {
+        let case = Case {
+            threads,
+            front: 0,
+            failing,
+        };
+        assert!(rt; came(&rt, alloc, 70, case)?.0 == (failing == 70));
     }
     Ok(())
 }
