@@ -1,14 +1,92 @@
 #!/usr/bin/env bash
-# What no proof shows of the source: which crates can make counters and where nodes are made, on which clauses on steps rest; and where
-# memory is not freed.
+# What no proof shows of the source: which files can make counters, which call walks without one, and where nodes are made, on which clauses
+# on steps rest; and where memory is not freed.
 # shellcheck source=checks/common.sh
 . "$(dirname "$0")/common.sh"
 
-# A body that is generic in the label of its counter counts with its caller's counter alone, if its crate has no label of its own. Only the
-# parts of a tree that several threads build have counters of their own. They visit no node, and `Tree::apply_shared.applied` says that the
-# caller's counter has all their nodes.
-expect 'btr_tree and btr_diff make no counter of their own, but for parts that are built' \
-    "$(grep -rlE 'impl\b.*\bLabel for' "$top/crates/btr_tree/src" "$top/crates/btr_diff/src")" "$top/crates/btr_tree/src/shared.rt"
+# Prints the lines of the source of all crates but those of tests in which a text occurs, as `crates/NAME/src/FILE LINE`, without the spaces
+# at the start of a line. Comments, and what only clauses name, are left out.
+lines_with() {
+    (cd "$top" && grep -rE --include='*.rt' -- "$1" crates/*/src) | grep -v '^crates/[a-z_]*_tests/' | sed 's/:[[:space:]]*/ /' |
+        grep -vE '^[^ ]* (//|ghost use )' | sort
+}
+
+# A body that is generic in the label of its counter counts with its caller's counter alone, if it comes to no type with `Label` and to no
+# counter but its caller's. The files that have such a type are listed: no other file names `Label`, but those of btr_tree that declare it,
+# and the one that asks for it.
+expect 'types with Label stand in these files alone' "$(lines_with '\bimpl\b.*\bLabel\b.*\bfor\b')" \
+    'crates/btr_distil/src/changed.rt impl Label for InputWalk {}
+crates/btr_distil/src/split_times.rt impl Label for CountWalk {}
+crates/btr_engine/src/answering.rt impl Label for AnswerWalk {}
+crates/btr_engine/src/staging.rt impl Label for StageWalk {}
+crates/btr_open/src/loading.rt impl Label for OpenWalk {}
+crates/btr_scan/src/range_walk.rt impl Label for RangeWalk {}
+crates/btr_verify/src/judging.rt impl Label for JudgeWalk {}
+crates/btr_window/src/window_walk.rt impl Label for WindowWalk {}'
+expect 'no other file names Label' "$(lines_with '\bLabel\b' | cut -d ' ' -f 1 | uniq)" \
+    'crates/btr_distil/src/changed.rt
+crates/btr_distil/src/split_times.rt
+crates/btr_engine/src/answering.rt
+crates/btr_engine/src/staging.rt
+crates/btr_open/src/loading.rt
+crates/btr_scan/src/range_walk.rt
+crates/btr_tree/src/lib.rt
+crates/btr_tree/src/steps.rt
+crates/btr_tree/src/uncounted.rt
+crates/btr_verify/src/judging.rt
+crates/btr_window/src/window_walk.rt'
+# So are the lines that make a counter, and those that make a tree that is walked without one. No call hands a counter out but those that
+# make one, and those that build a part of a tree, which hand out its fork.
+expect 'counters are made in these lines alone' "$(lines_with '\b(Steps|Fork)\b.*\bnew\b|\buncounted::<')" \
+    'crates/btr_distil/src/changed.rt let mut steps = Steps::<InputWalk>::new();
+crates/btr_distil/src/changed.rt old.uncounted::<InputWalk>(),
+crates/btr_distil/src/split_times.rt let mut steps = Steps::<CountWalk>::new();
+crates/btr_distil/src/split_times.rt let mut steps = Steps::<CountWalk>::new();
+crates/btr_engine/src/answering.rt let mut steps = Steps::<AnswerWalk>::new();
+crates/btr_engine/src/answering.rt let mut steps = Steps::<AnswerWalk>::new();
+crates/btr_engine/src/answering.rt let older = older.uncounted::<AnswerWalk>();
+crates/btr_engine/src/staging.rt let mut steps = Steps::<StageWalk>::new();
+crates/btr_open/src/loading.rt steps: Steps::new(),
+crates/btr_scan/src/range_walk.rt let mut steps = Steps::<RangeWalk>::new();
+crates/btr_tree/src/shared.rt let mut fork = Fork::new();
+crates/btr_tree/src/shared.rt let mut fork = Fork::new();
+crates/btr_verify/src/marking.rt let mut steps = Steps::<JudgeWalk>::new();
+crates/btr_window/src/window_walk.rt match visit(child, &mut Steps::<WindowWalk>::new()) {'
+expect 'no other call hands a counter out' "$(lines_with '(->|\btype\b) .*\b(Steps|Fork)\b')" \
+    'crates/btr_tree/src/shared.rt ) -> (Result<Part, TreeFault>, Fork)
+crates/btr_tree/src/shared.rt let build_back = || -> (Result<Part, TreeFault>, Fork)
+crates/btr_tree/src/shared.rt let build_front = || -> (Result<Part, TreeFault>, Fork)
+crates/btr_tree/src/steps.rt pub fn new() -> Steps<L>
+crates/btr_tree/src/steps.rt pub(crate) fn new() -> Fork'
+# The walks whose steps a clause bounds stand in files that name nothing but one another, btr_base and btr_tree. Of the public calls of these
+# two only `Steps::new` makes a counter, and only `Tree::uncounted` a tree that is walked without one.
+expect 'walks with a bound stand in these files' \
+    "$(lines_with '\bpub fn [a-z_]+<.*\bL>' | grep -E '^crates/btr_(diff|scan|stored|window)/' | cut -d '<' -f 1)" \
+    'crates/btr_diff/src/comparing.rt pub fn changes
+crates/btr_diff/src/comparing.rt pub fn changes_with_lead
+crates/btr_scan/src/nearest_walk.rt pub fn nearest
+crates/btr_stored/src/finding.rt pub fn find
+crates/btr_stored/src/own.rt pub fn is_own
+crates/btr_window/src/range_aggregate.rt pub fn aggregate'
+walks='crates/btr_scan/src/backward.rt crates/btr_scan/src/forward.rt crates/btr_scan/src/nearest_walk.rt
+crates/btr_window/src/inside.rt crates/btr_window/src/range_aggregate.rt crates/btr_stored/src/finding.rt crates/btr_stored/src/own.rt
+crates/btr_diff/src/comparing.rt crates/btr_diff/src/comparison.rt crates/btr_diff/src/gathering.rt crates/btr_diff/src/leaf_walk.rt
+crates/btr_diff/src/points.rt crates/btr_diff/src/tree_walk.rt'
+# shellcheck disable=SC2086
+expect 'walks with a bound call no walk without one' \
+    "$(cd "$top" && grep -vhE '^ *//|^ghost use ' $walks | sed 's/pub(crate)//' |
+        grep -oE '\b(btr_[a-z_]+|super|crate(::[a-z_]+)?)\b' | sort -u)" \
+    'btr_base
+btr_tree
+crate::backward
+crate::comparison
+crate::finding
+crate::forward
+crate::gathering
+crate::inside
+crate::leaf_walk
+crate::points
+crate::tree_walk'
 expect 'who builds a part visits no node' "$(grep -nE '\bvisit\b|outside|uncounted' "$top/crates/btr_tree/src/shared.rt")" ''
 # Each node is made by one function, which counts it.
 expect 'nodes of trees are made in one place' \

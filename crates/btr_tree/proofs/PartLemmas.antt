@@ -1,9 +1,9 @@
 -- Lemmas on two parts of the slots of a span, and on both together.
-use Rattle.std.specs.Prelude.{◌≡◌, ◌⊎◌, ℕ, ◌+◌, ◌-◌, ◌*◌, ◌<◌, ◌≤◌, ◌^◌, min, ℤ, int_le, int_lt, true, false, not, cond, nat_lt, List, [], ◌∷◌, ◌++◌, length, slice_get, Option, None, Bool, ◌||◌}
+use Rattle.std.specs.Prelude.{◌≡◌, ◌⊎◌, ℕ, ◌+◌, ◌-◌, ◌*◌, ◌<◌, ◌≤◌, ◌^◌, ℤ, int_le, int_lt, true, false, not, cond, nat_lt, List, [], ◌∷◌, ◌++◌, length, slice_get, Option, None, Bool, ◌||◌}
 use Rattle.std.specs.List.{filter}
 use Rattle.std.proofs.Common.{zero, suc, refl, sym, ap, ◌∙◌, arith, subst, inl, inr, mul-le-mul_right, mul-add, append_assoc}
 use Rattle.std.proofs.lemmas.Bool.{cases_lt}
-use Rattle.std.proofs.Math.Nat.{lt_of_not-le, eq-or-lt_of_le}
+use Rattle.std.proofs.Math.Nat.{lt_of_not-le}
 use Rattle.std.proofs.lemmas.Bool.Decides.{nat_tests}
 use Rattle.std.proofs.lemmas.Int.{ints}
 use Rattle.std.proofs.lemmas.List.{length-append, length-map, length_push, map-append}
@@ -23,7 +23,7 @@ use Rattle.btr_tree.specs.declared.fault.TreeFault.TheVariants.{Crowded, TooMany
 use Rattle.btr_tree.specs.declared.node.NodeData.{NodeData}
 use Rattle.btr_tree.specs.declared.node.Slot.{Slot}
 use Rattle.btr_tree.specs.declared.slots.Slots.{Slots}
-use Rattle.btr_tree.specs.Change.{IsFresh, IsInnerOf, IsCounted, CountsNodes, AtEachFresh, end_of}
+use Rattle.btr_tree.specs.Change.{IsFresh, IsInnerOf, IsCounted, AtEachFresh, end_of}
 use Rattle.btr_tree.specs.History.{Commit, Past, ◌▷◌, bag, nothing}
 use Rattle.btr_tree.specs.Crowd.{HasNoCrowdedSpan, IsFirstCrowd, IsCrowdedFault}
 use Rattle.btr_tree.specs.NewNodes.{NewNodeValue, bare, bare_all, concat_first, new_nodes}
@@ -269,15 +269,11 @@ nodes-joined : (a m t x y z : List NewNodeValue) → m ≡ a ++ x → t ≡ m ++
 nodes-joined a m t x y z e f g =
     f ∙ ap (λ u. u ++ y) e ∙ append_assoc a x y ∙ ap (λ u. a ++ u) (sym g)
 
--- Two numbers that stop at the greatest number, and both together.
-stops : (a b m : ℕ) → min (min a m + min b m) m ≡ min (a + b) m
-stops a b m = omega arith
-
 few-joined : (height a b x y : ℕ) → x ≤ height * a → y ≤ height * b → x + y ≤ height * (a + b)
 few-joined height a b x y h k = let e = mul-add height a b in omega arith
 
-pub part-joined : (span : SpanValue) (from mid to version first : ℕ) (points front back : List Point) (x y z : Slots) (xs ys zs : List NewNodeValue) (a b n : ℕ) → IsHalved span from mid to points front back → IsBuiltPart span from mid version first front x xs a → IsBuiltPart span mid to version (first + length xs) back y ys b → AreJoined mid to x y z → zs ≡ xs ++ ys → n ≡ min (a + b) 18446744073709551615 → IsBuiltPart span from to version first points z zs n
-part-joined span from mid to version first points front back x y z xs ys zs a b n d f g j reported count =
+pub part-joined : (span : SpanValue) (from mid to version first : ℕ) (points front back : List Point) (x y z : Slots) (xs ys zs : List NewNodeValue) → IsHalved span from mid to points front back → IsBuiltPart span from mid version first front x xs → IsBuiltPart span mid to version (first + length xs) back y ys → AreJoined mid to x y z → zs ≡ xs ++ ys → IsBuiltPart span from to version first points z zs
+part-joined span from mid to version first points front back x y z xs ys zs d f g j reported =
     let long = ap (length {A = NewNodeValue}) reported ∙ length-append xs ys in
     let sum = points-sum front back points d.all in
     let low = d.low in
@@ -298,7 +294,6 @@ part-joined span from mid to version first points front back x y z xs ys zs a b 
         | inl lt ↦ subst (IsLaid store first (xs ++ ys) below (slot_start below span.start i)) (sym (j.front_children i lt)) (laid-front store first xs ys below (slot_start below span.start i) (child_in x i) (f.stored store below up i begin lt))
         | inr le ↦ subst (IsLaid store first (xs ++ ys) below (slot_start below span.start i)) (sym (j.back_children i le end)) (laid-back store first xs ys below (slot_start below span.start i) (child_in y i) (g.stored (laid store first xs) below up i le end))
       ]);
-      counted = count ∙ ap (λ u. min (u + b) 18446744073709551615) f.counted ∙ ap (λ u. min (min (length xs) 18446744073709551615 + u) 18446744073709551615) g.counted ∙ stops (length xs) (length ys) 18446744073709551615 ∙ ap (λ u. min u 18446744073709551615) (sym long);
       few = subst (λ u. u ≤ span.height * length points) (sym long) (subst (λ u. length xs + length ys ≤ span.height * u) sum (few-joined span.height (length front) (length back) (length xs) (length ys) f.few g.few));
       room = room-join (slot_from span from) (slot_from span mid) (slot_from span to) points (room-part (slot_from span from) (slot_from span mid) points d.whole_mid (subst (HasNoCrowdedSpan (slot_from span from) (slot_from span mid)) d.is_front f.room)) (room-part (slot_from span mid) (slot_from span to) points d.whole_to (subst (HasNoCrowdedSpan (slot_from span mid) (slot_from span to)) d.is_back g.room));
     }
@@ -322,8 +317,8 @@ pub one-inside : (span : SpanValue) (i : ℕ) (points : List Point) → within (
 one-inside span i points inside =
     ap (λ x. within (slot_from span i) x points) (sym (slot-next (span.height - 1) span.start i)) ∙ inside
 
-pub one-part : (span : SpanValue) (i version first : ℕ) (points : List Point) (slot : Slot) (child : Option NodeData) (old new : Slots) (reported : List NewNodeValue) (steps : ℕ) → 1 ≤ span.height → i < 64 → IsPut i slot child old new → base_of old ≡ version → slot ≡ record { agg = agg points; version = version; child = 0 } → IsBuilt (slot_of span i) version first points child reported steps → IsBuiltPart span i (i + 1) version first points new reported steps
-one-part span i version first points slot child old new reported steps height place put base is b =
+pub one-part : (span : SpanValue) (i version first : ℕ) (points : List Point) (slot : Slot) (child : Option NodeData) (old new : Slots) (reported : List NewNodeValue) → 1 ≤ span.height → i < 64 → IsPut i slot child old new → base_of old ≡ version → slot ≡ record { agg = agg points; version = version; child = 0 } → IsBuilt (slot_of span i) version first points child reported → IsBuiltPart span i (i + 1) version first points new reported
+one-part span i version first points slot child old new reported height place put base is b =
     let part = slot_of span i in
     let s = span.start in
     let fresh = λ (below : ℕ) (h : Past) (c : Commit) (split : IsSplitPart below span i (i + 1) h c version points).
@@ -347,7 +342,6 @@ one-part span i version first points slot child old new reported steps height pl
       stored = λ store below high j low lt.
           let laid_here = subst (λ (u : SpanValue). IsLaid store first reported u.height u.start child) (slot-part span below i high) (b.stored store) in
           subst (λ m. IsLaid store first reported below (slot_start below s m) (child_in new m)) (sym (one-is i j low lt)) (subst (IsLaid store first reported below (slot_start below s i)) (sym put.has) laid_here);
-      counted = b.counted;
       few = subst (λ k. length reported ≤ k * length points) (sub-add_one span.height height) b.few;
       room = subst (λ e. HasNoCrowdedSpan (slot_from span i) e points) (sym (slot-next (span.height - 1) s i)) b.room;
     }
@@ -374,15 +368,12 @@ pub whole-fault : (span : SpanValue) (below : ℕ) (points : List Point) (e : Tr
 whole-fault span below points e high f =
     subst (λ x. IsCrowdedFault span.start x points e) (slot_from-last span below high) (subst (λ x. IsCrowdedFault x (slot_from span 64) points e) (slot_from-first span) f)
 
-stops-one : (a m : ℕ) → min (min a m + 1) m ≡ min (a + 1) m
-stops-one a m = omega arith
-
 few-root : (n k p : ℕ) → 1 ≤ p → n ≤ k * p → n + 1 ≤ (k + 1) * p
 few-root n k p some le = let e : (k + 1) * p ≡ k * p + p = omega arith in omega arith
 
 -- The root over all slots.
-pub whole-built : (span : SpanValue) (below version first : ℕ) (points : List Point) (x : Slots) (old new : List NewNodeValue) (a b : ℕ) (root : Option NodeData) → span.height ≡ suc below → 1 ≤ first → LEAF_POINTS < length points → IsBuiltPart span 0 64 version first points x old a → IsInnerOf version x root → block_of root ≡ first + length old → new ≡ old ++ record { span = span; version = version; points = []; slots = first_slots 64 x } ∷ [] → CountsNodes a b old new → IsBuilt span version first points root new b
-whole-built span below version first points x old new a b root high some many p is at reported counts =
+pub whole-built : (span : SpanValue) (below version first : ℕ) (points : List Point) (x : Slots) (old new : List NewNodeValue) (root : Option NodeData) → span.height ≡ suc below → 1 ≤ first → LEAF_POINTS < length points → IsBuiltPart span 0 64 version first points x old → IsInnerOf version x root → block_of root ≡ first + length old → new ≡ old ++ record { span = span; version = version; points = []; slots = first_slots 64 x } ∷ [] → IsBuilt span version first points root new
+whole-built span below version first points x old new root high some many p is at reported =
     let k = span.height in
     let s = span.start in
     let n : NewNodeValue = record { span = span; version = version; points = []; slots = first_slots 64 x } in
@@ -393,16 +384,13 @@ whole-built span below version first points x old new a b root high some many p 
       nodes = λ above h c fresh w.
           reported-more [] (bare_all old) (bare_all new) _ _ (new_nodes k s above (c ▷ h) version) (sym (p.nodes below h c (whole-split below span above h c version points high many fresh))) (bare-push old new n reported) (new_nodes-inner_at k below s above (c ▷ h) version x high w (version-fresh k s above h c version fresh.number fresh.fresh) (subst (λ x. LEAF_POINTS < length x) fresh.same many) (made above h c fresh));
       stored = λ store. laid-inner store first old new span below version x root some high is at reported (λ i lt. p.stored store below high i (omega arith) lt);
-      counted =
-          let one : length new - length old ≡ 1 = omega arith in
-          counts.some (omega arith) ∙ ap (λ u. min (a + u) 18446744073709551615) one ∙ ap (λ u. min (u + 1) 18446744073709551615) p.counted ∙ stops-one (length old) 18446744073709551615 ∙ ap (λ u. min u 18446744073709551615) (sym long);
       few = subst (λ u. u ≤ (k + 1) * length points) (sym long) (few-root (length old) k (length points) (omega arith) p.few);
       room = subst (λ e. HasNoCrowdedSpan s e points) (slot_from-last span below high) (subst (λ e. HasNoCrowdedSpan e (slot_from span 64) points) (slot_from-first span) p.room);
     }
 
 -- The nodes that one call of `build` makes.
-pub alone-built : (span : SpanValue) (version first : ℕ) (points : List Point) (root : Option NodeData) (old new : List NewNodeValue) (a b : ℕ) → IsWork span points first → old ≡ [] → a ≡ 0 → AtEachFresh span version points (λ above h c. IsChild span.height span.start above (c ▷ h) root) → AtEachFresh span version points (λ above h c. above (bag (c ▷ h)) ≡ true → bare_all new ≡ bare_all old ++ new_nodes span.height span.start above (c ▷ h) version) → ((store : Store) → IsLaid store first new span.height span.start root) → CountsNodes a b old new → HasNoCrowdedSpan span.start (end_of span) points → IsBuilt span version first points root new b
-alone-built span version first points root old new a b w none zero_steps child nodes stored counts room =
+pub alone-built : (span : SpanValue) (version first : ℕ) (points : List Point) (root : Option NodeData) (old new : List NewNodeValue) → IsWork span points first → old ≡ [] → AtEachFresh span version points (λ above h c. IsChild span.height span.start above (c ▷ h) root) → AtEachFresh span version points (λ above h c. above (bag (c ▷ h)) ≡ true → bare_all new ≡ bare_all old ++ new_nodes span.height span.start above (c ▷ h) version) → ((store : Store) → IsLaid store first new span.height span.start root) → HasNoCrowdedSpan span.start (end_of span) points → IsBuilt span version first points root new
+alone-built span version first points root old new w none child nodes stored room =
     let k = span.height in
     let s = span.start in
     let empty = ap (length {A = NewNodeValue}) none in
@@ -416,10 +404,6 @@ alone-built span version first points root old new a b w none zero_steps child n
       child = child;
       nodes = each;
       stored = stored;
-      counted = elim (eq-or-lt_of_le counts.grows) [
-        | inl e ↦ counts.none (sym e) ∙ zero_steps ∙ (let z : length new ≡ 0 = omega arith in ap (λ u. min u 18446744073709551615) (sym z))
-        | inr more ↦ counts.some more ∙ ap (λ u. min u 18446744073709551615) (omega arith)
-      ];
       few = let x : suc k * length (points_of k s (bag (alone version points ▷ nothing))) ≡ (k + 1) * length points = ap (λ u. suc k * u) (sym all) ∙ ap (λ u. u * length points) (omega arith) in omega arith;
       room = room;
     }
@@ -454,8 +438,8 @@ first-commit h c t none tree times order =
     }
 
 -- The tree of the nodes that were built.
-pub first-tree : (h : Past) (c : Commit) (first : ℕ) (p : Option NodeData) (total : AggValue) (reported : List NewNodeValue) (steps : ℕ) → length c.added ≤ MAX_POINTS → IsFirstCommit h c → IsBuilt root_part c.version first c.added p reported steps → ((k : ℕ) (s : ℤ) (above : List Point → Bool) (g : Past) → IsChild k s above g p → total ≡ agg (points_of k s (bag g))) → IsTree (c ▷ h) (record { span = root_part; node = p; total = total })
-first-tree h c first p total reported steps few f b counted =
+pub first-tree : (h : Past) (c : Commit) (first : ℕ) (p : Option NodeData) (total : AggValue) (reported : List NewNodeValue) → length c.added ≤ MAX_POINTS → IsFirstCommit h c → IsBuilt root_part c.version first c.added p reported → ((k : ℕ) (s : ℤ) (above : List Point → Bool) (g : Past) → IsChild k s above g p → total ≡ agg (points_of k s (bag g))) → IsTree (c ▷ h) (record { span = root_part; node = p; total = total })
+first-tree h c first p total reported few f b counted =
     let holds = b.child above_root h c f.fresh in
     let sum = counted 10 FIRST above_root (c ▷ h) holds in
     let count : total.count ≡ length c.added = ap (λ (a : AggValue). a.count) (sum ∙ ap agg (root-points (bag (c ▷ h)) f.times ∙ f.all)) ∙ agg-count c.added in
@@ -465,8 +449,8 @@ pub first-alone : (version : ℕ) (points : List Point) → AreInDomain points �
 first-alone version points times order =
     first-commit nothing (alone version points) (record { span = root_part; node = None; total = no_points }) refl (tree-none None no_points refl refl) times order
 
-pub first-counted : (version first : ℕ) (points : List Point) (p : Option NodeData) (reported : List NewNodeValue) (steps : ℕ) → AreInDomain points → IsInOrder points → length points ≤ MAX_POINTS → IsBuilt root_part version first points p reported steps → IsCounted p
-first-counted version first points p reported steps times order few b =
+pub first-counted : (version first : ℕ) (points : List Point) (p : Option NodeData) (reported : List NewNodeValue) → AreInDomain points → IsInOrder points → length points ≤ MAX_POINTS → IsBuilt root_part version first points p reported → IsCounted p
+first-counted version first points p reported times order few b =
     let f = first-alone version points times order in
     let most : length (points_of 10 FIRST (bag (alone version points ▷ nothing))) < 2 ^ 64 = subst (λ (x : List Point). length x < 2 ^ 64) f.fresh.same (omega arith) in
     child-counted 10 FIRST above_root (alone version points ▷ nothing) p most (b.child above_root nothing (alone version points) f.fresh)

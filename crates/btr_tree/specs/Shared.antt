@@ -59,18 +59,17 @@ pub record IsPartWork (span : SpanValue) (from to : ℕ) (points : List Point) (
 
 -- The root of a span, and the nodes that were built for it, the n-th of them for the block `first + n`.
 pub record IsBuilt (span : SpanValue) (version first : ℕ) (points : List Point) (root : Option NodeData) (nodes_built : List NewNodeValue)
-    (steps : ℕ) : Type 0 where
+    : Type 0 where
   pub child : AtEachFresh span version points (λ above h c. IsChild span.height span.start above (c ▷ h) root)
   pub nodes : AtEachFresh span version points (λ above h c. above (bag (c ▷ h)) ≡ true
       → bare_all nodes_built ≡ new_nodes span.height span.start above (c ▷ h) version)
   pub stored : (store : Store) → IsLaid store first nodes_built span.height span.start root
-  pub counted : steps ≡ min (length nodes_built) 18446744073709551615
   pub few : length nodes_built ≤ (span.height + 1) * length points
   pub room : HasNoCrowdedSpan span.start (end_of span) points
 
 -- Some slots of a span with their children, and the nodes that were built for them, the n-th of them for the block `first + n`.
 pub record IsBuiltPart (span : SpanValue) (from to version first : ℕ) (points : List Point) (x : Slots) (nodes_built : List NewNodeValue)
-    (steps : ℕ) : Type 0 where
+    : Type 0 where
   pub filled : IsFilled to x
   pub base : base_of x ≡ version
   pub slots : AtEachPart span from to version points (λ below h c. (i : ℕ) → from ≤ i → i < to
@@ -82,9 +81,12 @@ pub record IsBuiltPart (span : SpanValue) (from to version first : ℕ) (points 
       ≡ concat_first from (slot_nodes below span.start (c ▷ h) version) ++ bare_all nodes_built)
   pub stored : (store : Store) (below : ℕ) → span.height ≡ suc below → (i : ℕ) → from ≤ i → i < to
       → IsLaid store first nodes_built below (slot_start below span.start i) (child_in x i)
-  pub counted : steps ≡ min (length nodes_built) 18446744073709551615
   pub few : length nodes_built ≤ span.height * length points
   pub room : HasNoCrowdedSpan (slot_from span from) (slot_from span to) points
+
+-- A counter has one step more for each of these nodes, and stops at the greatest u64.
+abbrev pub CountsAll : ℕ → ℕ → List NewNodeValue → Type 0
+CountsAll before after nodes_built = after ≡ min (before + length nodes_built) 18446744073709551615
 
 -- Why no part has these points.
 abbrev pub IsPartFault : SpanValue → ℕ → ℕ → List Point → TreeFault → Type 0

@@ -9,9 +9,9 @@
 //! [`Tree::leaf`] and [`Tree::inner`] make trees of nodes that were read, from the leaves up.
 //!
 //! Links to nodes are opaque: [`visit`] counts each node in a [`Steps`]. Only a call that knows a type with [`Label`] can make a
-//! counter. All public calls here are generic in the label, so they count with their caller's counter. [`Tree::apply_shared`] has
-//! counters of its own, and adds them to its caller's. One call makes nodes, and it counts each. A walk without a counter goes
-//! through a tree that its caller hands in as [`Uncounted`].
+//! counter. All public calls here are generic in the label, so they count with their caller's counter. [`Tree::apply_shared`]
+//! counts what its threads make with forks. A fork that has counted cannot be dropped, but only added to another counter. One call
+//! makes nodes, and it counts each. A walk without a counter goes through a tree that its caller hands in as [`Uncounted`].
 //!
 //! The definitions say over a past as plain data which spans are nodes, and the versions of nodes and slots. A past is a base
 //! and the commits since. The crate knows no bytes, no device and no other stream.

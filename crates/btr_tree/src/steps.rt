@@ -2,9 +2,10 @@ ghost use Rattle.std.specs.Prelude.{◌≡◌, ◌+◌, ◌≤◌, min};
 
 use std::marker::{Model, PhantomData};
 
-/// A label of counters. Only a type that has it can make a counter.
+/// A label of counters. Only a type that has it can make a counter by [`Steps::new`].
 ///
-/// A call that is generic in its label knows no such type. So it counts with its caller's counter alone.
+/// A call that is generic in its label knows no such type. So it counts with its caller's counter alone, if it names no type with
+/// this trait. Which files have one is tested by `checks/source.sh`.
 pub trait Label {}
 
 /// A counter of the nodes that a call makes, or visits. It stops at the greatest `u64`. `L` is its label.
@@ -12,6 +13,37 @@ pub trait Label {}
 pub struct Steps<L> {
     count: u64,
     label: PhantomData<L>,
+}
+
+/// The label of the counters of forks. It has no [`Label`], so only [`Fork::new`] makes such a counter.
+pub(crate) struct Forked;
+
+/// A counter of what a part of a call makes, in any thread. [`Steps::join`] adds it to another counter. It can be dropped only if
+/// it has counted nothing, so no count is lost.
+pub(crate) struct Fork {
+    pub(crate) steps: Steps<Forked>,
+}
+
+impl Drop for Fork {
+    fn drop(self)
+        requires { self.steps ≡ 0 }
+    {
+        let Fork { steps: _ } = self;
+    }
+}
+
+impl Fork {
+    /// A counter of no steps. It takes no memory.
+    pub(crate) fn new() -> Fork
+        ensures { result.steps ≡ 0 }
+    {
+        Fork {
+            steps: Steps {
+                count: 0,
+                label: PhantomData,
+            },
+        }
+    }
 }
 
 impl<L> Model for Steps<L> {
@@ -50,10 +82,12 @@ impl<L> Steps<L> {
         self.count = self.count.saturating_add(1);
     }
 
-    /// Counts more steps.
-    pub(crate) fn add(&mut self, more: u64)
-        ensures { self.new ≡ min (self.old + more) 18446744073709551615 }
+    /// Adds the steps of a fork.
+    pub(crate) fn join(&mut self, fork: Fork)
+        ensures { self.new ≡ min (self.old + fork.steps) 18446744073709551615 }
     {
-        self.count = self.count.saturating_add(more);
+        let mut fork = fork;
+        self.count = self.count.saturating_add(fork.steps.count);
+        fork.steps.count = 0;
     }
 }

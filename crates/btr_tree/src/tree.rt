@@ -16,7 +16,7 @@ use crate::fault::TreeFault;
 use crate::new_node::NewNode;
 use crate::node::{Child, Link, Slot};
 use crate::root::root_span;
-use crate::shared::{SHARED_POINTS, build_shared};
+use crate::shared::{SHARED_POINTS, build_counted};
 use crate::steps::Steps;
 use btr_base::{Agg, Bag, MAX_POINTS, ROOT_HEIGHT, Ranges, Span};
 use std::alloc::{AllocError, Global};
@@ -227,8 +227,7 @@ impl Tree {
             return self.apply(alloc, cut, added, version, first, steps);
         }
         let span = root_span();
-        let built = build_shared(rt, alloc, span, points, version, first, threads)?;
-        steps.add(built.steps.count());
+        let built = build_counted(rt, alloc, span, points, version, first, threads, steps)?;
         let agg = agg_of_child(built.root.seen());
         Ok(Applied {
             tree: Tree {

@@ -24,18 +24,18 @@ build_at_once-returns-clause-back g t c =
     let w = c.requires.front in
     let some = w.height in
     let high : c.args.span.height ≡ suc below = omega arith in
-    let split = alone-part below c.args.span c.args.from c.args.mid c.args.version c.args.front.now high w.place c.requires.many w.order w.inside in
-    let low = IfOk-at_ok (λ r. IsBuiltPart c.args.span c.args.from c.args.mid c.args.version c.args.first c.args.front.now r.slots r.nodes.items r.steps) c.in_ok-low.was c.join-a.ensures.first.0 in
+    let split = alone-part below c.args.span c.args.from c.args.mid c.args.version c.args.front.now high w.place c.requires.many.1 w.order w.inside in
+    let low = IfOk-at_ok (λ r. IsBuiltPart c.args.span c.args.from c.args.mid c.args.version c.args.first c.args.front.now r.slots r.nodes.items) c.in_ok-low.was c.join-a.ensures.first.0 in
     let f = slot_nodes below c.args.span.start (alone c.args.version c.args.front.now ▷ nothing) c.args.version in
     let same = counted-reported (concat_first c.args.from f) (concat_first c.args.mid f) c.in_ok-low.low.nodes.items c.count_slots.result (low.nodes below nothing (alone c.args.version c.args.front.now) split) (c.count_slots.ensures.count c.args.version below nothing (alone c.args.version c.args.front.now) split) in
-    subst (λ n. IsBuiltPart c.args.span c.args.mid c.args.to c.args.version (c.args.first + n) c.args.back.now c.in_ok-high.high.slots c.in_ok-high.high.nodes.items c.in_ok-high.high.steps) same (IfOk-at_ok (λ r. IsBuiltPart c.args.span c.args.mid c.args.to c.args.version (c.args.first + c.count_slots.result) c.args.back.now r.slots r.nodes.items r.steps) c.in_ok-high.was c.join-a.ensures.second.0)
+    subst (λ n. IsBuiltPart c.args.span c.args.mid c.args.to c.args.version (c.args.first + n) c.args.back.now c.in_ok-high.high.slots c.in_ok-high.high.nodes.items) same (IfOk-at_ok (λ r. IsBuiltPart c.args.span c.args.mid c.args.to c.args.version (c.args.first + c.count_slots.result) c.args.back.now r.slots r.nodes.items) c.in_ok-high.was c.join-a.ensures.second.0)
 
 -- ---- one slot
 
 pub build_one-agg_of_child-requires : goal.build_one-agg_of_child-requires
 build_one-agg_of_child-requires g t c =
     let part = slot_of c.args.span c.args.i in
-    let built = subst (λ (u : SpanValue). IsBuilt u c.args.version c.args.first c.args.points.now (linked c.in_ok-built.built.root) c.in_ok-built.built.nodes.items c.in_ok-built.built.steps) c.slot-part.ensures c.in_ok-built.ensures.built in
+    let built = subst (λ (u : SpanValue). IsBuilt u c.args.version c.args.first c.args.points.now (linked c.in_ok-built.built.root) c.in_ok-built.built.nodes.items) c.slot-part.ensures c.in_ok-built.ensures.built in
     let fresh = alone-fresh part.height part.start c.args.version c.args.points.now c.requires.order (one-inside c.args.span c.args.i c.args.points.now c.requires.inside) in
     let room = c.requires.room in
     let few : length (points_of part.height part.start (bag (alone c.args.version c.args.points.now ▷ nothing))) < 2 ^ 64 = subst (λ (x : List Point). length x < 2 ^ 64) fresh.same (omega arith) in
@@ -45,11 +45,11 @@ pub build_one-returns-clause-part : goal.build_one-returns-clause-part
 build_one-returns-clause-part g t c =
     let part = slot_of c.args.span c.args.i in
     let place = c.requires.place in
-    let built = subst (λ (u : SpanValue). IsBuilt u c.args.version c.args.first c.args.points.now (linked c.in_ok-built.built.root) c.in_ok-built.built.nodes.items c.in_ok-built.built.steps) c.slot-part.ensures c.in_ok-built.ensures.built in
+    let built = subst (λ (u : SpanValue). IsBuilt u c.args.version c.args.first c.args.points.now (linked c.in_ok-built.built.root) c.in_ok-built.built.nodes.items) c.slot-part.ensures c.in_ok-built.ensures.built in
     let fresh = alone-fresh part.height part.start c.args.version c.args.points.now c.requires.order (one-inside c.args.span c.args.i c.args.points.now c.requires.inside) in
     let mine = alone c.args.version c.args.points.now in
     let is : c.agg_of_child.result ≡ agg c.args.points.now = c.agg_of_child.ensures part.height part.start above_root (mine ▷ nothing) (child-same part.height part.start above_root (mine ▷ nothing) (linked c.in_ok-built.built.root) (node_of c.seen.result) c.seen.ensures (built.child above_root nothing mine fresh)) ∙ ap agg (sym fresh.same) in
-    one-part c.args.span c.args.i c.args.version c.args.first c.args.points.now _ (linked c.in_ok-built.built.root) c.in_ok-slots.slots c.put.new.self c.in_ok-built.built.nodes.items c.in_ok-built.built.steps c.requires.height (omega arith) c.in_ok-put.ensures c.in_ok-slots.ensures.base (ap (λ a. record { agg = a; version = c.args.version; child = 0 }) is) built
+    one-part c.args.span c.args.i c.args.version c.args.first c.args.points.now _ (linked c.in_ok-built.built.root) c.in_ok-slots.slots c.put.new.self c.in_ok-built.built.nodes.items c.requires.height (omega arith) c.in_ok-put.ensures c.in_ok-slots.ensures.base (ap (λ a. record { agg = a; version = c.args.version; child = 0 }) is) built
 
 -- ---- some slots
 
@@ -82,7 +82,7 @@ build_part-returns-clause-part g t c =
     let h = halved c.args.span c.args.from c.middle-mid.result c.args.to c.args.points.now c.parted-2.result.0.now c.parted-2.result.1.now _ c.middle-mid.ensures.0 c.middle-mid.ensures.1 aligned (omega (arith, ints)) c.requires.inside c.parted-2.ensures.before c.parted-2.ensures.from c.parted-2.ensures.all in
     let low = c.in_ok-low.low in
     let high = c.in_ok-low.high in
-    part-joined c.args.span c.args.from c.middle-mid.result c.args.to c.args.version c.args.first c.args.points.now c.parted-2.result.0.now c.parted-2.result.1.now low.slots high.slots c.in_ok-joined.field-0.slots low.nodes.items high.nodes.items c.in_ok-joined.field-0.nodes.items low.steps high.steps c.in_ok-joined.field-0.steps h c.in_ok-low.ensures.front c.in_ok-low.ensures.back c.in_ok-joined.ensures.slots c.in_ok-joined.ensures.nodes c.in_ok-joined.ensures.steps
+    part-joined c.args.span c.args.from c.middle-mid.result c.args.to c.args.version c.args.first c.args.points.now c.parted-2.result.0.now c.parted-2.result.1.now low.slots high.slots c.in_ok-joined.field-0.slots low.nodes.items high.nodes.items c.in_ok-joined.field-0.nodes.items h c.in_ok-low.ensures.front c.in_ok-low.ensures.back c.in_ok-joined.ensures.slots c.in_ok-joined.ensures.nodes
 
 -- ---- a span
 
@@ -104,4 +104,4 @@ build_shared-returns-clause-built g t c =
     let below = c.args.span.height - 1 in
     let high : c.args.span.height ≡ suc below = omega (arith, ap (λ p. p.height) c.span.view_is, c.if-span-eq0.false) in
     let many = c.if-points-lt-SHARED_POINTS.false in
-    whole-built c.args.span below c.args.version c.args.first c.args.points.now c.in_ok-part.part.slots c.in_ok-part.part.nodes.items c.push_inner.new.nodes.items c.in_ok-part.part.steps c.push_inner.new.steps (linked c.in_ok-root.root) high c.requires.some (omega arith) c.in_ok-part.ensures.part c.in_ok-root.ensures.child c.in_ok-root.ensures.block c.in_ok-root.ensures.nodes c.in_ok-root.ensures.counted
+    whole-built c.args.span below c.args.version c.args.first c.args.points.now c.in_ok-part.part.slots c.in_ok-part.part.nodes.items c.push_inner.new.nodes.items (linked c.in_ok-root.root) high c.requires.some (omega arith) c.in_ok-part.ensures.part c.in_ok-root.ensures.child c.in_ok-root.ensures.block c.in_ok-root.ensures.nodes

@@ -21,8 +21,8 @@ use Rattle.btr_tree.proofs.SharedLemmas.{alone}
 use Rattle.btr_tree.proofs.PartLemmas.{first-commit, first-tree, first-counted, first-work, first-alone}
 use Rattle.btr_tree.proofs.tree.Tree.apply_shared.Goals as goal
 
-pub build_shared-requires-after_bounds : goal.build_shared-requires-after_bounds
-build_shared-requires-after_bounds g c κs outlives =
+pub build_counted-requires-after_bounds : goal.build_counted-requires-after_bounds
+build_counted-requires-after_bounds g c κs outlives =
     let few = c.if-count-gt-MAX_POINTS.false in
     first-work c.root_span-span.result c.as_slice-points.result.now c.args.first c.root_span-span.ensures (subst IsInOrder (sym c.as_slice-points.ensures.points) c.as_slice-points.ensures.in_order) (subst AreInDomain (sym c.as_slice-points.ensures.points) c.requires.added) few c.requires.first
 
@@ -39,8 +39,8 @@ returns-in_err-built-clause-fault g c =
 pub agg_of_child-agg-requires : goal.agg_of_child-agg-requires
 agg_of_child-agg-requires g c =
     let points = c.as_slice-points.result.now in
-    let built = subst (λ (u : SpanValue). IsBuilt u c.args.version c.args.first points (linked c.in_ok-built.built.root) c.in_ok-built.built.nodes.items c.in_ok-built.built.steps) c.root_span-span.ensures c.in_ok-built.ensures.built in
-    subst IsCounted (sym c.seen.ensures) (first-counted c.args.version c.args.first points (linked c.in_ok-built.built.root) c.in_ok-built.built.nodes.items c.in_ok-built.built.steps (subst AreInDomain (sym c.as_slice-points.ensures.points) c.requires.added) (subst IsInOrder (sym c.as_slice-points.ensures.points) c.as_slice-points.ensures.in_order) c.if-count-gt-MAX_POINTS.false built)
+    let built = subst (λ (u : SpanValue). IsBuilt u c.args.version c.args.first points (linked c.in_ok-built.built.root) c.in_ok-built.built.nodes.items) c.root_span-span.ensures c.in_ok-built.ensures.built in
+    subst IsCounted (sym c.seen.ensures) (first-counted c.args.version c.args.first points (linked c.in_ok-built.built.root) c.in_ok-built.built.nodes.items (subst AreInDomain (sym c.as_slice-points.ensures.points) c.requires.added) (subst IsInOrder (sym c.as_slice-points.ensures.points) c.as_slice-points.ensures.in_order) c.if-count-gt-MAX_POINTS.false built)
 
 pub returns-clause-applied : goal.returns-clause-applied
 returns-clause-applied g c =
@@ -49,10 +49,10 @@ returns-clause-applied g c =
     let order = c.as_slice-points.ensures.in_order in
     let root = linked c.in_ok-built.built.root in
     let new = c.in_ok-built.built.nodes.items in
-    let built = subst (λ x. IsBuilt root_part c.args.version c.args.first x root new c.in_ok-built.built.steps) c.as_slice-points.ensures.points (subst (λ (u : SpanValue). IsBuilt u c.args.version c.args.first c.as_slice-points.result.now root new c.in_ok-built.built.steps) c.root_span-span.ensures c.in_ok-built.ensures.built) in
+    let built = subst (λ x. IsBuilt root_part c.args.version c.args.first x root new) c.as_slice-points.ensures.points (subst (λ (u : SpanValue). IsBuilt u c.args.version c.args.first c.as_slice-points.result.now root new) c.root_span-span.ensures c.in_ok-built.ensures.built) in
     let few = subst (λ (x : List Point). length x ≤ MAX_POINTS) c.as_slice-points.ensures.points c.if-count-gt-MAX_POINTS.false in
     let fresh = λ (h : Past) (tree : IsTree h c.args.self.now). first-commit h mine c.args.self.now none tree c.requires.added order in
-    let next = λ (h : Past) (tree : IsTree h c.args.self.now). first-tree h mine c.args.first root c.agg_of_child-agg.result new c.in_ok-built.built.steps few (fresh h tree) built (λ k s above past holds. c.agg_of_child-agg.ensures k s above past (child-same k s above past root (node_of c.seen.result) c.seen.ensures holds)) in
+    let next = λ (h : Past) (tree : IsTree h c.args.self.now). first-tree h mine c.args.first root c.agg_of_child-agg.result new few (fresh h tree) built (λ k s above past holds. c.agg_of_child-agg.ensures k s above past (child-same k s above past root (node_of c.seen.result) c.seen.ensures holds)) in
     let nodes = λ (h : Past) (tree : IsTree h c.args.self.now). built.nodes above_root h mine (fresh h tree).fresh refl in
     record {
       tree = λ h tree. subst (λ (u : SpanValue). IsTree (mine ▷ h) (record { span = u; node = root; total = c.agg_of_child-agg.result })) (sym c.root_span-span.ensures) (next h tree);
@@ -61,7 +61,7 @@ returns-clause-applied g c =
       few = λ h tree some before.
           let same = ap (length {A = NewNodeValue}) (nodes h tree) in
           omega (arith, same, length-map new bare, new_nodes-bound FIRST above_root h mine c.args.version refl some before);
-      steps = omega (arith, c.add.ensures, c.count.ensures, built.counted);
+      steps = c.in_ok-built.ensures.counted;
       room = λ h tree. tree-room (mine ▷ h) root (next h tree).times (next h tree).node;
     }
 
@@ -71,8 +71,8 @@ invariant_of-result g c =
     let mine = alone c.args.version points in
     let times = subst AreInDomain (sym c.as_slice-points.ensures.points) c.requires.added in
     let root = linked c.in_ok-built.built.root in
-    let built = subst (λ (u : SpanValue). IsBuilt u c.args.version c.args.first points root c.in_ok-built.built.nodes.items c.in_ok-built.built.steps) c.root_span-span.ensures c.in_ok-built.ensures.built in
+    let built = subst (λ (u : SpanValue). IsBuilt u c.args.version c.args.first points root c.in_ok-built.built.nodes.items) c.root_span-span.ensures c.in_ok-built.ensures.built in
     inl (
       mine ▷ nothing,
-      subst (λ (u : SpanValue). IsTree (mine ▷ nothing) (record { span = u; node = root; total = c.agg_of_child-agg.result })) (sym c.root_span-span.ensures) (first-tree nothing mine c.args.first root c.agg_of_child-agg.result c.in_ok-built.built.nodes.items c.in_ok-built.built.steps c.if-count-gt-MAX_POINTS.false (first-alone c.args.version points times (subst IsInOrder (sym c.as_slice-points.ensures.points) c.as_slice-points.ensures.in_order)) built (λ k s above past holds. c.agg_of_child-agg.ensures k s above past (child-same k s above past root (node_of c.seen.result) c.seen.ensures holds))),
+      subst (λ (u : SpanValue). IsTree (mine ▷ nothing) (record { span = u; node = root; total = c.agg_of_child-agg.result })) (sym c.root_span-span.ensures) (first-tree nothing mine c.args.first root c.agg_of_child-agg.result c.in_ok-built.built.nodes.items c.if-count-gt-MAX_POINTS.false (first-alone c.args.version points times (subst IsInOrder (sym c.as_slice-points.ensures.points) c.as_slice-points.ensures.in_order)) built (λ k s above past holds. c.agg_of_child-agg.ensures k s above past (child-same k s above past root (node_of c.seen.result) c.seen.ensures holds))),
     )
