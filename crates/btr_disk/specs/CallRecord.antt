@@ -1,6 +1,6 @@
 -- What a device in memory remembers of its calls, and the images that follow from it.
 use Rattle.std.specs.Prelude.{◌≡◌, ◌⊎◌, ℕ, ◌+◌, ◌-◌, ◌*◌, ◌<◌, ◌≤◌, Bool, List, [], ◌∷◌, ◌++◌, length, take, drop, reverse}
-use Rattle.std.specs.Prelude.{slice_index, vec_len, vec_capacity}
+use Rattle.std.specs.Prelude.{slice_index, vec_len}
 use Rattle.btr_disk.specs.Bytes.{Image, Has, Same, SameBut, AreBytes}
 use Rattle.btr_disk.specs.Causes.{Counted}
 use Rattle.btr_disk.specs.Torn.{IsTornAt, Tore}
@@ -73,6 +73,7 @@ pub record Records (call : Call) (bytes : List ℕ) (old new : CallRecord) : Typ
   pub calls : new.calls.items ≡ old.calls.items ++ call ∷ []
   pub replaced : new.replaced.items ≡ old.replaced.items ++ bytes
   pub torn : new.torn.flags.items ≡ old.torn.flags.items
+  pub capacity : new.capacity ≡ old.capacity
 
 -- The record is full: the call was counted alone.
 pub record IsLeftOut (old new : CallRecord) : Type 0 where
@@ -81,6 +82,7 @@ pub record IsLeftOut (old new : CallRecord) : Type 0 where
   pub calls : new.calls.items ≡ old.calls.items
   pub replaced : new.replaced.items ≡ old.replaced.items
   pub torn : new.torn.flags.items ≡ old.torn.flags.items
+  pub capacity : new.capacity ≡ old.capacity
 
 -- Blocks were marked as torn, and nothing else changed.
 pub record TearsOnly (first count : ℕ) (old new : CallRecord) : Type 0 where
@@ -88,14 +90,15 @@ pub record TearsOnly (first count : ℕ) (old new : CallRecord) : Type 0 where
   pub replaced : new.replaced.items ≡ old.replaced.items
   pub unrecorded : new.unrecorded ≡ old.unrecorded
   pub torn : Tore first count old.torn.flags.items new.torn.flags.items
+  pub capacity : new.capacity ≡ old.capacity
 
 -- The record has room for one more call that replaces this many bytes.
 pub record CanRecord (made : CallRecord) (bytes : ℕ) : Type 0 where
   pub none_unrecorded : made.unrecorded ≡ 0
-  pub call_fits : vec_len made.calls < vec_capacity made.calls
-  pub bytes_fit : vec_len made.replaced + bytes ≤ vec_capacity made.replaced
+  pub call_fits : vec_len made.calls < made.capacity.calls
+  pub bytes_fit : vec_len made.replaced + bytes ≤ 4096 * made.capacity.blocks
 
--- Memory was allocated for this many calls, and for the bytes of this many blocks.
+-- The record can hold this many calls, and the bytes of this many blocks.
 pub record HasCapacity (calls blocks : ℕ) (made : CallRecord) : Type 0 where
-  pub calls_fit : vec_capacity made.calls ≡ calls
-  pub blocks_fit : vec_capacity made.replaced ≡ 4096 * blocks
+  pub calls_fit : made.capacity.calls ≡ calls
+  pub blocks_fit : made.capacity.blocks ≡ blocks

@@ -1,5 +1,5 @@
 -- What a device in memory means: its images now, those since a call number, and which of its calls fail.
-use Rattle.std.specs.Prelude.{ℕ, ◌==◌, Bool, length, take, drop, IsTrue, IsFalse}
+use Rattle.std.specs.Prelude.{◌≡◌, ℕ, ◌==◌, Bool, length, take, drop, IsTrue, IsFalse}
 use Rattle.std.specs.List.{list_any}
 use Rattle.btr_disk.specs.Bytes.{Image}
 use Rattle.btr_disk.specs.CallRecord.{CanRecord, Records, contents_of, MayLeaveNow, MayLeaveSince}
@@ -19,11 +19,13 @@ abbrev pub is_listed : MemDisk → Bool
 is_listed disk = list_any (λ call. call == length disk.made.calls.items) disk.failing.items
 
 -- A call that is listed fails, and so does a call for which the record has no room, or no room for the bytes that it replaces. No other
--- call fails.
-pub record FailsAsListed (bytes : ℕ) (disk : MemDisk) (fails : Type 0) : Type 0 where
-  pub listed : IsTrue (is_listed disk) → fails
-  pub full : (CanRecord disk.made bytes → ⊥) → fails
-  pub alone : IsFalse (is_listed disk) → CanRecord disk.made bytes → fails → ⊥
+-- call fails. The list and the capacity stay.
+pub record FailsAsListed (bytes : ℕ) (old new : MemDisk) (fails : Type 0) : Type 0 where
+  pub listed : IsTrue (is_listed old) → fails
+  pub full : (CanRecord old.made bytes → ⊥) → fails
+  pub alone : IsFalse (is_listed old) → CanRecord old.made bytes → fails → ⊥
+  pub list : new.failing.items ≡ old.failing.items
+  pub capacity : new.made.capacity ≡ old.made.capacity
 
 -- A write of n bytes at the address is in the record, with the bytes that it replaces.
 abbrev pub RecordsWrite : ℕ → ℕ → MemDisk → MemDisk → Type 0

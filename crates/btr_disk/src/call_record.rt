@@ -1,5 +1,5 @@
 //! What a device in memory remembers of its calls. The memory for it is allocated when the device is made.
-ghost use Rattle.std.specs.Prelude.{◌≡◌, ◌+◌, ◌-◌, ◌^◌, ◌<◌, ◌≤◌, ℕ, min, [], ◌++◌, ◌↔◌, true, length, IfOk, IsTrue, MatchBool};
+ghost use Rattle.std.specs.Prelude.{◌≡◌, ◌+◌, ◌-◌, ◌*◌, ◌^◌, ◌<◌, ◌≤◌, ℕ, min, [], ◌++◌, ◌↔◌, true, length, IfOk, IsTrue, MatchBool};
 ghost use Rattle.std.specs.Prelude.{vec_len, vec_capacity};
 ghost use Rattle.btr_disk.specs.Torn.{IsUntorn};
 
@@ -28,11 +28,15 @@ pub(crate) struct CallRecord {
     unrecorded: u64,
     /// The blocks that these calls wrote.
     torn: TornBlocks,
+    /// How much it can hold.
+    capacity: Capacity,
+    ghost addressable: { capacity.blocks ≤ 2 ^ 32 },
+    ghost room_for_calls: { capacity.calls ≤ vec_capacity calls },
+    ghost room_for_blocks: { 4096 * capacity.blocks ≤ vec_capacity replaced },
     ghost untorn: { unrecorded ≡ 0 → IsUntorn torn.flags.items },
 }
 
 impl CallRecord {
-    ghost use Rattle.std.specs.Prelude.{◌*◌};
     ghost use Rattle.btr_disk.specs.Fill.{FillsWhere, IsLooseAt, HasFill};
     ghost use Rattle.btr_disk.specs.Bytes.{AreBytes};
     ghost use Rattle.btr_disk.specs.Replay.{WasAtLastSync, is_replayable};
@@ -55,6 +59,7 @@ impl CallRecord {
             replaced: Vec::with_capacity(alloc, capacity.blocks * BLOCK)?,
             unrecorded: 0,
             torn: TornBlocks::new(alloc, blocks)?,
+            capacity,
         })
     }
 
@@ -76,10 +81,11 @@ impl CallRecord {
     fn has_room(&self, bytes: usize) -> bool
         ensures { IsTrue result ↔ CanRecord self.now bytes }
     {
+        let most = self.capacity.blocks * BLOCK;
         self.unrecorded == 0
-            && self.calls.len() < self.calls.capacity()
-            && self.replaced.len() <= self.replaced.capacity()
-            && bytes <= self.replaced.capacity() - self.replaced.len()
+            && self.calls.len() < self.capacity.calls
+            && self.replaced.len() <= most
+            && bytes <= most - self.replaced.len()
     }
 
     /// Marks `count` blocks from `first` on as torn by a write that is not in the record.
@@ -131,6 +137,14 @@ impl CallRecord {
         ensures are_bytes { AreBytes (contents_of bytes.new) }
     {
         undo_calls(bytes, &self.calls, &self.replaced);
+    }
+
+    /// How much it can hold, as it was made.
+    pub(crate) fn capacity(&self) -> Capacity
+        ensures value { result ≡ self.now.capacity }
+        ensures addressable { result.blocks ≤ 2 ^ 32 }
+    {
+        self.capacity
     }
 
     /// The number of calls in the record.

@@ -35,9 +35,6 @@ pub struct MemDisk {
     made: CallRecord,
     failing: Vec<u64>,
     faults: u64,
-    /// What it was made with.
-    room: Capacity,
-    ghost room_fits: { room.blocks ≤ 2 ^ 32 },
     ghost are_bytes: { (k : ℕ) → slice_index bytes.items k < 256 },
     ghost whole_blocks: { length bytes.items ≡ 4096 * length made.torn.flags.items },
     ghost replayable: { is_replayable (newest_first made) (length made.replaced.items) (length bytes.items) ≡ true },
@@ -102,7 +99,6 @@ impl MemDisk {
             made: CallRecord::new(alloc, capacity, blocks)?,
             failing,
             faults: 0,
-            room: capacity,
         })
     }
 
@@ -121,10 +117,10 @@ impl MemDisk {
         ensures settled { IfOk result (λ image. Only (⟦<MemDisk as Disk>⟧.contents image) (⟦<MemDisk as Disk>⟧.images_now image)) }
         ensures unused { IfOk result (λ image. (⟦<MemDisk as Disk>⟧.calls image ≡ 0) × (⟦<MemDisk as Disk>⟧.faults image ≡ 0)) }
         ensures failing { IfOk result (λ image. image.failing.items ≡ []) }
-        ensures capacity { IfOk result (λ image. HasCapacity self.now.room.calls self.now.room.blocks image.made) }
+        ensures capacity { IfOk result (λ image. HasCapacity self.now.made.capacity.calls self.now.made.capacity.blocks image.made) }
     {
         let bytes = self.filled(alloc, fill)?;
-        MemDisk::from_bytes(alloc, bytes, self.room, Vec::new(alloc))
+        MemDisk::from_bytes(alloc, bytes, self.made.capacity(), Vec::new(alloc))
     }
 
     /// The bytes of that image.
@@ -177,7 +173,7 @@ impl MemDisk {
         ensures bytes { self.new.bytes.items ≡ self.old.bytes.items }
         ensures calls { Counted (call_count self.old.made) (call_count self.new.made) }
         ensures cause { HasCause self.old.faults self.new.faults result }
-        ensures fails { FailsAsListed count self.old (IsErr result) }
+        ensures fails { FailsAsListed count self.old self.new (IsErr result) }
         ensures recorded { OnOk result (RecordsWrite (4096 * first) count self.old self.new) }
         ensures images { OnErr result (Tears (4096 * first) count (images_of self.old) (images_of self.new)) }
         ensures time { OnErr result
@@ -281,13 +277,13 @@ impl Disk for MemDisk {
         (self.bytes.len() / BLOCK) as u64
     }
 
-    /// The clauses of the trait, and one more: which calls fail.
+    /// The clauses of the trait, and one more: which calls fail, and that this list and the capacity stay.
     fn read(&mut self, first: u64, buf: &mut [u8]) -> Result<(), Failed>
         requires { IsBlockRange (length self.old.bytes.items / 4096) first (length buf.old) }
         ensures size { length self.new.bytes.items / 4096 ≡ length self.old.bytes.items / 4096 }
         ensures calls { Counted (call_count self.old.made) (call_count self.new.made) }
         ensures cause { HasCause self.old.faults self.new.faults result }
-        ensures fails { FailsAsListed 0 self.old (IsErr result) }
+        ensures fails { FailsAsListed 0 self.old self.new (IsErr result) }
         ensures bytes { OnOk result (Has (contents_of self.old.bytes.items) (4096 * first) buf.new) }
         ensures contents { Same (contents_of self.old.bytes.items) (contents_of self.new.bytes.items) }
         ensures images { SameImages (images_of self.old) (images_of self.new) }
@@ -305,13 +301,13 @@ impl Disk for MemDisk {
         Ok(())
     }
 
-    /// The clauses of the trait, and one more: which calls fail.
+    /// The clauses of the trait, and one more: which calls fail, and that this list and the capacity stay.
     fn write(&mut self, first: u64, bytes: &[u8]) -> Result<(), Failed>
         requires { IsBlockRange (length self.old.bytes.items / 4096) first (length bytes.now) }
         ensures size { length self.new.bytes.items / 4096 ≡ length self.old.bytes.items / 4096 }
         ensures calls { Counted (call_count self.old.made) (call_count self.new.made) }
         ensures cause { HasCause self.old.faults self.new.faults result }
-        ensures fails { FailsAsListed (length bytes.now) self.old (IsErr result) }
+        ensures fails { FailsAsListed (length bytes.now) self.old self.new (IsErr result) }
         ensures written { OnOk result (Has (contents_of self.new.bytes.items) (4096 * first) bytes.now) }
         ensures elsewhere { SameBut (4096 * first) (length bytes.now)
             (contents_of self.old.bytes.items) (contents_of self.new.bytes.items) }
@@ -323,14 +319,14 @@ impl Disk for MemDisk {
         Ok(())
     }
 
-    /// The clauses of the trait, and one more: which calls fail.
+    /// The clauses of the trait, and one more: which calls fail, and that this list and the capacity stay.
     fn write_parts<S: Supply>(&mut self, first: u64, front: &Parts, rest: &S) -> Result<(), Failed>
         requires able { S.can_work }
         requires range { IsBlockRange (length self.old.bytes.items / 4096) first (length (front.now ++ S.bytes rest.now)) }
         ensures size { length self.new.bytes.items / 4096 ≡ length self.old.bytes.items / 4096 }
         ensures calls { Counted (call_count self.old.made) (call_count self.new.made) }
         ensures cause { HasCause self.old.faults self.new.faults result }
-        ensures fails { FailsAsListed (length (front.now ++ S.bytes rest.now)) self.old (IsErr result) }
+        ensures fails { FailsAsListed (length (front.now ++ S.bytes rest.now)) self.old self.new (IsErr result) }
         ensures written { OnOk result (Has (contents_of self.new.bytes.items) (4096 * first) (front.now ++ S.bytes rest.now)) }
         ensures elsewhere { SameBut (4096 * first) (length (front.now ++ S.bytes rest.now))
             (contents_of self.old.bytes.items) (contents_of self.new.bytes.items) }
@@ -344,12 +340,12 @@ impl Disk for MemDisk {
         Ok(())
     }
 
-    /// The clauses of the trait, and one more: which calls fail.
+    /// The clauses of the trait, and one more: which calls fail, and that this list and the capacity stay.
     fn sync(&mut self) -> Result<(), Failed>
         ensures size { length self.new.bytes.items / 4096 ≡ length self.old.bytes.items / 4096 }
         ensures calls { Counted (call_count self.old.made) (call_count self.new.made) }
         ensures cause { HasCause self.old.faults self.new.faults result }
-        ensures fails { FailsAsListed 0 self.old (IsErr result) }
+        ensures fails { FailsAsListed 0 self.old self.new (IsErr result) }
         ensures contents { Same (contents_of self.old.bytes.items) (contents_of self.new.bytes.items) }
         ensures synced { OnOk result (Only (contents_of self.new.bytes.items) (images_of self.new)) }
         ensures unsynced { OnErr result (SameImages (images_of self.old) (images_of self.new)) }
