@@ -1,8 +1,9 @@
 -- What is found at a gate in the blocks that a piece holds.
-use Rattle.std.specs.Prelude.{ℕ, ◌+◌, ◌*◌, Option, None, Some}
+use Rattle.std.specs.Prelude.{◌≡◌, ℕ, ◌+◌, ◌-◌, ◌*◌, ◌≤◌, min, Option, None, Some, Result, IfOk}
 use Rattle.btr_disk.specs.Bytes.{Image, Has}
 use Rattle.btr_disk.specs.Gate.{IsOpen, IsClosed}
 use Rattle.btr_log.specs.declared.head.Head.{Head}
+use Rattle.btr_log.specs.declared.found.ExtentFault.{ExtentFault}
 use Rattle.btr_log.specs.Found.{IsWholeExtent}
 use Rattle.btr_log.specs.Piece.{PieceValue, HoldsBlocks, bytes_at}
 
@@ -20,3 +21,13 @@ HoldsWhole blocks gate piece (Some head) = HoldsExtent blocks gate piece head
 abbrev pub MatchesPiece : Image → ℕ → PieceValue → Option Head → Type 0
 MatchesPiece image gate piece None = IsClosed image gate
 MatchesPiece image gate piece (Some head) = IsOpen image gate × Has image (4096 * (gate + 1)) (bytes_at piece (gate + 1) head.n)
+
+-- The number of blocks from the gate on that say what is found: the gate and the block after it, or the gate and its extent.
+abbrev pub found_blocks : ℕ → ℕ → Option Head → ℕ
+found_blocks blocks gate None = min 2 (blocks - gate)
+found_blocks blocks gate (Some head) = head.n + 1
+
+-- At most two calls of the device were made, and none if the piece held all blocks that say what is found.
+pub record ReadsAhead (blocks gate : ℕ) (piece : PieceValue) (r : Result (Option Head) ExtentFault) (before after : ℕ) : Type 0 where
+  pub most : after ≤ before + 2
+  pub none : IfOk r (λ found. HoldsBlocks piece gate (found_blocks blocks gate found) → after ≡ before)

@@ -1,5 +1,5 @@
 -- Pieces: runs of blocks that were read from a device and are kept, and what they hold.
-use Rattle.std.specs.Prelude.{ℕ, ◌+◌, ◌-◌, ◌*◌, ◌≤◌, List, [], length, take, drop}
+use Rattle.std.specs.Prelude.{◌≡◌, ℕ, ◌+◌, ◌-◌, ◌*◌, ◌≤◌, List, [], length, take, drop}
 use Rattle.btr_disk.specs.Bytes.{Image, Has}
 
 -- The first block of a piece, and its bytes.
@@ -19,6 +19,11 @@ IsPieceOf image p = Has image (4096 * p.first) p.bytes
 pub record HoldsBlocks (p : PieceValue) (block count : ℕ) : Type 0 where
   pub begins : p.first ≤ block
   pub ends : 4096 * (block + count) ≤ 4096 * p.first + length p.bytes
+
+-- At most one call of the device was made, and none if the piece held the blocks: then it stays.
+pub record ReadsIfNotHeld (held : Type 0) (old new : PieceValue) (before after : ℕ) : Type 0 where
+  pub most : after ≤ before + 1
+  pub none : held → (new ≡ old) × (after ≡ before)
 
 -- The bytes of the `count` blocks from this one on.
 abbrev pub bytes_at : PieceValue → ℕ → ℕ → List ℕ

@@ -4,8 +4,8 @@ ghost use Rattle.btr_disk.specs.Causes.{KeepsCounts};
 ghost use Rattle.btr_disk.specs.Moments.{WroteNothing};
 ghost use Rattle.btr_log.specs.Log.{log_device, log_blocks, KeepsLog, KeepsDevice, LogWroteNothing};
 ghost use Rattle.btr_log.specs.Found.{FindCause, ExtentCause, StartSays};
-ghost use Rattle.btr_log.specs.Piece.{IsPieceOf, HoldsBlocks, bytes_at};
-ghost use Rattle.btr_log.specs.Ahead.{HoldsWhole, MatchesPiece};
+ghost use Rattle.btr_log.specs.Piece.{IsPieceOf, HoldsBlocks, ReadsIfNotHeld, bytes_at};
+ghost use Rattle.btr_log.specs.Ahead.{HoldsWhole, MatchesPiece, ReadsAhead};
 
 use crate::read::{start_blocks, start_of};
 use crate::{ExtentFault, Head, Log, Piece};
@@ -23,8 +23,8 @@ impl<D: Disk> Log<D> {
     /// mebibyte, and one more for each larger extent.
     ///
     /// It makes at most two calls of the device: one if the gate and the block after it are not in the piece,
-    /// and one if the body is not. The piece takes at most 1 MiB of memory, or the bytes of the largest extent,
-    /// and uses its memory again.
+    /// and one if the body is not. If the piece holds all blocks that say what is found, it makes none. The piece
+    /// takes at most 1 MiB of memory, or the bytes of the largest extent, and uses its memory again.
     ///
     /// `Damaged` is returned only if the gate is open and the named block breaks the format, or if the device
     /// does not return the same bytes in both calls. `Fault` is returned only if a call of the device failed.
@@ -34,7 +34,8 @@ impl<D: Disk> Log<D> {
         requires piece { D.is_observable → IsPieceOf (D.contents (log_device self.old)) piece.old }
         ensures kept { KeepsLog self.old self.new }
         ensures log_device { KeepsDevice self.old self.new }
-        ensures calls { D.calls (log_device self.new) ≤ D.calls (log_device self.old) + 2 }
+        ensures calls { ReadsAhead (log_blocks self.old) gate piece.old result
+            (D.calls (log_device self.old)) (D.calls (log_device self.new)) }
         ensures unwritten { D.is_observable → LogWroteNothing self.old self.new }
         ensures piece { D.is_observable → IsPieceOf (D.contents (log_device self.new)) piece.new }
         ensures whole { IfOk result (HoldsWhole (log_blocks self.old) gate piece.new) }
@@ -72,7 +73,7 @@ fn hold_start<D: Disk>(
     requires addressable { blocks ≤ 2 ^ 32 }
     requires piece { D.is_observable → IsPieceOf (D.contents disk.old) piece.old }
     ensures counts { KeepsCounts D.size D.calls D.faults disk.old disk.new }
-    ensures call { D.calls disk.new ≤ D.calls disk.old + 1 }
+    ensures call { ReadsIfNotHeld (HoldsBlocks piece.old gate count) piece.old piece.new (D.calls disk.old) (D.calls disk.new) }
     ensures unwritten { D.is_observable → WroteNothing D.calls D.contents D.images_now D.images_since disk.old disk.new }
     ensures piece { D.is_observable → IsPieceOf (D.contents disk.new) piece.new }
     ensures held { OnOk result (HoldsBlocks piece.new gate count) }

@@ -4,7 +4,7 @@ ghost use Rattle.btr_disk.specs.Bytes.{IsBlockRange};
 ghost use Rattle.btr_disk.specs.Causes.{KeepsCounts};
 ghost use Rattle.btr_disk.specs.Moments.{WroteNothing};
 ghost use Rattle.btr_log.specs.Found.{ReadCause};
-ghost use Rattle.btr_log.specs.Piece.{empty_piece, bytes_at, IsPieceOf, HoldsBlocks};
+ghost use Rattle.btr_log.specs.Piece.{empty_piece, bytes_at, IsPieceOf, HoldsBlocks, ReadsIfNotHeld};
 
 use crate::ExtentFault;
 use btr_disk::{BLOCK, Disk};
@@ -42,7 +42,7 @@ impl Piece {
 
     /// Returns whether the piece holds the `count` blocks from this one on.
     pub fn holds(&self, block: u64, count: u64) -> bool
-        ensures { IsTrue result → HoldsBlocks self.now block count }
+        ensures { IsTrue result ↔ HoldsBlocks self.now block count }
     {
         let held = (self.bytes.len() / BLOCK) as u64;
         block >= self.first && block - self.first <= held && count <= held - (block - self.first)
@@ -59,8 +59,8 @@ impl Piece {
 
     /// Makes the piece hold the `count` blocks from this one on, of a log of `blocks` blocks on the device.
     ///
-    /// If it does not hold all of them, it reads from this block on in one call, and holds nothing else then.
-    /// After an `Err` it is as before, or has no block.
+    /// If it holds all of them, it makes no call of the device, and stays. Else it reads from this block on in one call, and holds
+    /// nothing else then. After an `Err` it is as before, or has no block.
     pub(crate) fn hold<D: Disk>(
         &mut self,
         disk: &mut D,
@@ -73,7 +73,7 @@ impl Piece {
         requires blocks { blocks ≤ D.size disk.old }
         requires addressable { blocks ≤ 2 ^ 32 }
         ensures counts { KeepsCounts D.size D.calls D.faults disk.old disk.new }
-        ensures call { D.calls disk.new ≤ D.calls disk.old + 1 }
+        ensures call { ReadsIfNotHeld (HoldsBlocks self.old block count) self.old self.new (D.calls disk.old) (D.calls disk.new) }
         ensures unwritten { D.is_observable → WroteNothing D.calls D.contents D.images_now D.images_since disk.old disk.new }
         ensures piece { D.is_observable → IsPieceOf (D.contents disk.old) self.old → IsPieceOf (D.contents disk.new) self.new }
         ensures held { OnOk result (HoldsBlocks self.new block count) }

@@ -6,7 +6,8 @@ use Rattle.btr_disk.specs.Bytes.{Same}
 use Rattle.btr_disk.proofs.ByteLemmas.{Same-trans}
 use Rattle.btr_log.specs.declared.head.Head.{Head}
 use Rattle.btr_log.specs.Found.{StartSays, IsOpenStart}
-use Rattle.btr_log.proofs.PieceLemmas.{start_bytes, length-start, min_few, Has-start, closed-start, holds-extent, matches-extent, FindCause-before, one-start}
+use Rattle.btr_log.specs.Piece.{HoldsBlocks}
+use Rattle.btr_log.proofs.PieceLemmas.{start_bytes, length-start, min_few, Has-start, closed-start, fewer, holds-extent, matches-extent, FindCause-before, one-start}
 use Rattle.btr_log.proofs.log.Log.read_ahead.Given.{Over}
 use Rattle.btr_log.proofs.log.Log.read_ahead.Goals.{In-Some, in_default-2-via-in-Some-2+else-again-head, in_default-2-via-in_default-2}
 use Rattle.btr_log.proofs.log.Log.read_ahead.Goals as goal
@@ -34,15 +35,54 @@ few g c = min_few (c.args.self.now.blocks - c.args.gate) c.in-Some.head.n (omega
 pub returns-then-holds-clause-whole : goal.returns-then-holds-clause-whole
 returns-then-holds-clause-whole g c =
     let at = (goal.at.returns-then-holds-clause-whole g c).In-Some in
-    holds-extent c.hold_start.new.piece c.args.self.now.blocks c.args.gate (c.in-Some.head.n + 1) (few g at) (c.holds.ensures c.if-holds.true) c.in-Some.head (start g at) (omega arith)
+    holds-extent c.hold_start.new.piece c.args.self.now.blocks c.args.gate (c.in-Some.head.n + 1) (few g at) (c.holds.ensures.0 c.if-holds.true) c.in-Some.head (start g at) (omega arith)
 
 pub returns-then-holds-clause-matches : goal.returns-then-holds-clause-matches
 returns-then-holds-clause-matches g c reported =
     let disk = g.D.Disk in
     let at = (goal.at.returns-then-holds-clause-matches g c).In-Some in
     let ok = c.in_ok-head.ensures in
-    matches-extent c.hold_start.new.piece c.args.self.now.blocks c.args.gate (c.in-Some.head.n + 1) (few g at) (c.holds.ensures c.if-holds.true) c.in-Some.head (start g at)
+    matches-extent c.hold_start.new.piece c.args.self.now.blocks c.args.gate (c.in-Some.head.n + 1) (few g at) (c.holds.ensures.0 c.if-holds.true) c.in-Some.head (start g at)
     (disk.contents c.args.self.now.disk) (disk.contents c.hold_start.new.disk) (ok.unwritten reported).same (ok.piece reported) (omega arith)
+
+pub returns-in_default-clause-calls : goal.returns-in_default-clause-calls
+returns-in_default-clause-calls g c =
+    let a = c.args in
+    let count = c.start_blocks-count.result in
+    let first = c.in_ok-head.ensures.call in
+    record {
+      most = omega (arith, first.most);
+      none = λ holds.
+          (first.none (fewer a.piece.now a.gate count (min 2 (a.self.now.blocks - a.gate)) (omega (arith, c.start_blocks-count.ensures)) holds)).1;
+    }
+
+pub returns-then-holds-clause-calls : goal.returns-then-holds-clause-calls
+returns-then-holds-clause-calls g c =
+    let a = c.args in
+    let at = (goal.at.returns-then-holds-clause-calls g c).In-Some in
+    let count = c.start_blocks-count.result in
+    let first = c.in_ok-head.ensures.call in
+    record {
+      most = omega (arith, first.most);
+      none = λ holds.
+          (first.none (fewer a.piece.now a.gate count (c.in-Some.head.n + 1) (omega (arith, c.start_blocks-count.ensures, few g at)) holds)).1;
+    }
+
+pub returns-in-Some-2-clause-calls : goal.returns-in-Some-2-clause-calls
+returns-in-Some-2-clause-calls g c =
+    let a = c.args in
+    let at = (goal.at.returns-in-Some-2-clause-calls g c).In-Some in
+    let count = c.start_blocks-count.result in
+    let most = c.in-Some.head.n + 1 in
+    let first = c.in_ok-head.ensures.call in
+    let second = c.in_ok-again.ensures.call in
+    record {
+      most = omega (arith, first.most, second.most);
+      none = λ holds.
+          let held = fewer a.piece.now a.gate most (c.in-Some-2.again.n + 1) (omega (arith, c.if-again-head.true)) holds in
+          let before = first.none (fewer a.piece.now a.gate count most (omega (arith, c.start_blocks-count.ensures, few g at)) held) in
+          (second.none (subst (λ p. HoldsBlocks p a.gate most) (sym before.0) held)).1 ∙ before.1;
+    }
 
 pub returns-in_err-again-clause-cause : goal.returns-in_err-again-clause-cause
 returns-in_err-again-clause-cause g c =

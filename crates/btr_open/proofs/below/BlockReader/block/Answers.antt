@@ -8,7 +8,7 @@ pub returns-then-holds-clause-bytes : goal.returns-then-holds-clause-bytes
 returns-then-holds-clause-bytes g c reported =
     let image = g.D.Disk.contents c.args.disk.now in
     let piece = c.args.self.now.ahead in
-    subst (IsDeviceBlock image c.args.block) (sym c.held.ensures) (block-held piece c.args.block (c.holds.ensures c.if-holds.true) image (c.requires.reader.holds reported).ahead)
+    subst (IsDeviceBlock image c.args.block) (sym c.held.ensures) (block-held piece c.args.block (c.holds.ensures.0 c.if-holds.true) image (c.requires.reader.holds reported).ahead)
 
 pub returns-then-block-self-clause-reads : goal.returns-then-block-self-clause-reads
 returns-then-block-self-clause-reads g c =
