@@ -12,7 +12,7 @@ use btr_base::Point;
 use std::alloc::AllocError;
 
 /// Appends the page of a leaf with these fields and points, and unused places after them. It takes time linear in the points, and
-/// that of 4096 bytes of zeros. An `Err` is out of memory, and some of the bytes may have been appended.
+/// that of 4096 bytes of zeros. An `Err` is out of memory, and says nothing of what was appended.
 pub fn append_leaf(to: &mut Vec<u8>, front: &Front, points: &[Point]) -> Result<(), AllocError>
     requires few { length points.now ≤ 252 }
     ensures { OnOk result (to.new.items ≡ to.old.items
@@ -24,14 +24,15 @@ pub fn append_leaf(to: &mut Vec<u8>, front: &Front, points: &[Point]) -> Result<
 }
 
 /// Appends the first 64 bytes of the page of an inner node with these fields: 64 slots follow them, and then its end. It takes
-/// constant time. An `Err` is out of memory, and nothing was appended.
+/// constant time. An `Err` is out of memory, and says nothing of what was appended.
 pub fn append_inner_front(to: &mut Vec<u8>, front: &Front) -> Result<(), AllocError>
     ensures { OnOk result (to.new.items ≡ to.old.items ++ (codes "BTR-NODE" ++ front_bytes front.now)) }
 {
     append_front(to, &NODE_MARK, front)
 }
 
-/// Appends a slot of the page of an inner node. It takes constant time. An `Err` is out of memory, and nothing was appended.
+/// Appends a slot of the page of an inner node. It takes constant time. An `Err` is out of memory, and says nothing of what was
+/// appended.
 pub fn append_slot(to: &mut Vec<u8>, slot: &PageSlot) -> Result<(), AllocError>
     ensures { OnOk result (to.new.items ≡ to.old.items ++ slot_bytes slot.now) }
 {
@@ -41,14 +42,14 @@ pub fn append_slot(to: &mut Vec<u8>, slot: &PageSlot) -> Result<(), AllocError>
 }
 
 /// Appends the zeros that follow the slots of the page of an inner node. It takes constant time. An `Err` is out of memory, and
-/// nothing was appended.
+/// says nothing of what was appended.
 pub fn append_inner_end(to: &mut Vec<u8>) -> Result<(), AllocError>
     ensures { OnOk result (to.new.items ≡ to.old.items ++ zeros 448) }
 {
     append_zeros(to, 448)
 }
 
-/// Appends a mark and the fields of both kinds. An `Err` is out of memory, and nothing was appended.
+/// Appends a mark and the fields of both kinds. An `Err` is out of memory.
 fn append_front(to: &mut Vec<u8>, mark: &[u8; 8], front: &Front) -> Result<(), AllocError>
     ensures { OnOk result (to.new.items ≡ to.old.items ++ (mark.now ++ front_bytes front.now)) }
 {
@@ -58,7 +59,7 @@ fn append_front(to: &mut Vec<u8>, mark: &[u8; 8], front: &Front) -> Result<(), A
     to.extend_from_slice(&bytes)
 }
 
-/// Appends points. An `Err` is out of memory, and some of them may have been appended.
+/// Appends points. An `Err` is out of memory.
 fn append_points(to: &mut Vec<u8>, points: &[Point]) -> Result<(), AllocError>
     ensures { OnOk result (to.new.items ≡ to.old.items ++ flat_map point_bytes points.now) }
 {
@@ -68,7 +69,7 @@ fn append_points(to: &mut Vec<u8>, points: &[Point]) -> Result<(), AllocError>
     Ok(())
 }
 
-/// Appends a point. An `Err` is out of memory, and nothing was appended.
+/// Appends a point. An `Err` is out of memory.
 fn append_point(to: &mut Vec<u8>, point: &Point) -> Result<(), AllocError>
     ensures { OnOk result (to.new.items ≡ to.old.items ++ point_bytes point.now) }
 {
