@@ -1,4 +1,6 @@
 //! The times at which a cut is parted.
+ghost use Rattle.std.specs.Prelude.{◌≡◌, ◌+◌, ◌-◌, ◌/◌, ◌<◌, ◌≤◌, length, min, IfOk};
+
 use btr_base::{Range, Ranges};
 use btr_tree::{Label, Steps, Tree};
 use btr_window::aggregate;
@@ -25,7 +27,10 @@ pub(crate) fn split_times(
     tree: &Tree,
     cut: &Ranges,
     threads: usize,
-) -> Result<Vec<i64>, AllocError> {
+) -> Result<Vec<i64>, AllocError>
+    ensures most { IfOk result (λ times. length times.items < 64) }
+    ensures threads { IfOk result (λ times. length times.items ≤ threads - 1) }
+{
     let mut times = Vec::new(alloc);
     if part_count(tree.count(), threads) <= 1 {
         return Ok(times);
@@ -41,7 +46,9 @@ pub(crate) fn split_times(
 }
 
 /// How many parts are made of this many points.
-fn part_count(points: u64, threads: usize) -> u64 {
+fn part_count(points: u64, threads: usize) -> u64
+    ensures { result ≡ min (min (points / 5000) 64) threads }
+{
     (points / LEAST_POINTS).min(MOST_PARTS).min(threads as u64)
 }
 
