@@ -32,7 +32,7 @@ use Rattle.btr_store.specs.declared.transcript.Transcript.{Transcript}
 use Rattle.btr_live.specs.Reasons.{reason_of_step, reason_of_landing}
 use Rattle.btr_store.specs.Status.{status_rank, greater, greatest_of_lines, status_of_reason, status_of_line}
 use Rattle.btr_store.specs.Transcript.{SaysLines}
-use Rattle.btr_store.specs.Completes.{IsBenign}
+use Rattle.btr_store.specs.Completes.{IsBenign, HasBenignLines}
 use Rattle.btr_store.specs.Distil.{line_of_output, output_line}
 use Rattle.btr_store.specs.Streams.{id_of_stream}
 use Rattle.btr_store.specs.LoadLines.{row_line, batch_spans, outcome_spans, outcome_line, stream_spans, stream_lines, total_line, SaysLoad}
@@ -62,8 +62,13 @@ append_benign [] b first second = second
 append_benign (line ∷ a) b first second = (first.0, append_benign a b first.1 second)
 
 -- What says such lines asks for such a status.
-pub says_benign : (all : List ReportLine) (t : Transcript) → SaysLines all t → AreBenign all → IsBenign t.status
-says_benign all t says each = subst (λ (s : Status). IsBenign s) (sym says.same_status) (greatest_benign Done all (inl refl) each)
+pub says_benign : (all : List ReportLine) (t : Transcript) → SaysLines all t → AreBenign all → HasBenignLines t
+says_benign all t says each = record {
+  lines = all;
+  says = says;
+  each = each;
+  status = subst (λ (s : Status). IsBenign s) (sym says.same_status) (greatest_benign Done all (inl refl) each);
+}
 
 -- ---- entries
 
@@ -124,7 +129,7 @@ streams_benign [] room ran = tt
 streams_benign (s ∷ streams) room ran =
     append_benign (stream_lines s) (flat_map stream_lines streams) (outcome_benign s.rows.id s.batch s.rows.points s.outcome room.0 ran.0) (streams_benign streams room.1 ran.1)
 
-pub load_benign : (l : LoadedValue) (t : Transcript) → SaysLoad l t → AllByRecursion (λ s. OutcomeHadRoom s.outcome) l.streams → AllByRecursion (λ s. OutcomeRan s.outcome) l.streams → IsBenign t.status
+pub load_benign : (l : LoadedValue) (t : Transcript) → SaysLoad l t → AllByRecursion (λ s. OutcomeHadRoom s.outcome) l.streams → AllByRecursion (λ s. OutcomeRan s.outcome) l.streams → HasBenignLines t
 load_benign l t says room ran =
     let rows : List ReportLine = map row_line says.0 in
     let streams : List ReportLine = flat_map stream_lines l.streams in
@@ -206,7 +211,7 @@ summaries_benign : (h : List Entry) (streams : List ℕ) → AreBenign (map (λ 
 summaries_benign h [] = tt
 summaries_benign h (stream ∷ streams) = (inl refl, summaries_benign h streams)
 
-pub sample_benign : (h : List Entry) (l : LoadedValue) (outputs : List DefinedOutput) (report : List refreshed.ReportLine) (t : Transcript) → SaysAll h l outputs report t → AllByRecursion (λ s. OutcomeHadRoom s.outcome) l.streams → AllByRecursion (λ s. OutcomeRan s.outcome) l.streams → AllByRecursion IsCalmOutput outputs → AllByRecursion (λ line. IsCalm line.result) report → IsBenign t.status
+pub sample_benign : (h : List Entry) (l : LoadedValue) (outputs : List DefinedOutput) (report : List refreshed.ReportLine) (t : Transcript) → SaysAll h l outputs report t → AllByRecursion (λ s. OutcomeHadRoom s.outcome) l.streams → AllByRecursion (λ s. OutcomeRan s.outcome) l.streams → AllByRecursion IsCalmOutput outputs → AllByRecursion (λ line. IsCalm line.result) report → HasBenignLines t
 sample_benign h l outputs report t says room ran defined calm =
     let rows : List ReportLine = map row_line says.0 in
     let spans : List ReportLine = flat_map stream_spans l.streams in
@@ -222,5 +227,5 @@ sample_benign h l outputs report t says room ran defined calm =
     (landings_benign h report calm))
     (summaries_benign h (range_with_len 0 (length (ids h)))))
 
-pub used_benign : (entries : ℕ) (t : Transcript) → SaysLines (lines.Used entries ∷ []) t → IsBenign t.status
+pub used_benign : (entries : ℕ) (t : Transcript) → SaysLines (lines.Used entries ∷ []) t → HasBenignLines t
 used_benign entries t says = says_benign (lines.Used entries ∷ []) t says (inr (inl refl), tt)

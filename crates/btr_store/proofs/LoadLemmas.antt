@@ -36,7 +36,7 @@ use Rattle.btr_load.proofs.AlikeLemmas.{loads_alike}
 use Rattle.btr_load.proofs.InOrderLemmas.{loads_in_order}
 use Rattle.btr_store.specs.declared.transcript.Transcript.{Transcript}
 use Rattle.btr_store.specs.LoadLines.{SaysLoad}
-use Rattle.btr_store.specs.Load.{LoadsIf, SaysLoaded, LoadsRows, LoadsRowsInTurn, ArePlain, HadMemoryForAll, LoadsStore}
+use Rattle.btr_store.specs.Load.{LoadsIf, SaysLoaded, SaysSomeLoad, LoadsRows, LoadsRowsInTurn, ArePlain, HadMemoryForAll, LoadsStore}
 use Rattle.btr_store.specs.Work.{AddsAllowed, OwnsEachOnce, Works}
 use Rattle.btr_store.proofs.Allowing.{allows_none, allows_nothing, allows_both, allows_committed_later}
 use Rattle.btr_store.proofs.LoadCompletes.{load_completes}
@@ -78,6 +78,15 @@ module _ {D : Type 0} {disk : Ghosts D} (hall : Hall D disk) (old new : Session 
 still_says : (loaded : Option LoadedValue) (said reported : Result Transcript AllocError) → IfOk reported (λ t. said ≡ Ok t) → SaysLoaded loaded said → SaysLoaded loaded reported
 still_says loaded said (Err error) is says = tt
 still_says loaded said (Ok transcript) is says = subst (λ (s : Result Transcript AllocError). SaysLoaded loaded s) is says
+
+-- What is said in the end is said of a load.
+pub says_some : (loaded : Option LoadedValue) (said reported : Result Transcript AllocError) → IfOk reported (λ t. said ≡ Ok t) → SaysLoaded loaded said → IfOk reported SaysSomeLoad
+says_some loaded said reported is says = by_loaded loaded reported (still_says loaded said reported is says)
+  where
+    by_loaded : (loaded : Option LoadedValue) (reported : Result Transcript AllocError) → SaysLoaded loaded reported → IfOk reported SaysSomeLoad
+    by_loaded loaded (Err error) says = tt
+    by_loaded None (Ok transcript) says = absurd says
+    by_loaded (Some value) (Ok transcript) says = (value, says)
 
 pub loads_reported : (start : StoreState) (log : LogState) (low : List Entry) (rows : RowListValue) (batch : ℕ) (said reported : Result Transcript AllocError) (own : List ℕ) → IfOk reported (λ t. said ≡ Ok t) → LoadsRows start log low rows batch said own → LoadsRows start log low rows batch reported own
 loads_reported start log low rows batch said reported own is did =

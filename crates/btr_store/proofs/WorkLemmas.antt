@@ -1,6 +1,7 @@
 -- Lemmas on work at a hall that was opened and closed, which other crates cite: its begin, and what it did on the device.
 use Rattle.std.specs.Prelude.{◌≡◌, ℕ, ◌≤◌, Bool, true, List, [], ◌∷◌, ◌++◌, length, replicate, None, option_to_list, Result, Ok, Err, IfOk}
 use Rattle.std.specs.declared.alloc.AllocError.{AllocError}
+use Rattle.std.specs.Option.{is_some}
 use Rattle.std.proofs.Common.{zero, suc, refl, sym, ap, ◌∙◌, subst, arith}
 use Rattle.std.proofs.lemmas.List.{append-nil, length-append, length-replicate}
 use Rattle.btr_disk.specs.declared.disk.Disk.{Ghosts}
@@ -67,11 +68,13 @@ pub rose_from : (before old new : ℕ) → before ≤ old → Rose old new → R
 rose_from before old new le rose = omega (arith, le, rose)
 
 -- What holds of each device: the last engine goes on from the one that was opened, and the status is said of it.
-pub plain_on : {D : Type 0} (disk : Ghosts D) (old new : D) (x y : Engine D disk) → IsOpenedEngine disk old x → KeepsOpening x y → new ≡ device y → (said : Result Transcript AllocError) (failed : Bool) → (failed ≡ true → Rose (faults_at_open y) (disk.faults (device y))) → IfOk said (λ t. t.status ≡ DeviceFault → failed ≡ true) → IsPlainWork disk old said new
+pub plain_on : {D : Type 0} (disk : Ghosts D) (old new : D) (x y : Engine D disk) → IsOpenedEngine disk old x → KeepsOpening x y → new ≡ device y → (said : Result Transcript AllocError) (failed : Bool) → (failed ≡ true → Rose (faults_at_open y) (disk.faults (device y))) → IfOk said (λ t. t.status ≡ DeviceFault → failed ≡ true) → IsPlainWork disk old said failed new
 plain_on {D} disk old new x y opened kept out said failed rose asks =
-    subst (λ (d : D). IsPlainWork disk old said d) (sym out) (record {
+    subst (λ (d : D). IsPlainWork disk old said failed d) (sym out) (record {
+      sound = opened.sound;
       same_size = kept.device_kept.same_size ∙ opened.kept.counts.same_size;
       faulted = by_said said asks;
+      stopped = λ is. rose_from (disk.faults old) (faults_at_open y) (disk.faults (device y)) before (rose is);
     })
   where
     before : disk.faults old ≤ faults_at_open y
@@ -84,8 +87,8 @@ plain_on {D} disk old new x y opened kept out said failed rose asks =
 -- ---- the work
 
 -- Work whose entries are allowed, in the only session of a hall of a store of this history that was opened.
-pub does_rightly : {D : Type 0} (disk : Ghosts D) (What : StoreState → LogState → List Entry → List ℕ → Type 0) (old new : D) (hall : Hall D disk) (begun last : Session D disk) → ((start : StoreState) (log : LogState) (own : List ℕ) → What start log start.history own → AddsAllowed log own) → BeginsOn disk old hall begun → (h : List Entry) → IsEngineOf h (opening_of hall) → Does hall begun last What → ((own : List ℕ) → Goes begun last own → Works disk (start_of h hall) (log_seen h last) own old new) → DoesRightly disk (λ start log own. What start log start.history own) old new
-does_rightly disk What old new hall begun last allows on h of does closes =
+pub does_rightly : {D : Type 0} (disk : Ghosts D) (What : StoreState → LogState → List Entry → List ℕ → Type 0) (old new : D) (hall : Hall D disk) (begun last : Session D disk) → ((start : StoreState) (log : LogState) (own : List ℕ) → What start log start.history own → AddsAllowed log own) → BeginsOn disk old hall begun → (h : List Entry) → IsEngineOf h (opening_of hall) → Does hall begun last What → ((own : List ℕ) → Goes begun last own → Works disk (start_of h hall) (log_seen h last) own old new) → (failed : Bool) → failed ≡ is_some (log_seen h last).failed → DoesRightly disk (λ start log own. What start log start.history own) failed old new
+does_rightly disk What old new hall begun last allows on h of does closes failed same_failed =
     let own : List ℕ = does.0 in
     let start : StoreState = start_of h hall in
     let log : LogState = log_seen h last in
@@ -99,6 +102,7 @@ does_rightly disk What old new hall begun last allows on h of does closes =
       own = own;
       works = works;
       what = what;
+      same_failed = same_failed;
       legal = works.legal allowed;
       right = works.right allowed;
       in_flight = works.in_flight allowed;
@@ -117,13 +121,14 @@ works_run disk start log own old new works whole = record {
 }
 
 -- What the work and the law say together of what was done.
-pub does_more : {D : Type 0} (disk : Ghosts D) (What More : StoreState → LogState → List ℕ → Type 0) (old new : D) → ((first : StoreState) (log : LogState) (own : List ℕ) → Works disk first log own old new → (Legal first.history → Legal log.history) → What first log own → More first log own) → DoesRightly disk What old new → DoesRightly disk More old new
-does_more disk What More old new implies does = record {
+pub does_more : {D : Type 0} (disk : Ghosts D) (What More : StoreState → LogState → List ℕ → Type 0) (old new : D) → ((first : StoreState) (log : LogState) (own : List ℕ) → Works disk first log own old new → (Legal first.history → Legal log.history) → What first log own → More first log own) → (failed : Bool) → DoesRightly disk What failed old new → DoesRightly disk More failed old new
+does_more disk What More old new implies failed does = record {
   first = does.first;
   log = does.log;
   own = does.own;
   works = does.works;
   what = implies does.first does.log does.own does.works does.legal does.what;
+  same_failed = does.same_failed;
   legal = does.legal;
   right = does.right;
   in_flight = does.in_flight;

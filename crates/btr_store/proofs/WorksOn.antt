@@ -102,6 +102,15 @@ none_failed : {A : Type 0} (o : Option A) → o ≡ None → is_some o ≡ false
 none_failed None is = refl
 none_failed (Some x) is = absurd (cc)
 
+-- The last engine of a hall whose first one ran is stopped exactly if the device failed in a step.
+pub failed_in_step : {D : Type 0} {disk : Ghosts D} (x y : Engine D disk) (l : List (Item D disk)) → is_stopped x ≡ false → IsTraceOf x l → y ≡ engine_after x l → (h : List Entry) (failed : Bool) → failed ≡ is_stopped y → failed ≡ is_some (log_at h l).failed
+failed_in_step {D} {disk} x y l runs trace ends h failed is =
+    is
+    ∙ ap (λ (e : Engine D disk). is_stopped e) ends
+    ∙ stopped_of_list x l trace
+    ∙ ap (λ (b : Bool). b || has_halt l) runs
+    ∙ sym (failed_halt l)
+
 module _ {D : Type 0} (disk : Ghosts D) (only_now : disk.is_observable → (d : D) (c : Image) → disk.images_since d (disk.calls d) c → disk.images_now d c) (counts_now : disk.is_observable → (d : D) (t : ℕ) (c : Image) → t ≤ disk.calls d → disk.images_now d c → disk.images_since d t c) (old : D) (x : Engine D disk) (opened : IsOpenedEngine disk old x) (h : List Entry) (on : IsOpenedOn disk h x) where
   rest : IsAtRest h x
   rest = on.at_rest

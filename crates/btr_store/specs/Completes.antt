@@ -1,5 +1,6 @@
 -- When no line asks for the status of a full device or of a failed one: there is room, and the device does not fail.
 use Rattle.std.specs.Prelude.{◌≡◌, ◌⊎◌, ℕ, ◌+◌, ◌≤◌, List, [], ◌∷◌, ◌++◌, length, Result, IfOk}
+use Rattle.std.specs.List.{AllByRecursion}
 use Rattle.std.specs.declared.alloc.AllocError.{AllocError}
 use Rattle.btr_hist.specs.declared.entry.Entry.{Entry}
 use Rattle.btr_hist.specs.History.{latest}
@@ -11,10 +12,13 @@ use Rattle.btr_rows.specs.Streams.{RowListValue}
 use Rattle.btr_gate.specs.Prefixes.{StartsWith}
 use Rattle.btr_engine.specs.Body.{needs_of}
 use Rattle.btr_jobs.specs.States.{StoreState}
+use Rattle.btr_report.specs.declared.line.ReportLine.{ReportLine}
 use Rattle.btr_load.specs.Fits.{rows_need}
 use Rattle.btr_store.specs.declared.status.Status.{Status}
 use Rattle.btr_store.specs.declared.status.Status.TheVariants.{Done, Refused, OutOfMemory}
 use Rattle.btr_store.specs.declared.transcript.Transcript.{Transcript}
+use Rattle.btr_store.specs.Status.{status_of_line}
+use Rattle.btr_store.specs.Transcript.{SaysLines}
 
 -- ---- the statuses that are left
 
@@ -22,9 +26,16 @@ use Rattle.btr_store.specs.declared.transcript.Transcript.{Transcript}
 abbrev pub IsBenign : Status → Type 0
 IsBenign status = (status ≡ Done) ⊎ (status ≡ Refused) ⊎ (status ≡ OutOfMemory)
 
--- The lines ask for such a status. Memory may run out for them.
+-- The transcript has these lines, and each of them asks for such a status. So does the transcript.
+pub record HasBenignLines (transcript : Transcript) : Type 0 where
+  pub lines : List ReportLine
+  pub says : SaysLines lines transcript
+  pub each : AllByRecursion (λ line. IsBenign (status_of_line line)) lines
+  pub status : IsBenign transcript.status
+
+-- Each line asks for such a status. Memory may run out for the lines.
 abbrev pub SaysBenign : Result Transcript AllocError → Type 0
-SaysBenign said = IfOk said (λ transcript. IsBenign transcript.status)
+SaysBenign said = IfOk said HasBenignLines
 
 -- ---- room for rows
 

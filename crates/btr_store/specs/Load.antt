@@ -24,6 +24,10 @@ SaysLoaded loaded (Err error) = Unit {0}
 SaysLoaded None (Ok transcript) = ⊥
 SaysLoaded (Some loaded) (Ok transcript) = SaysLoad loaded transcript
 
+-- The transcript has the lines of a load, whatever became of its rows.
+abbrev pub SaysSomeLoad : Transcript → Type 0
+SaysSomeLoad transcript = (loaded : LoadedValue) × SaysLoad loaded transcript
+
 -- Rows were loaded, after all of `low` had been seen, and this was said of them. `own` are the numbers of what was added.
 pub record LoadsRows (start : StoreState) (log : LogState) (low : List Entry) (rows : RowListValue) (batch : ℕ)
     (said : Result Transcript AllocError) (own : List ℕ) : Type 0 where

@@ -1,5 +1,5 @@
 -- What work at a hall of a store leaves on the device: at its end, after each entry, and after a crash at any moment.
-use Rattle.std.specs.Prelude.{◌≡◌, ◌⊎◌, ℕ, ◌+◌, ◌≤◌, true, false, List, [], ◌∷◌, ◌++◌, length, take}
+use Rattle.std.specs.Prelude.{◌≡◌, ◌⊎◌, ℕ, ◌+◌, ◌≤◌, Bool, true, false, List, [], ◌∷◌, ◌++◌, length, take}
 use Rattle.std.specs.Prelude.{Option, Some, None, option_to_list, Result, IfOk}
 use Rattle.std.specs.declared.alloc.AllocError.{AllocError}
 use Rattle.std.specs.Option.{is_some}
@@ -14,6 +14,7 @@ use Rattle.btr_hist.specs.Legal.{Legal, Follows, Allowed}
 use Rattle.btr_hist.specs.Laws.{Right}
 use Rattle.btr_engine.specs.Holds.{HoldsHistory, HoldsHistoryTo}
 use Rattle.btr_engine.specs.Step.{IsBeforeOrAfter, calls_of_step}
+use Rattle.btr_open.specs.Damage.{IsUndamaged}
 use Rattle.btr_gate.specs.Numbers.{one, times, given}
 use Rattle.btr_gate.specs.Prefixes.{StartsWith}
 use Rattle.btr_engine.specs.Body.{needs_of}
@@ -131,13 +132,14 @@ module _ {D : Type 0} (disk : Ghosts D) where
 
   -- Work on the device `old`, of whose start, log and numbers this is true, left the device `new`. Each entry that was added is
   -- allowed: if the history was legal before, it is so still, and each version of each output is right. So it is with the entry in
-  -- whose step the device failed, which a crash may leave after the others.
-  pub record DoesRightly (What : StoreState → LogState → List ℕ → Type 0) (old new : D) : Type 0 where
+  -- whose step the device failed, which a crash may leave after the others. `failed` says whether the device failed in a step.
+  pub record DoesRightly (What : StoreState → LogState → List ℕ → Type 0) (failed : Bool) (old new : D) : Type 0 where
     pub first : StoreState
     pub log : LogState
     pub own : List ℕ
     pub works : Works first log own old new
     pub what : What first log own
+    pub same_failed : failed ≡ is_some log.failed
     pub legal : Legal first.history → Legal log.history
     pub right : Legal first.history → Right log.history
     pub in_flight : Legal first.history → IsRightInFlight log
@@ -146,8 +148,14 @@ module _ {D : Type 0} (disk : Ghosts D) where
   abbrev pub IfHolds : D → Type 0 → Type 0
   IfHolds d P = disk.is_observable → (h : List Entry) → HoldsHistory (disk.size d) (disk.contents d) h → P
 
-  -- What is so of work on each device, also on one that cannot be observed: the device has as many blocks, and if the status says that it
-  -- failed, its count of faults rose.
-  pub record IsPlainWork (old : D) (said : Result Transcript AllocError) (new : D) : Type 0 where
+  -- The device, if it can be observed, had a store, and no block of it was damaged.
+  abbrev pub WasSound : D → Type 0
+  WasSound old = disk.is_observable → IsUndamaged (disk.size old) (disk.contents old)
+
+  -- What is so of work on each device, also on one that holds no history, or that cannot be observed. The store was sound before. The
+  -- device has as many blocks. If the status or `failed` says that it failed, its count of faults rose.
+  pub record IsPlainWork (old : D) (said : Result Transcript AllocError) (failed : Bool) (new : D) : Type 0 where
+    pub sound : WasSound old
     pub same_size : disk.size new ≡ disk.size old
     pub faulted : IfOk said (λ t. t.status ≡ DeviceFault → Rose (disk.faults old) (disk.faults new))
+    pub stopped : failed ≡ true → Rose (disk.faults old) (disk.faults new)

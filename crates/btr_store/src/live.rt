@@ -34,8 +34,8 @@ use std::thread::Threads;
 /// It costs the reading of the store, time linear in the script, and what its lines and rounds need. If there is no memory for the
 /// replies, no line ran; if there is none for their text, all lines ran.
 ///
-/// What is said of histories holds if the device can be observed and held one when it was opened. On each device, if the status says that
-/// it failed, its count of faults rose.
+/// What is said of histories holds if the device can be observed and held one when it was opened. On each device the store was sound when
+/// it was opened, if the device can be observed; and if the status or `failed` says that the device failed, its count of faults rose.
 pub fn live_store<R: Threads + Wait + Sync, D: Disk + Send, P: Pace + Sync>(
     rt: &R,
     alloc: Global,
@@ -47,9 +47,9 @@ pub fn live_store<R: Threads + Wait + Sync, D: Disk + Send, P: Pace + Sync>(
 ) -> Result<Worked<D>, OpenFault<D>>
     requires batch { (1 ≤ batch) × (batch ≤ MAX_COMMIT_POINTS) }
     requires lanes { HaveLanes lines.items }
-    ensures plain { IfOk result (λ w. IsPlainWork ⟦<D as Disk>⟧ disk w.said w.disk) }
+    ensures plain { IfOk result (λ w. IsPlainWork ⟦<D as Disk>⟧ disk w.said w.failed w.disk) }
     ensures done { IfOk result (λ w. IfHolds ⟦<D as Disk>⟧ disk (DoesRightly ⟦<D as Disk>⟧
-        (λ start log own. LivesStore batch materialize lines.items start log w.said own) disk w.disk)) }
+        (λ start log own. LivesStore batch materialize lines.items start log w.said own) w.failed disk w.disk)) }
     ensures refused { IfErr result (IsNotOpened ⟦<D as Disk>⟧ disk) }
 {
     // what holds of all scripts that ran alone

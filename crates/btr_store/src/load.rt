@@ -3,7 +3,7 @@ ghost use Rattle.std.specs.Prelude.{◌≤◌, IfErr, IfOk};
 ghost use Rattle.std.specs.Result.{result_ok};
 ghost use Rattle.btr_open.specs.Opening.{IsNotOpened};
 ghost use Rattle.btr_store.specs.Work.{DoesRightly, IfHolds, IsPlainWork};
-ghost use Rattle.btr_store.specs.Load.{LoadsStore, SaysLoaded};
+ghost use Rattle.btr_store.specs.Load.{LoadsStore, SaysLoaded, SaysSomeLoad};
 
 use crate::load_lines::load_lines;
 use crate::transcript::Transcript;
@@ -33,8 +33,8 @@ use std::thread::Threads;
 /// It costs the reading of the store, time linear in the rows, logarithmic time for each stream and each refused row, and what the
 /// entries need. If there is no memory for the lines, all rows may have been loaded, or none.
 ///
-/// What is said of histories holds if the device can be observed and held one when it was opened. On each device, if the status says that
-/// it failed, its count of faults rose.
+/// What is said of histories holds if the device can be observed and held one when it was opened. On each device the store was sound when
+/// it was opened, if the device can be observed; and if the status or `failed` says that the device failed, its count of faults rose.
 pub fn load_store<R: Threads + Wait + Sync, D: Disk + Send, P: Pace + Sync>(
     rt: &R,
     alloc: Global,
@@ -45,9 +45,10 @@ pub fn load_store<R: Threads + Wait + Sync, D: Disk + Send, P: Pace + Sync>(
     disk: D,
 ) -> Result<Worked<D>, OpenFault<D>>
     requires batch { 1 ≤ batch }
-    ensures plain { IfOk result (λ w. IsPlainWork ⟦<D as Disk>⟧ disk w.said w.disk) }
+    ensures plain { IfOk result (λ w. IsPlainWork ⟦<D as Disk>⟧ disk w.said w.failed w.disk) }
+    ensures says { IfOk result (λ w. IfOk w.said SaysSomeLoad) }
     ensures done { IfOk result (λ w. IfHolds ⟦<D as Disk>⟧ disk (DoesRightly ⟦<D as Disk>⟧
-        (λ start log own. LoadsStore start log rows batch workers w.said own) disk w.disk)) }
+        (λ start log own. LoadsStore start log rows batch workers w.said own) w.failed disk w.disk)) }
     ensures refused { IfErr result (IsNotOpened ⟦<D as Disk>⟧ disk) }
 {
     let (hall, mut session) = open_hall(alloc, disk)?;

@@ -77,8 +77,8 @@ pub(crate) struct Filled {
 /// It costs the reading of the store, time and memory linear in the points, and what the entries need. If there is no memory for the
 /// lines, or for a part of the work, what was done before stays.
 ///
-/// What is said of histories holds if the device can be observed and held one when it was opened. On each device, if the status says that
-/// it failed, its count of faults rose.
+/// What is said of histories holds if the device can be observed and held one when it was opened. On each device the store was sound when
+/// it was opened, if the device can be observed; and if the status or `failed` says that the device failed, its count of faults rose.
 pub fn sample_store<R: Threads + Wait + Sync, D: Disk + Send, P: Pace + Sync>(
     rt: &R,
     alloc: Global,
@@ -88,9 +88,9 @@ pub fn sample_store<R: Threads + Wait + Sync, D: Disk + Send, P: Pace + Sync>(
     pace: &P,
     disk: D,
 ) -> Result<Worked<D>, OpenFault<D>>
-    ensures plain { IfOk result (λ w. IsPlainWork ⟦<D as Disk>⟧ disk w.said w.disk) }
+    ensures plain { IfOk result (λ w. IsPlainWork ⟦<D as Disk>⟧ disk w.said w.failed w.disk) }
     ensures done { IfOk result (λ w. IfHolds ⟦<D as Disk>⟧ disk (DoesRightly ⟦<D as Disk>⟧
-        (λ start log own. SamplesStore number streams points start log w.said own) disk w.disk)) }
+        (λ start log own. SamplesStore number streams points start log w.said own) w.failed disk w.disk)) }
     ensures refused { IfErr result (IsNotOpened ⟦<D as Disk>⟧ disk) }
 {
     let (hall, mut session) = open_hall(alloc, disk)?;

@@ -1,5 +1,6 @@
 //! The begin and the end of work on a store: it is opened and has a hall, and the hall is closed.
 ghost use Rattle.std.specs.Prelude.{◌≡◌, ℕ, true, List, Ok, IfErr, IfOk};
+ghost use Rattle.std.specs.Option.{is_some};
 ghost use Rattle.btr_hist.specs.declared.entry.Entry.{Entry as EntrySpec};
 ghost use Rattle.btr_engine.specs.Engine.{is_home};
 ghost use Rattle.btr_open.specs.declared.opening.OpenCause.TheVariants.{Want};
@@ -25,6 +26,10 @@ use std::alloc::{AllocError, Global};
 pub struct Worked<D> {
     /// The lines that say what was done. An `Err` means that there was no memory to do all of it, or for the lines.
     pub said: Result<Transcript, AllocError>,
+
+    /// Whether the device failed in a step, after which the store took no entry. If nothing is said then, the failure counts more than
+    /// the memory.
+    pub failed: bool,
 
     /// The device, as the calls left it.
     pub disk: D,
@@ -67,8 +72,8 @@ fn begin_hall<D: Disk>(
 /// Closes a hall whose only session is this one, takes the device out, and returns what is said of the work. It takes constant time and no
 /// memory, and does not call the device. What the store leaves in memory is handed back beside the device, and not freed.
 ///
-/// What is said is handed on. But if its status says that the device failed, and no step failed, it is that memory ran out: then the
-/// status is right on each device. It never comes on a device that held a history.
+/// What is said is handed on, and beside it whether the device failed in a step. But if the status says that the device failed, and no
+/// step failed, it is that memory ran out: then the status is right on each device. It never comes on a device that held a history.
 ///
 /// If the hall was opened by [`open_hall`], its contract says what the work at the hall left on the device, also after a crash at any
 /// moment.
@@ -80,7 +85,10 @@ pub fn close_hall<D: Disk>(
     requires at { IsAt hall session }
     requires alone { IsAlone session }
     ensures said { IfOk result.said (λ t. said ≡ Ok t) }
-    ensures plain { (old : D) → IsOpenedEngine ⟦<D as Disk>⟧ old (opening_of hall) → IsPlainWork ⟦<D as Disk>⟧ old result.said result.disk }
+    ensures failed { (old : D) → IsOpenedEngine ⟦<D as Disk>⟧ old (opening_of hall) → (h : List EntrySpec)
+        → result.failed ≡ is_some (log_seen h session).failed }
+    ensures plain { (old : D) → IsOpenedEngine ⟦<D as Disk>⟧ old (opening_of hall)
+        → IsPlainWork ⟦<D as Disk>⟧ old result.said result.failed result.disk }
     ensures works { (old : D) (opened : IsOpenedEngine ⟦<D as Disk>⟧ old (opening_of hall)) (begun : SessionSpec D ⟦<D as Disk>⟧)
         (own : List ℕ) → Begins (opening_of hall) hall begun → Goes begun session own
         → (h : List EntrySpec) → IsOpenedOn ⟦<D as Disk>⟧ h (opening_of hall)
@@ -91,6 +99,7 @@ pub fn close_hall<D: Disk>(
     let (disk, remains) = engine.into_parts();
     Worked {
         said: confirmed(said, failed),
+        failed,
         disk,
         remains,
     }

@@ -1,6 +1,7 @@
 -- Lines that were answered as questions, one line more, and the device that holds the history.
-use Rattle.std.specs.Prelude.{◌≡◌, ◌⊎◌, List, [], ◌∷◌, ◌++◌}
-use Rattle.std.proofs.Common.{sym, subst, ⊎_elim}
+use Rattle.std.specs.Prelude.{◌≡◌, ◌⊎◌, List, [], ◌∷◌, ◌++◌, length}
+use Rattle.std.proofs.Common.{refl, sym, subst, arith, ⊎_elim}
+use Rattle.std.proofs.lemmas.List.{length-append}
 use Rattle.btr_disk.specs.declared.disk.Disk.{Ghosts}
 use Rattle.btr_hist.specs.declared.entry.Entry.{Entry}
 use Rattle.btr_text.specs.declared.script.ScriptLine.{ScriptLine}
@@ -16,7 +17,7 @@ use Rattle.btr_top.specs.declared.ending.Ending.TheVariants.{OutOfMemory, Replie
 use Rattle.btr_live.specs.Meaning.{question}
 use Rattle.btr_live.specs.Serving.{IsAnswerOrNoMemory}
 use Rattle.btr_store.specs.Replies.{IsTranscript, AddsReply}
-use Rattle.btr_top.specs.Ask.{AnswersEach, AnswersAll, WereAnswered, QuestionsCause, HasAnswered}
+use Rattle.btr_top.specs.Ask.{AnswersEach, AnswersAll, RepliesEach, WereAnswered, QuestionsCause, HasAnswered}
 
 AnswersEach-push : (h : List Entry) (lines : List ScriptLine) (replies : List LineReply) (line : ScriptLine) (reply : LineReply) → AnswersEach h lines replies → IsAnswerOrNoMemory h (question h line.line) reply → AnswersEach h (lines ++ line ∷ []) (replies ++ reply ∷ [])
 AnswersEach-push h [] [] line reply answers one = (one, tt)
@@ -28,7 +29,20 @@ AnswersEach-push h (l ∷ lines) (r ∷ replies) line reply answers one = (answe
 pub none_answered : (h : List Entry) (t : Transcript) → IsTranscript [] t → HasAnswered h [] t
 none_answered h t is = record { replies = []; answers = tt; is_transcript = is }
 
+pub none_replied : (t : Transcript) → IsTranscript [] t → RepliesEach [] t
+none_replied t is = record { replies = []; one_each = refl; is_transcript = is }
+
 -- one line more
+pub RepliesEach-push : (lines : List ScriptLine) (line : ScriptLine) (t u : Transcript) → RepliesEach lines t → (reply : LineReply) × AddsReply reply t u → RepliesEach (lines ++ line ∷ []) u
+RepliesEach-push lines line t u has one = record {
+  replies = has.replies ++ one.0 ∷ [];
+  one_each =
+      let replied = length-append has.replies (one.0 ∷ []) in
+      let read = length-append lines (line ∷ []) in
+      omega (arith, replied, read, has.one_each);
+  is_transcript = one.1 has.replies has.is_transcript;
+}
+
 pub HasAnswered-push : (h : List Entry) (lines : List ScriptLine) (line : ScriptLine) (t u : Transcript) → HasAnswered h lines t → (reply : LineReply) × IsAnswerOrNoMemory h (question h line.line) reply × AddsReply reply t u → HasAnswered h (lines ++ line ∷ []) u
 HasAnswered-push h lines line t u has one = record {
   replies = has.replies ++ one.0 ∷ [];
@@ -50,9 +64,15 @@ module _ {D : Type 0} (disk : Ghosts D) (old : D) (engine : Engine D disk) (open
     durable = λ reported. on.held.now;
   }
 
-  were_answered : (lines : List ScriptLine) (transcript : Transcript) → (transcript.status ≡ DeviceFault → ⊥) → ((h : List Entry) → IsEngineOf h engine → HasAnswered h lines transcript) → WereAnswered disk lines old (device engine) transcript
-  were_answered lines transcript sound has = record {
-    plain = record { same_size = opened.kept.counts.same_size; faulted = λ failed. absurd (sound failed) };
+  were_answered : (lines : List ScriptLine) (transcript : Transcript) → (transcript.status ≡ DeviceFault → ⊥) → ((h : List Entry) → IsEngineOf h engine → HasAnswered h lines transcript) → RepliesEach lines transcript → WereAnswered disk lines old (device engine) transcript
+  were_answered lines transcript unfailed has says = record {
+    says = says;
+    plain = record {
+      sound = opened.sound;
+      same_size = opened.kept.counts.same_size;
+      faulted = λ failed. absurd (unfailed failed);
+      stopped = λ failed. absurd (cc);
+    };
     kept = opened.kept.unwritten;
     answers = λ reported h held. let on = opened.stood reported h held in answers_all lines transcript h held on (has h on.at_rest.of);
   }
@@ -62,11 +82,11 @@ module _ {D : Type 0} (disk : Ghosts D) (old : D) (engine : Engine D disk) (open
       subst (QuestionsCause disk lines old new) (sym is)
       (subst (λ (d : D). QuestionsCause disk lines old d OutOfMemory) (sym same) (tt, opened.kept.unwritten))
 
-  pub ended_answered : (lines : List ScriptLine) (transcript : Transcript) (new : D) (e : Ending) → ((e ≡ Replied transcript) × (transcript.status ≡ DeviceFault → ⊥)) ⊎ (e ≡ OutOfMemory) → new ≡ device engine → ((h : List Entry) → IsEngineOf h engine → HasAnswered h lines transcript) → QuestionsCause disk lines old new e
-  ended_answered lines transcript new e ends same has =
+  pub ended_answered : (lines : List ScriptLine) (transcript : Transcript) (new : D) (e : Ending) → ((e ≡ Replied transcript) × (transcript.status ≡ DeviceFault → ⊥)) ⊎ (e ≡ OutOfMemory) → new ≡ device engine → ((h : List Entry) → IsEngineOf h engine → HasAnswered h lines transcript) → RepliesEach lines transcript → QuestionsCause disk lines old new e
+  ended_answered lines transcript new e ends same has says =
       ⊎_elim
       (λ (replied : (e ≡ Replied transcript) × (transcript.status ≡ DeviceFault → ⊥)).
       subst (QuestionsCause disk lines old new) (sym replied.0)
-      (subst (λ (d : D). WereAnswered disk lines old d transcript) (sym same) (were_answered lines transcript replied.1 has)))
+      (subst (λ (d : D). WereAnswered disk lines old d transcript) (sym same) (were_answered lines transcript replied.1 has says)))
       (λ lacks. ended_unanswered lines new e lacks same)
       ends

@@ -40,27 +40,14 @@ module _ {D : Type 0} (disk : Ghosts D) where
   abbrev pub LeftSince : List Entry → D → Image → Type 0
   LeftSince h old c = disk.images_now old c ⊎ HoldsHistory (disk.size old) c h
 
-  module _ (counts_now : CountsNow) (reported : disk.is_observable) (h : List Entry) (old new : D) where
-    -- What lasts at each moment lasts now.
-    pub lasts : Leaves disk.calls disk.images_since old new (LeftSince h old) → Lasts disk h old new
-    lasts leaves = record {
-      moments = leaves;
-      now = left_now disk.calls disk.images_since old new (LeftSince h old) (disk.images_now new) (counts_now reported new) leaves;
-    }
-
-    -- A device that is kept leaves what it might have left before.
-    pub kept_lasts : IsKept disk old new → Lasts disk h old new
-    kept_lasts kept =
-        lasts (weakens disk.calls disk.images_since old new (disk.images_now old) (LeftSince h old) (λ c left. inl left) (kept reported).moments)
-
-  module _ (counts_now : CountsNow) (old new : D) where
+  module _ (old new : D) where
     -- The store was not opened.
     pub refused_cause : (e : Ending) → OpeningCause disk old new e → IsKept disk old new → CheckpointEnds disk old new e
     refused_cause Usage why kept = absurd why
     refused_cause NoSource why kept = absurd why
     refused_cause TooLong why kept = absurd why
     refused_cause OutOfMemory why kept = kept
-    refused_cause NoDevice why kept = (why, λ reported h blocks tail holds. kept_lasts counts_now reported h old new kept)
+    refused_cause NoDevice why kept = (why, inl kept)
     refused_cause NoStore why kept = (why, kept)
     refused_cause (Damaged block) why kept = (why, kept)
     refused_cause Occupied why kept = absurd why
@@ -99,12 +86,24 @@ module _ {D : Type 0} (disk : Ghosts D) (counts_now : CountsNow disk) (old : D) 
     -- The history lasts through the opening and the checkpoint.
     lasts_through : (new : Engine D disk) → LeavesHistory new → Lasts disk h old (device new)
     lasts_through new leaves =
-        let sized : disk.size (device engine) ≡ disk.size old = opened.kept.counts.same_size in
-        lasts disk counts_now reported h old (device new)
-        (composes disk.calls disk.images_since old (device engine) (device new) (LeftSince disk h old)
-        (weakens disk.calls disk.images_since old (device engine) (disk.images_now old) (LeftSince disk h old) (λ c left. inl left) (opened.kept.unwritten reported).moments)
-        (weakens disk.calls disk.images_since (device engine) (device new) (λ c. HoldsHistory (disk.size (device engine)) c h) (LeftSince disk h old)
-        (λ c held. inr (subst (λ (n : ℕ). HoldsHistory n c h) sized held)) (leaves reported h rests)))
+        let calls : D → ℕ = disk.calls in
+        let images : D → ℕ → Image → Type 0 = disk.images_since in
+        let start : D = device engine in
+        let end : D = device new in
+        let Held : Image → Type 0 = λ c. HoldsHistory (disk.size old) c h in
+        let sized : disk.size start ≡ disk.size old = opened.kept.counts.same_size in
+        let unwritten = opened.kept.unwritten reported in
+        let each : Leaves calls images start end Held =
+        weakens calls images start end (λ c. HoldsHistory (disk.size start) c h) Held (λ c held. subst (λ (n : ℕ). HoldsHistory n c h) sized held) (leaves reported h rests) in
+        record {
+          opened = start;
+          opening = unwritten;
+          since = each;
+          moments = composes calls images old start end (LeftSince disk h old)
+              (weakens calls images old start (disk.images_now old) (LeftSince disk h old) (λ c left. inl left) unwritten.moments)
+              (weakens calls images start end Held (LeftSince disk h old) (λ c held. inr held) each);
+          now = left_now calls images start end Held (disk.images_now end) (counts_now reported end) each;
+        }
 
     adds : (new : Engine D disk) (entries : ℕ) → IsCheckpointed engine new entries → KeepsOpening engine new → IsAtRest h new → ((c : Image) → disk.images_now (device new) c → IsNamed (disk.size (device new)) c (blocks_of new) (tail_of new) h) → LeavesHistory new → AddsCheckpoint disk entries old (device new) h holds.leads.roots blocks tail
     adds new entries is kept after named leaves =
@@ -125,10 +124,12 @@ module _ {D : Type 0} (disk : Ghosts D) (counts_now : CountsNow disk) (old : D) 
   -- The checkpoint was added.
   pub added_cause : (new : Engine D disk) (end : D) (entries : ℕ) → end ≡ device new → IsCheckpointed engine new entries → KeepsOpening engine new → (disk.is_observable → (h : List Entry) → IsAtRest h engine → IsAtRest h new) → (disk.is_observable → (h : List Entry) → IsAtRest h engine → (c : Image) → disk.images_now (device new) c → IsNamed (disk.size (device new)) c (blocks_of new) (tail_of new) h) → LeavesHistory new → CheckpointEnds disk old end (Checkpointed entries)
   added_cause new end entries same is kept after named leaves =
-      subst (λ (d : D). CheckpointEnds disk old d (Checkpointed entries)) (sym same)
-      (λ reported h blocks tail holds.
-      let before = rests reported h blocks tail holds in
-      adds reported h blocks tail holds new entries is kept (after reported h before) (named reported h before) leaves)
+      subst (λ (d : D). CheckpointEnds disk old d (Checkpointed entries)) (sym same) (
+        opened.sound,
+        λ reported h blocks tail holds.
+            let before = rests reported h blocks tail holds in
+            adds reported h blocks tail holds new entries is kept (after reported h before) (named reported h before) leaves,
+      )
 
   -- The engine is as the opening left it.
   unchanged : (new : Engine D disk) (end : D) → end ≡ device new → new ≡ engine → IsKept disk old end
@@ -142,6 +143,7 @@ module _ {D : Type 0} (disk : Ghosts D) (counts_now : CountsNow disk) (old : D) 
   -- There was no room for it.
   pub full_cause : (new : Engine D disk) (end : D) (need room : ℕ) → end ≡ device new → mark.CheckpointCause engine new (faults.DeviceFull need room) → CheckpointEnds disk old end (Full need room)
   full_cause new end need room same why = (
+    opened.sound,
     why.3,
     unchanged new end same why.4,
     λ reported h blocks tail holds. (why.1 ∙ need_is reported h blocks tail holds, why.2 ∙ room_is reported h blocks tail holds),
@@ -152,5 +154,8 @@ module _ {D : Type 0} (disk : Ghosts D) (counts_now : CountsNow disk) (old : D) 
   fault_cause new end same why leaves =
       subst (λ (d : D). CheckpointEnds disk old d NoDevice) (sym same) (
         rose_since (disk.faults old) (disk.faults (device engine)) (disk.faults (device new)) opened.kept.counts.more_faults why.2.rose,
-        λ reported h blocks tail holds. lasts_through reported h blocks tail holds new leaves,
+        inr (record {
+          sound = opened.sound;
+          lasts = λ reported h blocks tail holds. lasts_through reported h blocks tail holds new leaves;
+        }),
       )

@@ -28,6 +28,6 @@ module _ {D : Type 0} (disk : Ghosts D) (old new : D) (sound : HeldIsSound) (can
   benign_checkpoint (Checkpointed entries) why = inl refl
   benign_checkpoint (Stands entries) why = absurd why.0
   benign_checkpoint (Full need room) why =
-      let is = why.2 reported can.history can.blocks can.tail can.holds in
-      absurd (omega (arith, why.0, is.0, is.1, can.fits))
+      let is = why.3 reported can.history can.blocks can.tail can.holds in
+      absurd (omega (arith, why.1, is.0, is.1, can.fits))
   benign_checkpoint (Replied transcript) why = absurd why.0

@@ -70,7 +70,7 @@ module _ {D : Type 0} (disk : Ghosts D) (old new : D) where
   work_fault What NoSource why five = absurd why.0
   work_fault What TooLong why five = absurd why.0
   work_fault What OutOfMemory why five = absurd (omega (arith, five))
-  work_fault What NoDevice why five = why.0
+  work_fault What NoDevice why five = ⊎_elim (λ unopened. unopened.0) (λ did. did.1.plain.stopped refl) why
   work_fault What NoStore why five = absurd (omega (arith, five))
   work_fault What (Damaged block) why five = absurd (omega (arith, five))
   work_fault What Occupied why five = absurd why.0
@@ -79,7 +79,7 @@ module _ {D : Type 0} (disk : Ghosts D) (old new : D) where
   work_fault What (Checkpointed entries) why five = absurd why.0
   work_fault What (Stands entries) why five = absurd why.0
   work_fault What (Full need room) why five = absurd why.0
-  work_fault What (Replied transcript) why five = why.plain.faulted (fault_of_code transcript.status five)
+  work_fault What (Replied transcript) why five = why.1.plain.faulted (fault_of_code transcript.status five)
 
   asked_fault : (lines : List ScriptLine) (e : Ending) → QuestionsCause disk lines old new e → status_of e ≡ 5 → Failed
   asked_fault lines Usage why five = absurd why.0
@@ -183,7 +183,7 @@ module _ {S D : Type 0} (source : SourceGhosts S) (disk : Ghosts D) (given rest 
   cause_fault (Some (Load workers batch)) e why five =
       read_fault
       (λ input was now end. AreDistinct (list_of (rows_of input)).streams × RowsCause disk workers batch (list_of (rows_of input)) was now end) e
-      (λ input cause. work_fault disk old new (λ said start log own. LoadsStore start log (list_of (rows_of input)) batch workers said own) e cause.1)
+      (λ input cause. work_fault disk old new (λ said start log own. LoadsStore start log (list_of (rows_of input)) batch workers said own) e cause.1.0)
       why five
   cause_fault (Some (Distil workers)) e why five =
       work_fault disk old new (λ said start log own. DistilsStore start log workers said own) e why.1 five

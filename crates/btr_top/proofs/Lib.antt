@@ -7,6 +7,7 @@ mod CheckpointCauses
 -- why a command ends so
 mod LineLists
 mod AskedLines
+mod UnsoundKept
 mod WorkCauses
 mod FaultCauses
 -- if nothing fails

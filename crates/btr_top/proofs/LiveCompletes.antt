@@ -99,17 +99,17 @@ module _ {S D : Type 0} (source : SourceGhosts S) (disk : Ghosts D) (batch : ℕ
   abbrev store : StoreState
   store = opened disk old new can.1.history can.1.blocks can.1.tail can.1.holds sound one reported device_works
 
-  module _ (lines : List ScriptLine) (all : lines ≡ script_of (source.left given)) (transcript : Transcript) (does : DoesRightly disk (λ start log own. LivesStore batch materialize lines start log (Ok transcript) own) old new) where
+  module _ (lines : List ScriptLine) (all : lines ≡ script_of (source.left given)) (transcript : Transcript) (failed : Bool) (does : DoesRightly disk (λ start log own. LivesStore batch materialize lines start log (Ok transcript) own) failed old new) where
     abbrev What : StoreState → LogState → List ℕ → Type 0
     What start log own = LivesStore batch materialize lines start log (Ok transcript) own
 
     sound_end : does.log.failed ≡ None
-    sound_end = no_failure disk old new can.1.history can.1.blocks can.1.tail can.1.holds sound one reported device_works What does
+    sound_end = no_failure disk old new can.1.history can.1.blocks can.1.tail can.1.holds sound one reported device_works What failed does
 
     -- The room of the store, as the run found it.
     room_here : HasRoomForScript batch materialize does.first lines
     room_here =
-        let same : does.first ≡ store = began disk old new can.1.history can.1.blocks can.1.tail can.1.holds sound one reported device_works What does in
+        let same : does.first ≡ store = began disk old new can.1.history can.1.blocks can.1.tail can.1.holds sound one reported device_works What failed does in
         subst (λ (s : StoreState). HasRoomForScript batch materialize s lines) (sym same)
         (subst (λ (ls : List ScriptLine). HasRoomForScript batch materialize store ls) (sym all) can.1.room)
 
@@ -154,7 +154,7 @@ module _ {S D : Type 0} (source : SourceGhosts S) (disk : Ghosts D) (batch : ℕ
       let all : lines ≡ script_of (source.left given) = ap (λ (i : List ℕ). script_of i) (read.all source_reported) in
       plain_work disk old new can.1.history can.1.blocks can.1.tail can.1.holds sound one reported device_works
       (λ said start log own. LivesStore batch materialize lines start log said own)
-      (λ transcript does. benign_transcript lines all transcript does)
+      (λ transcript failed does. benign_transcript lines all transcript failed does)
       e why
 
   pub benign_live : (e : Ending) → LiveCause source disk batch materialize given rest old new e → IsPlainStatus (status_of e)

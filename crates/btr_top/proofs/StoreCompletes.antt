@@ -1,7 +1,7 @@
 -- Work on a device that holds a store, if nothing fails: the store is opened, and no step fails.
 use Rattle.std.specs.Prelude.{◌≡◌, ℕ, Bool, true, false, List, Option, Some, None, Ok}
 use Rattle.std.specs.Option.{is_some}
-use Rattle.std.proofs.Common.{refl, ◌∙◌, ap, inr}
+use Rattle.std.proofs.Common.{refl, ◌∙◌, ap, inr, ⊎_elim}
 use Rattle.btr_disk.specs.declared.disk.Disk.{Ghosts}
 use Rattle.btr_disk.specs.Causes.{Rose}
 use Rattle.btr_log.specs.Extents.{left}
@@ -50,20 +50,20 @@ module _ {D : Type 0} (disk : Ghosts D) (old new : D) (history : List Entry) (bl
       with_parts h n b = record { history = h; left = n; stopped = b }
 
   -- Work began with this store.
-  pub began : (What : StoreState → LogState → List ℕ → Type 0) (does : DoesRightly disk What old new) → does.first ≡ opened
-  began What does = same_start does.first does.works.not_stopped (does.works.before reported)
+  pub began : (What : StoreState → LogState → List ℕ → Type 0) (failed : Bool) (does : DoesRightly disk What failed old new) → does.first ≡ opened
+  began What failed does = same_start does.first does.works.not_stopped (does.works.before reported)
 
   -- No step failed.
-  pub no_failure : (What : StoreState → LogState → List ℕ → Type 0) (does : DoesRightly disk What old new) → does.log.failed ≡ None
-  no_failure What does = none_if does.log.failed (λ failed. device_works (does.works.failed failed))
+  pub no_failure : (What : StoreState → LogState → List ℕ → Type 0) (failed : Bool) (does : DoesRightly disk What failed old new) → does.log.failed ≡ None
+  no_failure What failed does = none_if does.log.failed (λ failed. device_works (does.works.failed failed))
 
   -- A command that works on the store ends with the status of its lines, or without memory.
-  pub plain_work : (What : WorkSays) → ((transcript : Transcript) → DoesRightly disk (What (Ok transcript)) old new → IsBenign transcript.status) → (e : Ending) → WorkCause disk What old new e → IsPlainStatus (status_of e)
+  pub plain_work : (What : WorkSays) → ((transcript : Transcript) (failed : Bool) → DoesRightly disk (What (Ok transcript)) failed old new → IsBenign transcript.status) → (e : Ending) → WorkCause disk What old new e → IsPlainStatus (status_of e)
   plain_work What benign Usage why = absurd why.0
   plain_work What benign NoSource why = absurd why.0
   plain_work What benign TooLong why = absurd why.0
   plain_work What benign OutOfMemory why = inr (inr refl)
-  plain_work What benign NoDevice why = absurd (device_works why.0)
+  plain_work What benign NoDevice why = absurd (device_works (⊎_elim (λ unopened. unopened.0) (λ did. did.1.plain.stopped refl) why))
   plain_work What benign NoStore why = absurd ((sound (disk.size old) 0 (disk.contents old) history held).0 (why.0 reported))
   plain_work What benign (Damaged block) why = absurd ((sound (disk.size old) block (disk.contents old) history held).1 (why.0 reported))
   plain_work What benign Occupied why = absurd why.0
@@ -72,4 +72,4 @@ module _ {D : Type 0} (disk : Ghosts D) (old new : D) (history : List Entry) (bl
   plain_work What benign (Checkpointed entries) why = absurd why.0
   plain_work What benign (Stands entries) why = absurd why.0
   plain_work What benign (Full need room) why = absurd why.0
-  plain_work What benign (Replied transcript) why = benign_code transcript.status (benign transcript (why.rightly reported history held))
+  plain_work What benign (Replied transcript) why = benign_code transcript.status (benign transcript why.0 (why.1.rightly reported history held))

@@ -1,5 +1,5 @@
 -- If the device holds a store with room, and nothing fails: `load`, `distil` and `sample`.
-use Rattle.std.specs.Prelude.{◌≡◌, ℕ, List, Ok}
+use Rattle.std.specs.Prelude.{◌≡◌, ℕ, Bool, List, Ok}
 use Rattle.std.proofs.Common.{sym, ap, subst, arith, ⊎_elim}
 use Rattle.btr_io.specs.declared.source.Source.{Ghosts as SourceGhosts}
 use Rattle.btr_io.specs.Faults.{Rose as StreamRose}
@@ -26,12 +26,12 @@ use Rattle.btr_top.proofs.PlainStatuses.{benign_input}
 use Rattle.btr_top.proofs.StoreCompletes.{opened, began, no_failure, plain_work}
 
 module _ {D : Type 0} (disk : Ghosts D) (workers : ℕ) (old new : D) (sound : HeldIsSound) (one : OneHistoryIsHeld) (can : CanDistil disk old) (reported : disk.is_observable) (device_works : Rose (disk.faults old) (disk.faults new) → ⊥) where
-  benign_refreshed : (transcript : Transcript) → DoesRightly disk (λ start log own. DistilsStore start log workers (Ok transcript) own) old new → IsBenign transcript.status
-  benign_refreshed transcript does =
+  benign_refreshed : (transcript : Transcript) (failed : Bool) → DoesRightly disk (λ start log own. DistilsStore start log workers (Ok transcript) own) failed old new → IsBenign transcript.status
+  benign_refreshed transcript failed does =
       let What : StoreState → LogState → List ℕ → Type 0 = λ start log own. DistilsStore start log workers (Ok transcript) own in
-      let same = began disk old new can.history can.blocks can.tail can.holds sound one reported device_works What does in
+      let same = began disk old new can.history can.blocks can.tail can.holds sound one reported device_works What failed does in
       let room : HasRoomForOutputs does.first = subst (λ (s : StoreState). HasRoomForOutputs s) (sym same) can.room in
-      does.what.completes room (no_failure disk old new can.history can.blocks can.tail can.holds sound one reported device_works What does)
+      (does.what.completes room (no_failure disk old new can.history can.blocks can.tail can.holds sound one reported device_works What failed does)).status
 
   pub benign_distil : (e : Ending) → DistilCause disk workers old new e → IsPlainStatus (status_of e)
   benign_distil e why =
@@ -39,12 +39,12 @@ module _ {D : Type 0} (disk : Ghosts D) (workers : ℕ) (old new : D) (sound : H
       (λ said start log own. DistilsStore start log workers said own) benign_refreshed e why
 
 module _ {D : Type 0} (disk : Ghosts D) (number streams points : ℕ) (old new : D) (sound : HeldIsSound) (one : OneHistoryIsHeld) (can : CanSample disk number streams points old) (reported : disk.is_observable) (device_works : Rose (disk.faults old) (disk.faults new) → ⊥) where
-  benign_sampled : (transcript : Transcript) → DoesRightly disk (λ start log own. SamplesStore number streams points start log (Ok transcript) own) old new → IsBenign transcript.status
-  benign_sampled transcript does =
+  benign_sampled : (transcript : Transcript) (failed : Bool) → DoesRightly disk (λ start log own. SamplesStore number streams points start log (Ok transcript) own) failed old new → IsBenign transcript.status
+  benign_sampled transcript failed does =
       let What : StoreState → LogState → List ℕ → Type 0 = λ start log own. SamplesStore number streams points start log (Ok transcript) own in
-      let same = began disk old new can.history can.blocks can.tail can.holds sound one reported device_works What does in
+      let same = began disk old new can.history can.blocks can.tail can.holds sound one reported device_works What failed does in
       let room : HasRoomForSample number streams points does.first = subst (λ (s : StoreState). HasRoomForSample number streams points s) (sym same) can.room in
-      does.what.completes room (no_failure disk old new can.history can.blocks can.tail can.holds sound one reported device_works What does)
+      (does.what.completes room (no_failure disk old new can.history can.blocks can.tail can.holds sound one reported device_works What failed does)).status
 
   pub benign_sample : (e : Ending) → SampleCause disk number streams points old new e → IsPlainStatus (status_of e)
   benign_sample e why =
@@ -55,22 +55,22 @@ module _ {S D : Type 0} (source : SourceGhosts S) (disk : Ghosts D) (workers bat
   not_too_long : ExceedsInputLimit source given rest → ⊥
   not_too_long exceeds = omega (arith, exceeds source_reported, can.0)
 
-  benign_loaded : (rows : RowListValue) → rows ≡ list_of (rows_of (source.left given)) → AreDistinct rows.streams → (transcript : Transcript) → DoesRightly disk (λ start log own. LoadsStore start log rows batch workers (Ok transcript) own) old new → IsBenign transcript.status
-  benign_loaded rows all distinct transcript does =
+  benign_loaded : (rows : RowListValue) → rows ≡ list_of (rows_of (source.left given)) → AreDistinct rows.streams → (transcript : Transcript) (failed : Bool) → DoesRightly disk (λ start log own. LoadsStore start log rows batch workers (Ok transcript) own) failed old new → IsBenign transcript.status
+  benign_loaded rows all distinct transcript failed does =
       let What : StoreState → LogState → List ℕ → Type 0 = λ start log own. LoadsStore start log rows batch workers (Ok transcript) own in
       let store = opened disk old new can.1.history can.1.blocks can.1.tail can.1.holds sound one reported device_works in
-      let same = began disk old new can.1.history can.1.blocks can.1.tail can.1.holds sound one reported device_works What does in
+      let same = began disk old new can.1.history can.1.blocks can.1.tail can.1.holds sound one reported device_works What failed does in
       let room : HasRoomForRows does.first rows batch =
       subst (λ (s : StoreState). HasRoomForRows s rows batch) (sym same)
       (subst (λ (rs : RowListValue). HasRoomForRows store rs batch) (sym all) can.1.room) in
-      does.what.completes distinct room (no_failure disk old new can.1.history can.1.blocks can.1.tail can.1.holds sound one reported device_works What does)
+      (does.what.completes distinct room (no_failure disk old new can.1.history can.1.blocks can.1.tail can.1.holds sound one reported device_works What failed does)).status
 
   benign_rows : (input : List ℕ) → HasRead source input given rest → AreDistinct (list_of (rows_of input)).streams → (e : Ending) → RowsCause disk workers batch (list_of (rows_of input)) old new e → IsPlainStatus (status_of e)
   benign_rows input read distinct e why =
       let rows : RowListValue = list_of (rows_of input) in
       let all : rows ≡ list_of (rows_of (source.left given)) = ap (λ (i : List ℕ). list_of (rows_of i)) (read.all source_reported) in
       plain_work disk old new can.1.history can.1.blocks can.1.tail can.1.holds sound one reported device_works
-      (λ said start log own. LoadsStore start log rows batch workers said own) (benign_loaded rows all distinct) e why
+      (λ said start log own. LoadsStore start log rows batch workers said own) (benign_loaded rows all distinct) e why.0
 
   pub benign_load : (e : Ending) → LoadCause source disk workers batch given rest old new e → IsPlainStatus (status_of e)
   benign_load e why =

@@ -1,5 +1,5 @@
 -- The command `ask`: what each line is answered, and why the command ends as it does.
-use Rattle.std.specs.Prelude.{List, [], ◌∷◌, Ok}
+use Rattle.std.specs.Prelude.{◌≡◌, List, [], ◌∷◌, length, false, Ok}
 use Rattle.btr_io.specs.declared.source.Source.{Ghosts as SourceGhosts}
 use Rattle.btr_disk.specs.declared.disk.Disk.{Ghosts}
 use Rattle.btr_disk.specs.Bytes.{Image}
@@ -25,6 +25,12 @@ AnswersEach h [] (reply ∷ replies) = ⊥
 AnswersEach h (line ∷ lines) [] = ⊥
 AnswersEach h (line ∷ lines) (reply ∷ replies) = IsAnswerOrNoMemory h (question h line.line) reply × AnswersEach h lines replies
 
+-- There is one reply for each line, and this is the transcript of the replies.
+pub record RepliesEach (lines : List ScriptLine) (transcript : Transcript) : Type 0 where
+  pub replies : List LineReply
+  pub one_each : length replies ≡ length lines
+  pub is_transcript : IsTranscript replies transcript
+
 module _ {D : Type 0} (disk : Ghosts D) where
   -- Each line was answered from the history that the device `old` holds, and this is the transcript. Each entry of the history may
   -- follow those before it. Nothing was written. Every crash from now on leaves the history.
@@ -38,9 +44,11 @@ module _ {D : Type 0} (disk : Ghosts D) where
     pub kept : IsKept disk old new
     pub durable : disk.is_observable → (c : Image) → disk.images_now new c → HoldsHistory (disk.size new) c history
 
-  -- The lines were answered with this transcript: on each device what is plain of it, and from each history that the device holds.
+  -- The lines were answered with this transcript: on each device what is plain of it, with one reply for each line, and from each history
+  -- that the device holds.
   pub record WereAnswered (lines : List ScriptLine) (old new : D) (transcript : Transcript) : Type 0 where
-    pub plain : IsPlainWork disk old (Ok transcript) new
+    pub says : RepliesEach lines transcript
+    pub plain : IsPlainWork disk old (Ok transcript) false new
     pub kept : IsKept disk old new
     pub answers : IfHolds disk old (AnswersAll lines old new transcript)
 

@@ -2,6 +2,7 @@
 use Rattle.std.specs.Prelude.{◌≡◌, ◌⊎◌, List, length}
 use Rattle.btr_disk.specs.declared.disk.Disk.{Ghosts}
 use Rattle.btr_disk.specs.Causes.{Rose}
+use Rattle.btr_disk.specs.Moments.{WroteNothing}
 use Rattle.btr_super.specs.Choose.{HasNoSuper}
 use Rattle.btr_hist.specs.declared.entry.Entry.{Entry}
 use Rattle.btr_check.specs.declared.verdict.Verdict.{Verdict}
@@ -40,7 +41,12 @@ module _ {D : Type 0} (disk : Ghosts D) where
       disk.is_observable → (v : Verdict) → IsVerdict (disk.size old) (disk.contents old) v
       → (e ≡ ending_of_verdict v) ⊎ (e ≡ NoDevice) ⊎ (e ≡ OutOfMemory)
 
-  -- Why `check` ends so, and that no other end is right.
+  -- Nothing was written and nothing synced: what a read returns, and what a crash may leave, are the same before and after.
+  abbrev pub IsUnsynced : D → D → Type 0
+  IsUnsynced old new = disk.is_observable → WroteNothing disk.calls disk.contents disk.images_now disk.images_since old new
+
+  -- Why `check` ends so, and that no other end is right. However it ends, it wrote nothing and synced nothing.
   pub record CheckEnds (old new : D) (e : Ending) : Type 0 where
     pub cause : CheckCause old new e
     pub by_verdict : EndsByVerdict old e
+    pub unsynced : IsUnsynced old new

@@ -3,7 +3,7 @@ use Rattle.std.specs.Prelude.{◌≡◌, ◌⊎◌, ℕ, ◌+◌, ◌<◌, ◌�
 use Rattle.btr_disk.specs.declared.disk.Disk.{Ghosts}
 use Rattle.btr_disk.specs.Bytes.{Image}
 use Rattle.btr_disk.specs.Causes.{Rose}
-use Rattle.btr_disk.specs.Moments.{Leaves}
+use Rattle.btr_disk.specs.Moments.{Leaves, IsUnwritten}
 use Rattle.btr_log.specs.Extents.{left}
 use Rattle.btr_log.specs.Head.{content_blocks}
 use Rattle.btr_hist.specs.declared.entry.Entry.{Entry}
@@ -11,7 +11,7 @@ use Rattle.btr_roll.specs.Roll.{roll_bytes}
 use Rattle.btr_engine.specs.Rolling.{roll_of}
 use Rattle.btr_engine.specs.Holds.{HoldsHistory, HoldsHistoryTo}
 use Rattle.btr_engine.specs.Mark.{IsNamed}
-use Rattle.btr_store.specs.Work.{HoldsSafely}
+use Rattle.btr_store.specs.Work.{HoldsSafely, WasSound}
 use Rattle.btr_top.specs.declared.ending.Ending.{Ending}
 use Rattle.btr_top.specs.declared.ending.Ending.TheVariants.{OutOfMemory, NoDevice, Checkpointed, Full}
 use Rattle.btr_top.specs.Command.{IsKept, OpeningCause}
@@ -28,10 +28,14 @@ module _ {D : Type 0} (disk : Ghosts D) where
       disk.is_observable → (h : List Entry) (blocks tail : ℕ)
       → (holds : HoldsHistoryTo (disk.size old) (disk.contents old) blocks tail h) → P h holds.leads.roots blocks tail
 
-  -- The history lasts from the device `old` to the device `new`: a crash at any moment leaves it, or what a crash might have left before.
+  -- The history lasts from the device `old` to the device `new`. The opening of the store wrote nothing, and left the device `opened`. A
+  -- crash at any moment since then leaves the history; before, it may also leave what it might have left at `old`.
   pub record Lasts (h : List Entry) (old new : D) : Type 0 where
+    pub opened : D
+    pub opening : IsUnwritten disk.calls disk.contents disk.images_now disk.images_since old opened
+    pub since : Leaves disk.calls disk.images_since opened new (λ c. HoldsHistory (disk.size old) c h)
     pub moments : Leaves disk.calls disk.images_since old new (λ c. disk.images_now old c ⊎ HoldsHistory (disk.size old) c h)
-    pub now : (c : Image) → disk.images_now new c → disk.images_now old c ⊎ HoldsHistory (disk.size old) c h
+    pub now : (c : Image) → disk.images_now new c → HoldsHistory (disk.size old) c h
 
   -- A checkpoint of the whole history was added after the tail. There was room for it. The history lasts; from then on a crash leaves the
   -- device as it reads. The superblock that is chosen then names the checkpoint, and the gate after it is the new tail.
@@ -42,13 +46,18 @@ module _ {D : Type 0} (disk : Ghosts D) where
     pub safely : HoldsSafely disk new h
     pub named : IsNamed (disk.size new) (disk.contents new) blocks (tail + need_of_checkpoint h roots) h
 
+  -- A store that was opened on the device `old` was sound, and the history that it holds lasts.
+  pub record LastsSound (old new : D) : Type 0 where
+    pub sound : WasSound disk old
+    pub lasts : OfHeld old (λ h roots blocks tail. Lasts h old new)
+
   -- Why `checkpoint` ends so.
   abbrev pub CheckpointEnds : D → D → Ending → Type 0
-  CheckpointEnds old new (Checkpointed entries) = OfHeld old (AddsCheckpoint entries old new)
+  CheckpointEnds old new (Checkpointed entries) = WasSound disk old × OfHeld old (AddsCheckpoint entries old new)
   CheckpointEnds old new (Full need room) =
-      (room < need) × IsKept disk old new
+      WasSound disk old × (room < need) × IsKept disk old new
       × OfHeld old (λ h roots blocks tail. (need ≡ need_of_checkpoint h roots) × (room ≡ left blocks tail))
-  CheckpointEnds old new NoDevice = Rose (disk.faults old) (disk.faults new) × OfHeld old (λ h roots blocks tail. Lasts h old new)
+  CheckpointEnds old new NoDevice = Rose (disk.faults old) (disk.faults new) × (IsKept disk old new ⊎ LastsSound old new)
   CheckpointEnds old new OutOfMemory = IsKept disk old new
   CheckpointEnds old new e = OpeningCause disk old new e × IsKept disk old new
 

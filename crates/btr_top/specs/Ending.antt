@@ -43,8 +43,10 @@ text_of (Stands entries) = line_text (codes "stands" ∷ decimal entries ∷ [])
 text_of (Full need left) = line_text (codes "no" ∷ codes "full" ∷ decimal need ∷ decimal left ∷ [])
 text_of (Replied transcript) = transcript.text.items
 
--- The line of an ending is made for it, which takes memory. The replies of a script are there already.
+-- The line of an ending is made for it, which takes memory. The replies of a script are there already, and so is the line of a device
+-- that failed.
 abbrev pub NeedsLine : Ending → Type 0
+NeedsLine NoDevice = ⊥
 NeedsLine (Replied transcript) = ⊥
 NeedsLine e = Unit {0}
 

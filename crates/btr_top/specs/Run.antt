@@ -6,6 +6,7 @@ use Rattle.btr_io.specs.Bytes.{Gives}
 use Rattle.btr_io.specs.Faults.{Rose as StreamRose}
 use Rattle.btr_disk.specs.declared.disk.Disk.{Ghosts}
 use Rattle.btr_disk.specs.Causes.{Rose}
+use Rattle.btr_open.specs.Damage.{IsUndamaged}
 use Rattle.btr_words.specs.declared.command.Command.{Command}
 use Rattle.btr_words.specs.declared.command.Command.TheVariants.{Format, Load, Ask, Distil, Live, Sample, Checkpoint, Check}
 use Rattle.btr_top.specs.declared.ending.Ending.{Ending}
@@ -60,6 +61,24 @@ CanRun source disk (Some Check) given old = HoldsLegalStore disk old
 abbrev pub IsReader : Option Command → Type 0
 IsReader command = (command ≡ Some Ask) ⊎ (command ≡ Some Check)
 
+-- The command opens a store, and works on it or asks it.
+abbrev pub OpensStore : Option Command → Type 0
+OpensStore None = ⊥
+OpensStore (Some (Format blocks)) = ⊥
+OpensStore (Some Check) = ⊥
+OpensStore command = Unit {0}
+
+-- The status of a refusal: the source, the sink or the device failed; there was no store, or a damaged one; memory ran out; or the input
+-- was too long.
+abbrev pub IsRefusal : ℕ → Type 0
+IsRefusal status =
+    (status ≡ 3) ⊎ (status ≡ 4) ⊎ (status ≡ 5) ⊎ (status ≡ 6) ⊎ (status ≡ 7) ⊎ (status ≡ 9) ⊎ (status ≡ 10)
+
+-- The run did nothing to the device, and ended by a refusal.
+pub record IsRefused {D : Type 0} (disk : Ghosts D) (old new : D) (status : ℕ) : Type 0 where
+  pub kept : IsKept disk old new
+  pub refusal : IsRefusal status
+
 -- The status is 0 if all was done, 1 if something was refused, and 9 if memory ran out.
 abbrev pub IsPlainStatus : ℕ → Type 0
 IsPlainStatus status = (status ≡ 0) ⊎ (status ≡ 1) ⊎ (status ≡ 9)
@@ -97,5 +116,8 @@ module _ {S K D : Type 0} (source : SourceGhosts S) (sink : SinkGhosts K) (disk 
     -- if there is a store with room for the command and nothing fails, the status is 0, or 1 for what was refused, or 9 without memory
     pub completes : source.is_observable → disk.is_observable → CanRun source disk command given old
         → AllWork given rest before after old new → IsPlainStatus status
+    -- on a device that can be observed, and that has no store or a damaged block, a command that opens a store does nothing
+    pub unsound : disk.is_observable → OpensStore command → (IsUndamaged (disk.size old) (disk.contents old) → ⊥)
+        → IsRefused disk old new status
     -- however `ask` or `check` ends, nothing is written
     pub kept : IsReader command → IsKept disk old new

@@ -11,7 +11,7 @@ ghost use Rattle.btr_top.specs.declared.command.TheConstants.{MAX_INPUT};
 ghost use Rattle.btr_live.specs.Meaning.{question};
 ghost use Rattle.btr_top.specs.Command.{IsKept};
 ghost use Rattle.btr_live.specs.Serving.{IsAnswerOrNoMemory};
-ghost use Rattle.btr_top.specs.Ask.{AskCause, QuestionsCause, HasAnswered};
+ghost use Rattle.btr_top.specs.Ask.{AskCause, QuestionsCause, HasAnswered, RepliesEach};
 ghost use Rattle.btr_store.specs.Replies.{AddsReply};
 ghost use Rattle.btr_store.specs.declared.status.Status.TheVariants.{DeviceFault};
 ghost use Rattle.btr_top.specs.declared.ending.Ending.TheVariants.{OutOfMemory, Replied};
@@ -118,20 +118,22 @@ fn answer_all<D: Disk>(
     engine: &Engine<D>,
     lines: Vec<ScriptLine>,
 ) -> Result<Transcript, AllocError>
-    ensures { (h : List EntrySpec) → IsEngineOf h engine.now → IfOk result (HasAnswered h lines.items) }
+    ensures answered { (h : List EntrySpec) → IsEngineOf h engine.now → IfOk result (HasAnswered h lines.items) }
+    ensures replied { IfOk result (RepliesEach lines.items) }
 {
     let snapshot = engine.admit()?;
     answer_questions(alloc, &snapshot, lines)
 }
 
 /// Answers all lines in order, and returns the replies. An `Err` is that there is no memory for the text of a reply.
-#[tactic(auto, using(crate::proofs::AskedLines::none_answered))]
+#[tactic(auto, using(crate::proofs::AskedLines::none_answered, crate::proofs::AskedLines::none_replied))]
 fn answer_questions(
     alloc: Global,
     snapshot: &Snapshot,
     lines: Vec<ScriptLine>,
 ) -> Result<Transcript, AllocError>
-    ensures { (h : List EntrySpec) → IsSnapshotOf h snapshot.now → IfOk result (HasAnswered h lines.items) }
+    ensures answered { (h : List EntrySpec) → IsSnapshotOf h snapshot.now → IfOk result (HasAnswered h lines.items) }
+    ensures replied { IfOk result (RepliesEach lines.items) }
 {
     let mut transcript = no_replies(alloc);
     for line in lines {
@@ -147,7 +149,8 @@ fn ask_line(
     line: Option<Line>,
     transcript: &mut Transcript,
 ) -> Result<(), AllocError>
-    ensures { (h : List EntrySpec) → IsSnapshotOf h snapshot.now
+    ensures adds { OnOk result ((reply : ReplySpec) × AddsReply reply transcript.old transcript.new) }
+    ensures answers { (h : List EntrySpec) → IsSnapshotOf h snapshot.now
         → OnOk result ((reply : ReplySpec) × IsAnswerOrNoMemory h (question h line) reply × AddsReply reply transcript.old transcript.new) }
 {
     let reply = answer_question(alloc, snapshot, line);

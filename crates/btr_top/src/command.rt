@@ -1,5 +1,6 @@
 //! What commands share: they read an input, open a store, and say how they end.
-ghost use Rattle.std.specs.Prelude.{◌≡◌, ◌+◌, IfOk, IfErr};
+ghost use Rattle.std.specs.Prelude.{◌≡◌, ◌+◌, Err, IfOk, IfErr};
+ghost use Rattle.std.specs.declared.alloc.AllocError.{AllocError as AllocErrorSpec};
 ghost use Rattle.btr_io.specs.Bytes.{Gives};
 ghost use Rattle.btr_open.specs.Opening.{IsNotOpened};
 ghost use Rattle.btr_top.specs.Command.{HasRead, InputCause, IsKept, OpeningCause};
@@ -63,23 +64,35 @@ pub(crate) fn open_refusal<D: Disk>(fault: OpenFault<D>) -> CommandResult<D>
     }
 }
 
-/// Returns how a command ends that did its work.
+/// Returns how a command ends that did its work. If there was no memory for its lines, and the device failed, it ends by the failure.
 pub(crate) fn work_result<D>(worked: Worked<D>) -> CommandResult<D>
     ensures disk { result.disk ≡ worked.disk }
-    ensures ending { result.ending ≡ ending_of worked.said }
+    ensures ending { result.ending ≡ ending_of worked.said worked.failed }
 {
     let Worked {
         said,
+        failed,
         disk,
         remains,
     } = worked;
     let ending = match said {
         Ok(transcript) => Ending::Replied(transcript),
-        Err(_) => Ending::OutOfMemory,
+        Err(_) => unsaid(failed),
     };
     CommandResult {
         ending,
         disk,
         remains: RunRemains::Store(remains),
+    }
+}
+
+/// Returns how a command ends whose work was done, but for whose lines there was no memory.
+fn unsaid(failed: bool) -> Ending
+    ensures { (error : AllocErrorSpec) → result ≡ ending_of (Err error) failed }
+{
+    if failed {
+        Ending::NoDevice
+    } else {
+        Ending::OutOfMemory
     }
 }

@@ -59,13 +59,14 @@ pub enum Ending {
 }
 
 /// Writes the text of an ending, and returns the status of the run. It is 4 if the sink fails, 9 if there is no memory
-/// for the line (which is then that of [`Ending::OutOfMemory`]), and else that of the ending. The replies to a script
-/// are handed to the sink without a copy.
+/// for the line (which is then that of [`Ending::OutOfMemory`]), and else that of the ending. The line of a device that failed
+/// takes no memory. The replies to a script are handed to the sink without a copy.
 pub(crate) fn show<K: Sink>(alloc: Global, sink: &mut K, ending: &Ending) -> u8
     ensures { Shows ⟦<K as Sink>⟧ ending.now sink.old sink.new result }
 {
     match ending {
         Ending::Replied(Transcript { status, text }) => write_text(sink, text, status.code()),
+        Ending::NoDevice => write_text(sink, b"no device\n", 5),
         _ => show_line(alloc, sink, ending),
     }
 }
@@ -125,7 +126,8 @@ fn status_of(ending: &Ending) -> u8
     }
 }
 
-/// Returns the line of an ending. An ending with replies has its text already. An `Err` is that there is no memory.
+/// Returns the line of an ending. An ending with replies has its text already, and so has that of a device which failed. An `Err`
+/// means out of memory.
 fn text_of(alloc: Global, ending: &Ending) -> Result<Vec<u8>, AllocError>
     requires { NeedsLine ending.now }
     ensures { IfOk result (λ t. t.items ≡ text_of ending.now) }
@@ -135,7 +137,6 @@ fn text_of(alloc: Global, ending: &Ending) -> Result<Vec<u8>, AllocError>
         Ending::NoSource => line(alloc, b"no", &[b"source"]),
         Ending::TooLong => numbered_text(alloc, b"long", MAX_INPUT),
         Ending::OutOfMemory => line(alloc, b"no", &[b"memory"]),
-        Ending::NoDevice => line(alloc, b"no", &[b"device"]),
         Ending::NoStore => line(alloc, b"no", &[b"store"]),
         Ending::Damaged { block } => numbered_text(alloc, b"damaged", *block),
         Ending::Occupied => line(alloc, b"no", &[b"occupied"]),
@@ -144,7 +145,7 @@ fn text_of(alloc: Global, ending: &Ending) -> Result<Vec<u8>, AllocError>
         Ending::Checkpointed { entries } => done_text(alloc, b"checkpoint", *entries),
         Ending::Stands { entries } => done_text(alloc, b"stands", *entries),
         Ending::Full { need, left } => two_numbers_text(alloc, b"full", *need, *left),
-        Ending::Replied(_) => Ok(Vec::new(alloc)),
+        Ending::NoDevice | Ending::Replied(_) => Ok(Vec::new(alloc)),
     }
 }
 

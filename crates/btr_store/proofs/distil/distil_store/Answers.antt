@@ -15,6 +15,7 @@ returns-clause-done g c = λ seen h held.
     let workers = c.args.workers in
     let said = c.distil-said.result in
     let reported = c.close_hall.result.said in
+    let failed = c.close_hall.result.failed in
     let begun = c.in_ok-hall.ensures.begun in
     let on = begun.opened.stood seen h held in
     let hall = c.in_ok-hall.hall in
@@ -27,16 +28,20 @@ returns-clause-done g c = λ seen h held.
           does_more disk (λ start log own. Distils start log start.history said own) (λ start log own. DistilsStore start log workers reported own) old new
           (λ start log own works legal is. distils_store disk old new start log workers own reported works legal many
           (distils_reported start log start.history said reported own c.close_hall.ensures.said is))
+          failed
           (does_rightly disk (λ start log low own. Distils start log low said own) old new hall session last
           (λ start log own is. distils_allowed start log said own is)
           begun h on.at_rest.of c.distil-said.ensures.does
-          (λ own goes. c.close_hall.ensures.works old begun.opened session own begun.begins goes h on))
+          (λ own goes. c.close_hall.ensures.works old begun.opened session own begun.begins goes h on)
+          failed (c.close_hall.ensures.failed old begun.opened h))
       | inr few ↦
           does_more disk (λ start log own. DistilsInTurn start log start.history said own) (λ start log own. DistilsStore start log workers reported own) old new
           (λ start log own works legal is. distils_store_in_order disk old new start log workers own reported works legal
           (turn_reported start log start.history said reported own c.close_hall.ensures.said is))
+          failed
           (does_rightly disk (λ start log low own. DistilsInTurn start log low said own) old new hall session last
           (λ start log own is. distils_allowed start log said own is.did)
           begun h on.at_rest.of (c.distil-said.ensures.in_turn few)
-          (λ own goes. c.close_hall.ensures.works old begun.opened session own begun.begins goes h on))
+          (λ own goes. c.close_hall.ensures.works old begun.opened session own begun.begins goes h on)
+          failed (c.close_hall.ensures.failed old begun.opened h))
     ]

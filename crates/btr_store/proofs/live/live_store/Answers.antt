@@ -16,6 +16,7 @@ returns-clause-done g c = λ seen h held.
     let script = c.args.lines.items in
     let batch = c.args.batch in
     let materialize = c.args.materialize in
+    let failed = c.close_hall.result.failed in
     let begun = c.in_ok-hall.ensures.begun in
     let on = begun.opened.stood seen h held in
     let hall = c.in_ok-hall.hall in
@@ -26,7 +27,9 @@ returns-clause-done g c = λ seen h held.
     (λ start log own works legal is.
     lives_store c.runs_are_one_history.ensures c.one_lane_is_the_model.ensures c.last_is_current.ensures batch materialize script start log own works.each_once works.not_stopped works.follows works.fits reported
     (lives_reported batch materialize script start log start.history said reported own c.close_hall.ensures.said is))
+    failed
     (does_rightly disk (λ start log low own. Lives batch materialize script start log low said own) old new hall session c.live-said.new.session
     (λ start log own is. lives_allowed batch materialize script start log said own is)
     begun h on.at_rest.of c.live-said.ensures.does
-    (λ own goes. c.close_hall.ensures.works old begun.opened session own begun.begins goes h on))
+    (λ own goes. c.close_hall.ensures.works old begun.opened session own begun.begins goes h on)
+    failed (c.close_hall.ensures.failed old begun.opened h))

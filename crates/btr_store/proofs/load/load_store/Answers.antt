@@ -1,13 +1,17 @@
 -- The work was done on the device, what it added is allowed, and the laws of loads hold of it.
+use Rattle.std.specs.Result.{result_ok}
 use Rattle.std.proofs.Common.{inl, inr}
 use Rattle.std.proofs.lemmas.Bool.{cases_lt}
 use Rattle.btr_store.specs.Load.{LoadsRows, LoadsRowsInTurn, LoadsStore}
 use Rattle.btr_store.proofs.WorkLemmas.{does_rightly, does_more}
-use Rattle.btr_store.proofs.LoadLemmas.{loads_said, turn_said, loads_if_allowed, loads_reported, turn_reported, loads_store, loads_store_in_order}
+use Rattle.btr_store.proofs.LoadLemmas.{says_some, loads_said, turn_said, loads_if_allowed, loads_reported, turn_reported, loads_store, loads_store_in_order}
 use Rattle.btr_store.proofs.load.load_store.Goals as goal
 
 pub returns-clause-plain : goal.returns-clause-plain
 returns-clause-plain g c = c.close_hall.ensures.plain c.args.disk c.in_ok-hall.ensures.begun.opened
+
+pub returns-clause-says : goal.returns-clause-says
+returns-clause-says g c = says_some (result_ok c.load-loaded.result) c.say_loaded-said.result c.close_hall.result.said c.close_hall.ensures.said c.say_loaded-said.ensures
 
 pub returns-clause-done : goal.returns-clause-done
 returns-clause-done g c = λ seen h held.
@@ -18,6 +22,7 @@ returns-clause-done g c = λ seen h held.
     let loaded = c.load-loaded.result in
     let said = c.say_loaded-said.result in
     let reported = c.close_hall.result.said in
+    let failed = c.close_hall.result.failed in
     let begun = c.in_ok-hall.ensures.begun in
     let on = begun.opened.stood seen h held in
     let hall = c.in_ok-hall.hall in
@@ -30,18 +35,22 @@ returns-clause-done g c = λ seen h held.
           does_more disk (λ start log own. LoadsRows start log start.history rows batch said own) (λ start log own. LoadsStore start log rows batch workers reported own) old new
           (λ start log own works legal is. loads_store disk old new start log rows batch workers own reported works many
           (loads_reported start log start.history rows batch said reported own c.close_hall.ensures.said is))
+          failed
           (does_rightly disk (λ start log low own. LoadsRows start log low rows batch said own) old new hall session last
           (λ start log own is. loads_if_allowed start log start.history rows batch is.loaded own is.loads)
           begun h on.at_rest.of
           (loads_said hall session last rows batch loaded said c.load-loaded.ensures.loads c.load-loaded.ensures.refused c.say_loaded-said.ensures)
-          (λ own goes. c.close_hall.ensures.works old begun.opened session own begun.begins goes h on))
+          (λ own goes. c.close_hall.ensures.works old begun.opened session own begun.begins goes h on)
+          failed (c.close_hall.ensures.failed old begun.opened h))
       | inr few ↦
           does_more disk (λ start log own. LoadsRowsInTurn start log start.history rows batch said own) (λ start log own. LoadsStore start log rows batch workers reported own) old new
           (λ start log own works legal is. loads_store_in_order disk old new start log rows batch workers own reported works
           (turn_reported start log start.history rows batch said reported own c.close_hall.ensures.said is))
+          failed
           (does_rightly disk (λ start log low own. LoadsRowsInTurn start log low rows batch said own) old new hall session last
           (λ start log own is. loads_if_allowed start log start.history rows batch is.did.loaded own is.did.loads)
           begun h on.at_rest.of
           (turn_said hall session last rows batch loaded said (c.load-loaded.ensures.in_turn few) c.load-loaded.ensures.refused c.say_loaded-said.ensures)
-          (λ own goes. c.close_hall.ensures.works old begun.opened session own begun.begins goes h on))
+          (λ own goes. c.close_hall.ensures.works old begun.opened session own begun.begins goes h on)
+          failed (c.close_hall.ensures.failed old begun.opened h))
     ]

@@ -17,6 +17,7 @@ returns-clause-done g c = λ seen h held.
     let points = c.args.points in
     let said = c.sample-said.result in
     let reported = c.close_hall.result.said in
+    let failed = c.close_hall.result.failed in
     let begun = c.in_ok-hall.ensures.begun in
     let on = begun.opened.stood seen h held in
     let hall = c.in_ok-hall.hall in
@@ -27,7 +28,9 @@ returns-clause-done g c = λ seen h held.
     (λ start log own works legal is.
     samples_store number streams points start log own works.each_once works.follows legal reported
     (samples_reported number streams points start log start.history said reported own c.close_hall.ensures.said is))
+    failed
     (does_rightly disk (λ start log low own. Samples number streams points start log low said own) old new hall session c.sample-said.new.session
     (λ start log own is. samples_allowed number streams points start log start.history said own is)
     begun h on.at_rest.of c.sample-said.ensures.does
-    (λ own goes. c.close_hall.ensures.works old begun.opened session own begun.begins goes h on))
+    (λ own goes. c.close_hall.ensures.works old begun.opened session own begun.begins goes h on)
+    failed (c.close_hall.ensures.failed old begun.opened h))

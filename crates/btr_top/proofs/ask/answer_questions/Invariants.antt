@@ -2,7 +2,7 @@
 use Rattle.std.proofs.Common.{◌≡◌, ◌++◌, List}
 use Rattle.btr_hist.specs.declared.entry.Entry.{Entry}
 use Rattle.btr_engine.specs.Snapshot.{IsSnapshotOf}
-use Rattle.btr_top.specs.Ask.{HasAnswered}
+use Rattle.btr_top.specs.Ask.{HasAnswered, RepliesEach}
 use Rattle.btr_top.proofs.ask.answer_questions.Given as goal
 
 -- the lines up to here were answered, and the others are left
@@ -10,4 +10,5 @@ abbrev pub invariant-loop-line : goal.invariant-loop-line
 invariant-loop-line l = record {
   split : l.yielded ++ l.line-iterator.rest.items ≡ l.fn.lines.items;
   has_answered : (h : List Entry) → IsSnapshotOf h l.fn.snapshot → HasAnswered h l.yielded l.transcript;
+  has_replied : RepliesEach l.yielded l.transcript;
 }

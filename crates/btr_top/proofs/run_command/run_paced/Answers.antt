@@ -6,6 +6,7 @@ use Rattle.btr_top.proofs.FaultCauses.{fault_shown}
 use Rattle.btr_top.proofs.FormatCompletes.{formats_shown}
 use Rattle.btr_top.proofs.PlainStatuses.{benign_shown}
 use Rattle.btr_top.proofs.RunCompletes.{plain_run}
+use Rattle.btr_top.proofs.UnsoundKept.{refused_shown}
 use Rattle.btr_top.proofs.run_command.run_paced.Goals as goal
 
 pub returns : goal.returns
@@ -35,6 +36,8 @@ returns g c =
             benign_shown sink before after works.others.sink_works e status
             (plain_run source disk given rest old new c.held_is_sound.ensures c.one_history_is_held.ensures source_reported reported works.source_works works.others.device_works command can e did.cause)
             shown;
+        unsound = λ reported opens unsound.
+            refused_shown disk (g.met.D.Disk g.world.𝓛 g.world.𝓜 g.world.𝓡 ((λ s x. x), (λ x. x), (λ x. x), λ x. x)).only_now old new reported unsound source given rest sink before after command e status opens did.cause shown;
         kept = did.kept;
       };
     }
