@@ -1,5 +1,5 @@
 //! Blocks of a supply that several threads have written.
-ghost use Rattle.std.specs.Prelude.{◌≡◌, ◌*◌, ◌<◌, length, IfOk, IsFalse, vec_len};
+ghost use Rattle.std.specs.Prelude.{◌≡◌, ◌*◌, ◌<◌, length, IfOk, vec_len};
 ghost use Rattle.std.specs.Thread.{IsSync};
 
 use crate::disk_tests::counted;
@@ -127,7 +127,6 @@ struct Case {
 /// Has these blocks written to the outlet by at most this many threads, or by the calling thread alone if there are none.
 fn is_written<R: Threads + Sync>(rt: &R, bytes: &[u8], threads: usize, outlet: &Counting) -> bool
     requires { length bytes.now ≡ 4096 * vec_len outlet.now.blocks }
-    ensures { IsFalse result → outlet.now.failing < vec_len outlet.now.blocks }
 {
     let held = HeldBlocks::new(bytes);
     if threads == 0 {
