@@ -1,16 +1,17 @@
-//! A device in a file.
-ghost use Rattle.std.specs.Prelude.{◌≡◌, ◌+◌, ◌*◌, ◌^◌, ◌<◌, ◌≤◌, ◌≤ℤ◌, ◌↔◌, length, max, pos, IfOk, IsOk, IsTrue};
+//! A device in a file, or a block device.
+ghost use Rattle.std.specs.Prelude.{◌≡◌, ◌+◌, ◌*◌, ◌^◌, ◌<◌, ◌≤◌, ◌≤ℤ◌, ◌↔◌, length, max, pos, IfOk, IsOk, IsErr, IsTrue, IsFalse};
 ghost use Rattle.std.specs.Fd.{file_raw_fd};
-ghost use Rattle.std.specs.List.{flat_map};
 ghost use Rattle.btr_disk.specs.Causes.{Counted, HasCause};
 
-use crate::MAX_BLOCKS;
+use crate::access::Access;
 use crate::count::raise;
-use btr_disk::{BLOCK, Disk, Failed, Outlet, Parts, Supply};
-use std::fs::{File, Files, OpenOptions};
+use crate::opening::{Opened, open_at};
+use crate::outlet::FileOutlet;
+use crate::renewing::renew_gates;
+use btr_disk::{BLOCK, Disk, Failed, Parts, Supply};
+use std::fs::{File, Files};
 use std::io;
 use std::io::ErrorKind;
-use std::os::fd::AsRawFd;
 use std::os::unix::fs::FileExt;
 
 /// A file is made longer to a multiple of this many bytes.
@@ -22,60 +23,82 @@ const SMALL_STEP: u64 = 65536;
 /// The number of bytes from which a file is not small.
 const LARGE: u64 = 8388608;
 
-/// The lock on a device's file, which excludes other processes that lock it too.
-#[derive(Clone, Copy, PartialEq, Eq)]
-pub enum Lock {
-    /// Other processes may hold a shared lock at the same time.
-    Shared,
-
-    /// No other process holds a lock at the same time.
-    Exclusive,
-}
-
-/// A file as a device of `2^32` blocks. Bytes past the file's end read as zeros. A write past it makes the file longer,
-/// to a multiple of 64 KiB, from 8 MiB on of 1 MiB: so a sync seldom has to write the file's length too. A sync is the
-/// system's `fdatasync`, which writes the bytes and all that is needed to read them. The file's descriptor is at least
-/// 3, so it is never that of a standard stream that was closed. The file is locked until the device is dropped or the
-/// process ends.
+/// A file or a block device as a device.
 ///
-/// No contract says what the file holds. The system and the disk are trusted: a write reaches the file, a read returns
-/// what was written, and what was synced survives a crash.
+/// A regular file has `2^32` blocks. Bytes past its end read as zeros. A write past it makes the file longer, to a multiple of 64 KiB, from
+/// 8 MiB on of 1 MiB: so a sync seldom has to write the file's length too. A block device has the blocks of its own length, but at most
+/// `2^32`. A sync is the system's `fdatasync`, which writes the bytes and all that is needed to read them. The file's descriptor is at
+/// least 3, so it is never that of a standard stream that was closed. The file is locked until the device is dropped or the process ends.
+///
+/// If a sync fails, nobody knows what the disk has of the blocks that were written before it, while a read returns what was written. So
+/// after the first write or sync that failed each later one fails too, and the next opening of the file writes the blocks on which all else
+/// depends anew.
+///
+/// No contract says what the file holds. The system and the disk are trusted: a write reaches the file, a read returns what was written,
+/// a sync reports each write that failed, what was synced survives a crash, and a block that is written again with the bytes that it has
+/// keeps them.
 #[derive(Drop)]
 pub struct FileDisk {
     file: File,
-    /// A number of bytes that the file does not exceed.
+
+    /// Of a block device, the lock on the device itself.
+    _claim: Option<File>,
+    blocks: u64,
+
+    /// A number of bytes that the file does not exceed; of a block device, those that it has.
     length: u64,
+
+    /// Whether a write or a sync failed.
+    has_failed: bool,
     calls: u64,
     faults: u64,
     ghost above_streams: { pos 3 ≤ℤ file_raw_fd file },
+    ghost addressable: { blocks ≤ 2 ^ 32 },
 }
 
 impl FileDisk {
-    /// Opens a file for reading and writing, creates it empty if it is missing, and locks it. It does not wait for a
-    /// lock: if another process holds one that excludes this one, the call returns an error, as it does if the system
-    /// cannot lock the file.
-    pub fn open<R: Files<File = File>>(rt: &R, path: &str, lock: Lock) -> io::Result<FileDisk>
-        ensures calls { IfOk result (λ disk. disk.calls ≡ 0) }
-        ensures faults { IfOk result (λ disk. disk.faults ≡ 0) }
-        ensures above_streams { IfOk result (λ disk. pos 3 ≤ℤ file_raw_fd disk.file) }
+    /// Opens a file or a block device for what a run does with it, and locks it. A regular file is made if it is missing, but not below
+    /// `/dev`. The call does not wait for a lock: if another process has one that excludes this one, it returns an error, as it does if the
+    /// system cannot lock the file, if a block device is to be written and is in use, and if what is at the path is something else.
+    ///
+    /// Of a store that may be written it writes the gates anew on which all else depends, with the bytes that they have ([`renew_gates`]).
+    /// The first call of a run on its device is a sync, which makes them durable.
+    pub fn open<R: Files<File = File> + AllocGlobal + Clone + Drop>(
+        rt: &R,
+        path: &str,
+        access: Access,
+    ) -> io::Result<FileDisk>
+        ensures { IfOk result (λ disk. pos 3 ≤ℤ file_raw_fd disk.file) }
     {
-        let mut options = OpenOptions::new();
-        options.read(true).write(true).create(true);
-        let file = above_streams(options.open(rt, path)?)?;
-        take_lock(&file, lock)?;
-        let length = file.metadata()?.len();
-        Ok(FileDisk {
+        let Opened {
             file,
+            claim,
+            blocks,
             length,
+        } = open_at(rt, path, access)?;
+        let mut disk = FileDisk {
+            file,
+            _claim: claim,
+            blocks,
+            length,
+            has_failed: false,
             calls: 0,
             faults: 0,
-        })
+        };
+        match access {
+            Access::Read => Ok(disk),
+            Access::Write => match renew_gates(&mut disk) {
+                Ok(()) => Ok(disk),
+                Err(Failed) => Err(io::Error::from(ErrorKind::Other)),
+            },
+        }
     }
 
     /// Makes the file longer before a write up to this byte, if it may be shorter. It never makes it shorter. If the
     /// system refuses, the write alone makes it longer, or fails.
     fn lengthen(&mut self, end: u64)
         requires { end < 2 ^ 63 }
+        ensures blocks { self.new.blocks ≡ self.old.blocks }
         ensures calls { self.new.calls ≡ self.old.calls }
         ensures faults { self.new.faults ≡ self.old.faults }
         ensures longer { self.old.length ≤ self.new.length }
@@ -94,6 +117,7 @@ impl FileDisk {
 
     /// Counts a fault if the system has returned an error, and so the call is not done.
     fn counted(&mut self, is_done: bool) -> Result<(), Failed>
+        ensures blocks { self.new.blocks ≡ self.old.blocks }
         ensures calls { self.new.calls ≡ self.old.calls }
         ensures cause { HasCause self.old.faults self.new.faults result }
         ensures ok { IsOk result ↔ IsTrue is_done }
@@ -105,12 +129,28 @@ impl FileDisk {
             Err(Failed)
         }
     }
+
+    /// The same of a write or a sync. After the first one that is not done none is.
+    fn changed(&mut self, is_done: bool) -> Result<(), Failed>
+        ensures blocks { self.new.blocks ≡ self.old.blocks }
+        ensures calls { self.new.calls ≡ self.old.calls }
+        ensures cause { HasCause self.old.faults self.new.faults result }
+        ensures ok { IsOk result ↔ (IsTrue is_done × IsFalse self.old.has_failed) }
+        ensures stays { IsTrue self.new.has_failed ↔ IsErr result }
+    {
+        if self.has_failed || !is_done {
+            self.has_failed = true;
+            raise(&mut self.faults);
+            return Err(Failed);
+        }
+        Ok(())
+    }
 }
 
 impl Disk for FileDisk {
     ghost is_observable = { ⊥ };
 
-    ghost size = { λ disk. 2 ^ 32 };
+    ghost size = { λ disk. disk.blocks };
 
     ghost contents = { λ disk address. 0 };
 
@@ -123,7 +163,7 @@ impl Disk for FileDisk {
     ghost faults = { λ disk. disk.faults };
 
     fn blocks(&self) -> u64 {
-        MAX_BLOCKS
+        self.blocks
     }
 
     fn read(&mut self, first: u64, buf: &mut [u8]) -> Result<(), Failed> {
@@ -137,7 +177,7 @@ impl Disk for FileDisk {
         let offset = first * BLOCK as u64;
         self.lengthen(offset + bytes.len() as u64);
         let answer = self.file.write_all_at(bytes, offset);
-        self.counted(answer.is_ok())
+        self.changed(answer.is_ok())
     }
 
     fn write_parts<S: Supply>(
@@ -156,13 +196,13 @@ impl Disk for FileDisk {
             front,
             room,
         });
-        self.counted(is_written)
+        self.changed(is_written)
     }
 
     fn sync(&mut self) -> Result<(), Failed> {
         raise(&mut self.calls);
         let answer = self.file.sync_data();
-        self.counted(answer.is_ok())
+        self.changed(answer.is_ok())
     }
 
     ghost image_bytes = { λ observable. absurd observable };
@@ -184,83 +224,6 @@ fn length_for(end: u64) -> u64
 {
     let step = if end < LARGE { SMALL_STEP } else { STEP };
     (end + step - 1) / step * step
-}
-
-/// The same open file at a descriptor of at least 3. A file that is opened while a standard stream is closed gets the
-/// stream's descriptor. It is then closed there, and later calls on the stream fail.
-fn above_streams(file: File) -> io::Result<File>
-    ensures { IfOk result (λ file. pos 3 ≤ℤ file_raw_fd file) }
-{
-    if file.as_raw_fd() >= 3 {
-        return Ok(file);
-    }
-    let copy = file.try_clone()?;
-    if copy.as_raw_fd() >= 3 {
-        Ok(copy)
-    } else {
-        Err(io::Error::from(ErrorKind::Other))
-    }
-}
-
-/// Takes a lock on the whole file, or returns an error at once.
-fn take_lock(file: &File, lock: Lock) -> io::Result<()> {
-    match lock {
-        Lock::Shared => file.try_lock_shared()?,
-        Lock::Exclusive => file.try_lock()?,
-    }
-    Ok(())
-}
-
-/// Where a write puts the front and the blocks after it.
-#[derive(Drop)]
-struct FileOutlet<'a> {
-    file: &'a File,
-    /// Where the front begins.
-    offset: u64,
-    front: &'a Parts,
-    /// The number of blocks after the front.
-    room: usize,
-    ghost inside: { offset + length front.now + 4096 * room < 2 ^ 63 },
-}
-
-impl Outlet for FileOutlet<'_> {
-    ghost use Rattle.std.specs.Prelude.{⊤};
-
-    ghost room = { λ outlet. outlet.room };
-
-    ghost front_size = { λ outlet. length outlet.front.now };
-
-    // No contract says what the file holds.
-    ghost has_front = { λ _. ⊤ };
-
-    ghost has_block = { λ _ _ _. ⊤ };
-
-    fn front_len(&self) -> usize {
-        self.front.len()
-    }
-
-    fn put_front(&self) -> bool {
-        write_each(self.file, self.offset, self.front.as_slices()).is_ok()
-    }
-
-    fn put(&self, first: usize, blocks: &[u8]) -> bool {
-        let place = self.front.len() + first * BLOCK;
-        self.file
-            .write_all_at(blocks, self.offset + place as u64)
-            .is_ok()
-    }
-}
-
-/// Writes the parts from this offset on, one after the other, and stops at the first that fails.
-fn write_each(file: &File, offset: u64, parts: &[Vec<u8>]) -> io::Result<()>
-    requires { offset + length (flat_map (λ p. p.items) parts.now) < 2 ^ 63 }
-{
-    let mut place = offset;
-    for part in parts {
-        file.write_all_at(part, place)?;
-        place += part.len() as u64;
-    }
-    Ok(())
 }
 
 /// Fills the buffer with the file's bytes from this offset on, and with zeros past the file's end.

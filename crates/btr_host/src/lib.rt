@@ -1,4 +1,4 @@
-//! A file as a `Disk`, and the standard streams as `Source` and `Sink`.
+//! A file or a block device as a `Disk`, and the standard streams as `Source` and `Sink`.
 //!
 //! No contract says what a file, standard input or standard output holds. Each type here counts its faults: the count
 //! rises at each error of the system, and a call returns `Failed` only then. The layers above state the rest for
@@ -7,14 +7,23 @@
 //! A call that a signal interrupts is repeated. No call on a device or a stream takes memory.
 #![tactic(auto)]
 
+mod access;
 mod count;
 mod file_disk;
+mod in_use;
+mod log_end;
 mod no_disk;
+mod opening;
+mod outlet;
+mod renewing;
 mod std_sink;
 mod std_source;
 
-pub use file_disk::{FileDisk, Lock};
+pub use access::Access;
+pub use file_disk::FileDisk;
+pub use log_end::last_gate;
 pub use no_disk::NoDisk;
+pub use renewing::renew_gates;
 pub use std_sink::StdSink;
 pub use std_source::StdSource;
 

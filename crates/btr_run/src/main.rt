@@ -3,7 +3,7 @@
 #![tactic(auto)]
 
 ghost use Rattle.std.specs.Prelude.{◌≡◌, ◌↔◌, map, string_bytes, IfOk};
-ghost use Rattle.btr_host.specs.declared.file_disk.Lock.TheVariants.{Shared};
+ghost use Rattle.btr_host.specs.declared.access.Access.TheVariants as accesses;
 ghost use Rattle.btr_words.specs.Words.{command_of};
 ghost use Rattle.btr_top.specs.Run.{IsReader};
 
@@ -11,7 +11,7 @@ mod usage;
 
 use crate::usage::say_usage;
 use btr_disk::Disk;
-use btr_host::{FileDisk, Lock, NoDisk, StdSink, StdSource};
+use btr_host::{Access, FileDisk, NoDisk, StdSink, StdSource};
 use btr_top::{Outcome, run};
 use btr_words::{Command, read_words};
 use std::alloc::{AllocError, Global};
@@ -59,8 +59,8 @@ fn run_or_explain<W: Threads + Wait + Sync>(rt: &HostRuntime, wait: &W, words: &
 /// by `wait`: that is the runtime too, which only `main` may use so.
 fn run_words<W: Threads + Wait + Sync>(rt: &HostRuntime, wait: &W, words: &[String]) -> u8 {
     match words {
-        [_, path, rest @ ..] if !rest.is_empty() => match lock_of(rt.alloc(), rest) {
-            Ok(lock) => run_on(rt, wait, path.as_str(), lock, rest),
+        [_, path, rest @ ..] if !rest.is_empty() => match access_of(rt.alloc(), rest) {
+            Ok(access) => run_on(rt, wait, path.as_str(), access, rest),
             Err(_) => end_without_memory(rt),
         },
         _ => run_with(rt, wait, &[], NoDisk::new()),
@@ -72,10 +72,10 @@ fn run_on<W: Threads + Wait + Sync>(
     rt: &HostRuntime,
     wait: &W,
     path: &str,
-    lock: Lock,
+    access: Access,
     words: &[String],
 ) -> u8 {
-    match FileDisk::open(rt, path, lock) {
+    match FileDisk::open(rt, path, access) {
         Ok(disk) => run_with(rt, wait, words, disk),
         Err(_) => run_with(rt, wait, words, NoDisk::new()),
     }
@@ -100,14 +100,13 @@ fn run_with<W: Threads + Wait + Sync, D: Disk + Send + Drop>(
     status
 }
 
-/// The lock that a run takes on its device: a shared one for `ask` and `check`, which write nothing there, and an
-/// exclusive one for all else. An `Err` means out of memory.
-fn lock_of(alloc: Global, words: &[String]) -> Result<Lock, AllocError>
-    ensures { IfOk result (λ l. (l ≡ Shared) ↔ IsReader (command_of (map string_bytes words.now))) }
+/// What a run with these words does with its device: `ask` and `check` read, and all else may write. An `Err` means out of memory.
+fn access_of(alloc: Global, words: &[String]) -> Result<Access, AllocError>
+    ensures { IfOk result (λ a. (a ≡ accesses.Read) ↔ IsReader (command_of (map string_bytes words.now))) }
 {
     match read_words(alloc, words)? {
-        Some(Command::Ask | Command::Check) => Ok(Lock::Shared),
-        _ => Ok(Lock::Exclusive),
+        Some(Command::Ask | Command::Check) => Ok(Access::Read),
+        _ => Ok(Access::Write),
     }
 }
 

@@ -24,7 +24,9 @@ pub(crate) fn say_usage(rt: &HostRuntime, words: &[String]) {
     for command in COMMANDS {
         let _ = eprintln!(rt; "    {command}");
     }
-    let _ = eprintln!(rt; "DEVICE is a file. docs/COMMANDS.md says what each command does.");
+    let _ = eprintln!(rt;
+        "DEVICE is a file or a block device. docs/COMMANDS.md says what each command does."
+    );
 }
 
 /// Says what is wrong with words that begin with this command.

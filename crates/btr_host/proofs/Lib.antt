@@ -1,0 +1,2 @@
+mod LogEndLemmas
+mod RenewLemmas
