@@ -40,12 +40,23 @@ if ! "${drop[@]}" true 2>/dev/null; then
 elif "${drop[@]}" sh -c ': >>readonly' 2>/dev/null; then
     skip 'a file that may not be written' 'the system lets this user write it'
 else
-    for command in ask live; do
-        "${drop[@]}" "$program" readonly "$command" <one_more >out 2>err
+    for command in ask check; do
+        "${drop[@]}" "$program" readonly "$command" <questions >out 2>err
         status=$?
-        found="$(ended), $(compared readonly before)"
-        expect "$command on a file that may not be written" "$found" '5: no device/, same'
+        wanted=$answer
+        [ "$command" = ask ] || wanted='stands 2/'
+        expect "$command on a file that may not be written" "$(ended), $(compared readonly before)" "0: $wanted, same"
     done
+    for command in live checkpoint 'format --blocks 64'; do
+        # shellcheck disable=SC2086
+        "${drop[@]}" "$program" readonly $command <one_more >out 2>err
+        status=$?
+        expect "$command on a file that may not be written" "$(ended), $(compared readonly before)" '5: no device/, same'
+    done
+    chmod 000 readonly
+    "${drop[@]}" "$program" readonly ask <questions >out 2>err
+    status=$?
+    expect 'ask on a file that may not be read' "$(ended)" '5: no device/'
 fi
 
 # Words that are no command leave an empty file, and no path is no usage.

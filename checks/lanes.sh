@@ -334,3 +334,33 @@ for run in $(seq "${BTR_SOAK:-2}"); do
     [ -z "$found" ] || { found="run $run: $found"; break; }
 done
 expect 'eight lanes of 500 lines have replies of one history, which is the log' "$found" ''
+
+# ---- how often lanes wait for each other
+
+# A lane that runs takes the log again, although others wait for it. If it handed the log over at each line, a thread would fall asleep at
+# each line, and another would be woken. On a machine with nothing beside it some 50 to 2,000 of these 8,000 lines let a thread fall asleep.
+# The device is a file in memory: a sync of a disk would put the lane to sleep at each line too.
+name='four lanes do not fall asleep at each line'
+timer=$(type -P time)
+if [ -z "$timer" ] || ! "$timer" -f %w -o waits true 2>/dev/null; then
+    skip "$name" 'GNU time is missing'
+    exit 0
+fi
+if ! quick=$(mktemp -d /dev/shm/btr_check.XXXXXXXX 2>/dev/null); then
+    skip "$name" 'there is no /dev/shm'
+    exit 0
+fi
+trap 'rm -rf "$folder" "$quick"' EXIT
+
+# 2,000 lines in each of four lanes, each lane with a stream of its own. Prints ok, or how often a thread of the run fell asleep.
+waits() {
+    local lines=8000
+    awk 'BEGIN { for (k = 1; k <= 4; k++) printf "create 00000000-0000-4000-8000-%012d\n", k }' >made
+    awk -v lines=$lines 'BEGIN { for (n = 0; n < lines; n++) printf "@%d insert 00000000-0000-4000-8000-%012d %d 1\n", n % 4, n % 4 + 1, n }' >script
+    : >"$quick/device"
+    play "$quick/device" format --blocks 100000 </dev/null
+    play "$quick/device" live <made
+    "$timer" -f %w -o waits "$program" "$quick/device" live <script >out 2>err || echo "status $?"
+    if [ "$(tail -n 1 waits)" -lt $lines ]; then echo ok; else echo "$(tail -n 1 waits) waits of $lines lines"; fi
+}
+expect "$name" "$(waits)" ok
