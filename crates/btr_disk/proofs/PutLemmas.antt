@@ -63,6 +63,10 @@ pub portion_of : (each portions blocks i : ℕ) → 0 < portions → each ≡ di
 portion_of each portions blocks i some even inside =
     portion_in each portions blocks i (subst (λ (x : ℕ). blocks ≤ x * portions) (sym even) (div_ceil_times blocks portions some).0) inside
 
+-- a number below n is below the length of the first n members of a longer list
+pub below_taken : {A : Type 0} (n i : ℕ) (list : List A) → n ≤ length list → i < n → i < length (take n list)
+below_taken n i list long below = omega (arith, length-take n list, long, below)
+
 pub none_is : (is_any : Bool) → not is_any ≡ true → is_any ≡ false
 none_is true is_not = sym is_not
 none_is false is_not = refl

@@ -3,7 +3,7 @@ use Rattle.std.specs.Prelude.{◌≡◌, ℕ, ◌+◌, ◌-◌, ◌*◌, ◌/◌
 use Rattle.std.proofs.Common.{get_or, refl, sym, ◌∙◌, ap, subst, inl, inr, ⊎_elim, arith, length-append, length-take, get_or-take, get_or-drop}
 use Rattle.std.proofs.lemmas.List.{get_or_append_left, get_or-append_right, reverse-append, length-reverse, take_at, drop_at, append-nil}
 use Rattle.btr_disk.specs.Bytes.{Image, Has, Same, SameBut, AreBytes}
-use Rattle.btr_disk.specs.Images.{Torn, MayTear, Tears}
+use Rattle.btr_disk.specs.Images.{SameImages, Torn, MayTear, Tears}
 use Rattle.btr_disk.specs.Moments.{Elapses}
 use Rattle.btr_disk.proofs.ByteLemmas.{Has-at, Has-from_each, Same-is, Same-refl, SameBut-at, SameBut-sym, SameBut-patched, patched, patched-inside, AreBytes-patched, cases_range}
 use Rattle.btr_disk.specs.CallRecord.{contents_of, MayLeave, MayHaveLeft, MayLeaveNow, MayLeaveSince, IsBefore, IsUnsyncedAt, replaced_before, newest_first, call_count, Records, IsLeftOut, TearsOnly}
@@ -60,6 +60,20 @@ pub nothing_recorded : (now : Image) (old new : CallRecord) → Records Nothing 
 nothing_recorded now old new it =
     recorded Nothing [] now now old new it
     (enters Nothing (newest_first old) now now old.replaced.items new.replaced.items (Same-refl now) (λ past same k. sym (same k)) (it.replaced ∙ append-nil old.replaced.items))
+
+pub nothing_changed : (now : Image) (old new : CallRecord) → Records Nothing [] old new → SameImages (MayLeaveNow now old) (MayLeaveNow now new)
+nothing_changed now old new it =
+    let newest : newest_first new ≡ Nothing ∷ newest_first old = ap reverse it.calls ∙ reverse-append old.calls.items (Nothing ∷ []) in
+    record {
+      none_new = λ c left.
+          let one : MayLeave now (Nothing ∷ newest_first old) new.torn.flags.items c = subst (λ (l : List Call). MayLeave now l new.torn.flags.items c) newest left in
+          let here : MayLeave now (Nothing ∷ newest_first old) old.torn.flags.items c = subst (λ l. MayLeave now (Nothing ∷ newest_first old) l c) it.torn one in
+          record { bytes = here.bytes; synced = here.synced };
+      none_gone = λ c left.
+          let here : MayLeave now (Nothing ∷ newest_first old) old.torn.flags.items c = record { bytes = left.bytes; synced = left.synced } in
+          subst (λ (l : List Call). MayLeave now l new.torn.flags.items c) (sym newest)
+          (subst (λ l. MayLeave now (Nothing ∷ newest_first old) l c) (sym it.torn) here);
+    }
 
 pub sync_recorded : (now : Image) (old new : CallRecord) → Records Synced [] old new → Elapses (call_count old) (MayLeaveSince now old) (MayLeaveSince now new) (MayLeaveNow now new)
 sync_recorded now old new it =

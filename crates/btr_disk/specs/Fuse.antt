@@ -14,6 +14,14 @@ module _ {D : Type 0} {disk : Ghosts D} where
   abbrev pub fuse_faults : FuseDisk D disk → ℕ
   fuse_faults fuse = disk.faults fuse.disk + fuse.failed
 
+  -- What a read of the other device returns.
+  abbrev pub fuse_contents : FuseDisk D disk → Image
+  fuse_contents fuse = disk.contents fuse.disk
+
+  -- What a crash may leave of the other device now.
+  abbrev pub fuse_images : FuseDisk D disk → Image → Type 0
+  fuse_images fuse = disk.images_now fuse.disk
+
   -- What a crash may have left of the other device at a moment from the call number on.
   abbrev pub fuse_since : FuseDisk D disk → ℕ → Image → Type 0
   fuse_since fuse t c = disk.images_since fuse.disk (min t (disk.calls fuse.disk)) c

@@ -1,6 +1,7 @@
 pub mod Bytes
 pub mod Images
 pub mod Moments
+pub mod Calls
 pub mod Causes
 pub mod Gate
 pub mod Publish

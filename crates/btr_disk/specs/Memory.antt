@@ -1,8 +1,8 @@
 -- What a device in memory means: its images now, those since a call number, and which of its calls fail.
-use Rattle.std.specs.Prelude.{◌≡◌, ℕ, ◌==◌, Bool, length, take, drop, IsTrue, IsFalse}
+use Rattle.std.specs.Prelude.{◌≡◌, ℕ, ◌==◌, Bool, List, length, take, drop, IsTrue, IsFalse}
 use Rattle.std.specs.List.{list_any}
 use Rattle.btr_disk.specs.Bytes.{Image}
-use Rattle.btr_disk.specs.CallRecord.{CanRecord, Records, contents_of, MayLeaveNow, MayLeaveSince}
+use Rattle.btr_disk.specs.CallRecord.{CanRecord, HasCapacity, Records, contents_of, call_count, MayLeaveNow, MayLeaveSince}
 use Rattle.btr_disk.specs.declared.call_record.Call.TheVariants.{Wrote}
 use Rattle.btr_disk.specs.declared.memory.MemDisk.{MemDisk}
 
@@ -13,6 +13,21 @@ images_of disk = MayLeaveNow (contents_of disk.bytes.items) disk.made
 -- What a crash may leave now, or may have left after the call number or a later call.
 abbrev pub since_of : MemDisk → ℕ → Image → Type 0
 since_of disk = MayLeaveSince (contents_of disk.bytes.items) disk.made
+
+-- What a read returns.
+abbrev pub reads_of : MemDisk → Image
+reads_of disk = contents_of disk.bytes.items
+
+-- The number of calls that were made.
+abbrev pub calls_of : MemDisk → ℕ
+calls_of disk = call_count disk.made
+
+-- No call was made of the device and none failed. The calls of this list will fail, and it can remember this much.
+pub record IsUnused (failing : List ℕ) (calls blocks : ℕ) (disk : MemDisk) : Type 0 where
+  pub no_calls : calls_of disk ≡ 0
+  pub no_faults : disk.faults ≡ 0
+  pub list : disk.failing.items ≡ failing
+  pub capacity : HasCapacity calls blocks disk.made
 
 -- The number of the next call is in the list of those that fail.
 abbrev pub is_listed : MemDisk → Bool

@@ -1,8 +1,9 @@
 //! The block device, and what each of its calls does to what a read returns and to what a crash may leave.
 ghost use Rattle.std.specs.Prelude.{◌≡◌, ◌*◌, ◌≤◌, ℕ, ◌++◌, length, OnOk, OnErr};
-ghost use Rattle.btr_disk.specs.Bytes.{Image, Has, Same, SameBut, AreBytes, IsBlockRange};
-ghost use Rattle.btr_disk.specs.Images.{Only, SameImages, Tears};
+ghost use Rattle.btr_disk.specs.Bytes.{Image, Same, AreBytes, IsBlockRange};
+ghost use Rattle.btr_disk.specs.Images.{Only, SameImages};
 ghost use Rattle.btr_disk.specs.Moments.{Elapses};
+ghost use Rattle.btr_disk.specs.Calls.{Reads, Writes};
 ghost use Rattle.btr_disk.specs.Causes.{Counted, HasCause};
 
 use crate::{Parts, Supply};
@@ -56,10 +57,8 @@ pub trait Disk {
         ensures size { size self.new ≡ size self.old }
         ensures calls { Counted (calls self.old) (calls self.new) }
         ensures cause { HasCause (faults self.old) (faults self.new) result }
-        ensures bytes { is_observable → OnOk result (Has (contents self.old) (4096 * first) buf.new) }
-        ensures contents { is_observable → Same (contents self.old) (contents self.new) }
-        ensures images { is_observable → SameImages (images_now self.old) (images_now self.new) }
-        ensures time { is_observable → Elapses (calls self.old) (images_since self.old) (images_since self.new) (images_now self.new) };
+        ensures reads { is_observable
+            → Reads calls contents images_now images_since (4096 * first) buf.new self.old self.new result };
 
     /// Writes `bytes`, which are whole blocks inside the device, at block `first`.
     ///
@@ -70,10 +69,8 @@ pub trait Disk {
         ensures size { size self.new ≡ size self.old }
         ensures calls { Counted (calls self.old) (calls self.new) }
         ensures cause { HasCause (faults self.old) (faults self.new) result }
-        ensures written { is_observable → OnOk result (Has (contents self.new) (4096 * first) bytes.now) }
-        ensures elsewhere { is_observable → SameBut (4096 * first) (length bytes.now) (contents self.old) (contents self.new) }
-        ensures images { is_observable → Tears (4096 * first) (length bytes.now) (images_now self.old) (images_now self.new) }
-        ensures time { is_observable → Elapses (calls self.old) (images_since self.old) (images_since self.new) (images_now self.new) };
+        ensures writes { is_observable
+            → Writes calls contents images_now images_since (4096 * first) bytes.now self.old self.new result };
 
     /// Writes `front` and then the blocks of `rest` as [`Disk::write`] does, in one call.
     fn write_parts<S: Supply>(&mut self, first: u64, front: &Parts, rest: &S) -> Result<(), Failed>
@@ -82,12 +79,8 @@ pub trait Disk {
         ensures size { size self.new ≡ size self.old }
         ensures calls { Counted (calls self.old) (calls self.new) }
         ensures cause { HasCause (faults self.old) (faults self.new) result }
-        ensures written { is_observable → OnOk result (Has (contents self.new) (4096 * first) (front.now ++ S.bytes rest.now)) }
-        ensures elsewhere { is_observable
-            → SameBut (4096 * first) (length (front.now ++ S.bytes rest.now)) (contents self.old) (contents self.new) }
-        ensures images { is_observable
-            → Tears (4096 * first) (length (front.now ++ S.bytes rest.now)) (images_now self.old) (images_now self.new) }
-        ensures time { is_observable → Elapses (calls self.old) (images_since self.old) (images_since self.new) (images_now self.new) };
+        ensures writes { is_observable
+            → Writes calls contents images_now images_since (4096 * first) (front.now ++ S.bytes rest.now) self.old self.new result };
 
     /// After a sync that succeeds a crash leaves what a read returns. A sync that fails changes nothing.
     fn sync(&mut self) -> Result<(), Failed>

@@ -54,20 +54,21 @@ impl<D: Disk> FuseDisk<D> {
 
 impl<D: Disk> Disk for FuseDisk<D> {
     ghost use Rattle.std.specs.Prelude.{◌*◌, ◌++◌, IsErr, OnOk, OnErr};
-    ghost use Rattle.btr_disk.specs.Bytes.{Has, IsBlockRange, Same, SameBut};
-    ghost use Rattle.btr_disk.specs.Images.{Only, SameImages, Tears};
+    ghost use Rattle.btr_disk.specs.Bytes.{IsBlockRange, Same};
+    ghost use Rattle.btr_disk.specs.Images.{Only, SameImages};
     ghost use Rattle.btr_disk.specs.Moments.{Elapses};
+    ghost use Rattle.btr_disk.specs.Calls.{Reads, Writes};
     ghost use Rattle.btr_disk.specs.Causes.{Counted, HasCause};
-    ghost use Rattle.btr_disk.specs.Fuse.{WithholdsIfSpent, CutsOffIfSpent, fuse_calls, fuse_faults, fuse_since};
+    ghost use Rattle.btr_disk.specs.Fuse.{WithholdsIfSpent, CutsOffIfSpent, fuse_calls, fuse_faults, fuse_contents, fuse_images, fuse_since};
     ghost use Rattle.btr_disk.specs.FuseLaws.{fuse_counts_now, fuse_only_now, fuse_fewer_later};
 
     ghost is_observable = { D.is_observable };
 
     ghost size = { λ fuse. D.size fuse.disk };
 
-    ghost contents = { λ fuse. D.contents fuse.disk };
+    ghost contents = { λ fuse. fuse_contents fuse };
 
-    ghost images_now = { λ fuse. D.images_now fuse.disk };
+    ghost images_now = { λ fuse. fuse_images fuse };
 
     ghost images_since = { λ fuse. fuse_since fuse };
 
@@ -97,11 +98,8 @@ impl<D: Disk> Disk for FuseDisk<D> {
         ensures size { D.size self.new.disk ≡ D.size self.old.disk }
         ensures calls { Counted (fuse_calls self.old) (fuse_calls self.new) }
         ensures cause { HasCause (fuse_faults self.old) (fuse_faults self.new) result }
-        ensures bytes { D.is_observable → OnOk result (Has (D.contents self.old.disk) (4096 * first) buf.new) }
-        ensures contents { D.is_observable → Same (D.contents self.old.disk) (D.contents self.new.disk) }
-        ensures images { D.is_observable → SameImages (D.images_now self.old.disk) (D.images_now self.new.disk) }
-        ensures time { D.is_observable
-            → Elapses (fuse_calls self.old) (fuse_since self.old) (fuse_since self.new) (D.images_now self.new.disk) }
+        ensures reads { D.is_observable
+            → Reads fuse_calls fuse_contents fuse_images fuse_since (4096 * first) buf.new self.old self.new result }
         ensures withheld { WithholdsIfSpent self.old self.new (IsErr result × (buf.new ≡ buf.old)) }
     {
         if self.left == 0 {
@@ -118,13 +116,8 @@ impl<D: Disk> Disk for FuseDisk<D> {
         ensures size { D.size self.new.disk ≡ D.size self.old.disk }
         ensures calls { Counted (fuse_calls self.old) (fuse_calls self.new) }
         ensures cause { HasCause (fuse_faults self.old) (fuse_faults self.new) result }
-        ensures written { D.is_observable → OnOk result (Has (D.contents self.new.disk) (4096 * first) bytes.now) }
-        ensures elsewhere { D.is_observable
-            → SameBut (4096 * first) (length bytes.now) (D.contents self.old.disk) (D.contents self.new.disk) }
-        ensures images { D.is_observable
-            → Tears (4096 * first) (length bytes.now) (D.images_now self.old.disk) (D.images_now self.new.disk) }
-        ensures time { D.is_observable
-            → Elapses (fuse_calls self.old) (fuse_since self.old) (fuse_since self.new) (D.images_now self.new.disk) }
+        ensures writes { D.is_observable
+            → Writes fuse_calls fuse_contents fuse_images fuse_since (4096 * first) bytes.now self.old self.new result }
         ensures cut_off { CutsOffIfSpent self.old self.new (IsErr result) }
     {
         if self.left == 0 {
@@ -142,14 +135,9 @@ impl<D: Disk> Disk for FuseDisk<D> {
         ensures size { D.size self.new.disk ≡ D.size self.old.disk }
         ensures calls { Counted (fuse_calls self.old) (fuse_calls self.new) }
         ensures cause { HasCause (fuse_faults self.old) (fuse_faults self.new) result }
-        ensures written { D.is_observable
-            → OnOk result (Has (D.contents self.new.disk) (4096 * first) (front.now ++ S.bytes rest.now)) }
-        ensures elsewhere { D.is_observable
-            → SameBut (4096 * first) (length (front.now ++ S.bytes rest.now)) (D.contents self.old.disk) (D.contents self.new.disk) }
-        ensures images { D.is_observable
-            → Tears (4096 * first) (length (front.now ++ S.bytes rest.now)) (D.images_now self.old.disk) (D.images_now self.new.disk) }
-        ensures time { D.is_observable
-            → Elapses (fuse_calls self.old) (fuse_since self.old) (fuse_since self.new) (D.images_now self.new.disk) }
+        ensures writes { D.is_observable
+            → Writes fuse_calls fuse_contents fuse_images fuse_since (4096 * first) (front.now ++ S.bytes rest.now)
+            self.old self.new result }
         ensures cut_off { CutsOffIfSpent self.old self.new (IsErr result) }
     {
         if self.left == 0 {

@@ -1,11 +1,8 @@
 //! Gates: a gate is the block that decides whether the body after it counts, and `publish` opens one.
-ghost use Rattle.std.specs.Prelude.{◌≡◌, ◌↔◌, ◌≤◌, ◌*◌, ℕ, ◌++◌, length, take, replicate, IsTrue, OnOk};
-ghost use Rattle.btr_disk.specs.Bytes.{IsBlockRange, IsOutside};
+ghost use Rattle.std.specs.Prelude.{◌≡◌, ◌↔◌, ◌≤◌, ◌*◌, ℕ, ◌++◌, length, take, replicate, IsTrue};
 ghost use Rattle.btr_disk.specs.Causes.{CountsCalls, HasCause, Rose};
 ghost use Rattle.btr_disk.specs.Gate.{mark, gate_block};
-ghost use Rattle.btr_disk.specs.Images.{Only};
-ghost use Rattle.btr_disk.specs.Moments.{Leaves};
-ghost use Rattle.btr_disk.specs.Publish.{IsBeforeOrHasBody, Published};
+ghost use Rattle.btr_disk.specs.Publish.{HasPlaces, Publishes};
 
 use crate::{BLOCK, Disk, Failed, Parts, Supply};
 
@@ -48,22 +45,14 @@ pub fn publish<D: Disk, S: Supply>(
     gate: &[u8],
 ) -> Result<(), Failed>
     requires able { S.can_work }
-    requires body { IsBlockRange (D.size device.old) first (length (front.now ++ S.bytes rest.now)) }
-    requires gate { IsBlockRange (D.size device.old) at (length gate.now) }
-    requires one_block { length gate.now ≡ 4096 }
-    requires apart { IsOutside (4096 * first) (length (front.now ++ S.bytes rest.now)) (4096 * at) }
+    requires places { HasPlaces (D.size device.old) first (front.now ++ S.bytes rest.now) at gate.now }
     ensures size { D.size device.new ≡ D.size device.old }
     ensures called { Rose (D.calls device.old) (D.calls device.new) }
     ensures calls { CountsCalls 4 (D.calls device.old) (D.calls device.new) result }
     ensures cause { HasCause (D.faults device.old) (D.faults device.new) result }
-    ensures published { D.is_observable
-        → OnOk result (Published (D.contents device.old) (4096 * first) (front.now ++ S.bytes rest.now) (4096 * at) gate.now
-        (D.contents device.new)) }
-    ensures synced { D.is_observable → OnOk result (Only (D.contents device.new) (D.images_now device.new)) }
-    // Given that a crash before the call left what a read returns.
-    ensures moments { D.is_observable → Only (D.contents device.old) (D.images_now device.old)
-        → Leaves D.calls D.images_since device.old device.new
-        (IsBeforeOrHasBody (D.contents device.old) (4096 * first) (front.now ++ S.bytes rest.now) (4096 * at)) }
+    ensures publishes { D.is_observable
+        → Publishes D.calls D.contents D.images_now D.images_since (4096 * first) (front.now ++ S.bytes rest.now) (4096 * at) gate.now
+        device.old device.new result }
 {
     device.write_parts(first, front, rest)?;
     device.sync()?;

@@ -2,7 +2,7 @@
 ghost use Rattle.std.specs.Prelude.{◌≡◌, ◌+◌, ◌-◌, min, ◌*◌, ◌/◌, ◌%◌, ◌<◌, ◌≤◌, ◌^◌, ℕ, true, length, IfOk, IsErr, slice_index};
 ghost use Rattle.std.specs.List.{flat_map};
 ghost use Rattle.btr_disk.specs.Bytes.{AreBytes, Has, SameBut};
-ghost use Rattle.btr_disk.specs.CallRecord.{HasCapacity, contents_of, newest_first};
+ghost use Rattle.btr_disk.specs.CallRecord.{contents_of, newest_first};
 ghost use Rattle.btr_disk.specs.Replay.{is_replayable};
 ghost use Rattle.btr_disk.specs.Images.{Only};
 ghost use Rattle.btr_disk.specs.Causes.{Counted};
@@ -48,7 +48,7 @@ impl MemDisk {
     ghost use Rattle.btr_disk.specs.Moments.{Elapses};
     ghost use Rattle.btr_disk.specs.CallRecord.{call_count};
     ghost use Rattle.btr_disk.specs.Fill.{HasFill};
-    ghost use Rattle.btr_disk.specs.Memory.{is_listed, images_of, since_of, FailsAsListed, RecordsWrite};
+    ghost use Rattle.btr_disk.specs.Memory.{is_listed, images_of, since_of, FailsAsListed, IsUnused, RecordsWrite};
 
     /// A device of `blocks` blocks of zeros, at most 2^32, on which no call was made.
     ///
@@ -65,10 +65,7 @@ impl MemDisk {
         ensures size { IfOk result (λ disk. ⟦<MemDisk as Disk>⟧.size disk ≡ blocks) }
         ensures zeros { IfOk result (λ disk. (k : ℕ) → ⟦<MemDisk as Disk>⟧.contents disk k ≡ 0) }
         ensures settled { IfOk result (λ disk. Only (⟦<MemDisk as Disk>⟧.contents disk) (⟦<MemDisk as Disk>⟧.images_now disk)) }
-        ensures calls { IfOk result (λ disk. ⟦<MemDisk as Disk>⟧.calls disk ≡ 0) }
-        ensures faults { IfOk result (λ disk. ⟦<MemDisk as Disk>⟧.faults disk ≡ 0) }
-        ensures failing { IfOk result (λ disk. disk.failing.items ≡ failing.items) }
-        ensures capacity { IfOk result (λ disk. HasCapacity capacity.calls capacity.blocks disk.made) }
+        ensures unused { IfOk result (IsUnused failing.items capacity.calls capacity.blocks) }
     {
         MemDisk::from_bytes(alloc, vec![in alloc; 0; blocks * BLOCK]?, capacity, failing)
     }
@@ -88,10 +85,7 @@ impl MemDisk {
         ensures size { IfOk result (λ disk. 4096 * ⟦<MemDisk as Disk>⟧.size disk ≡ length bytes.items) }
         ensures contents { IfOk result (λ disk. (k : ℕ) → ⟦<MemDisk as Disk>⟧.contents disk k ≡ slice_index bytes.items k) }
         ensures settled { IfOk result (λ disk. Only (⟦<MemDisk as Disk>⟧.contents disk) (⟦<MemDisk as Disk>⟧.images_now disk)) }
-        ensures calls { IfOk result (λ disk. ⟦<MemDisk as Disk>⟧.calls disk ≡ 0) }
-        ensures faults { IfOk result (λ disk. ⟦<MemDisk as Disk>⟧.faults disk ≡ 0) }
-        ensures failing { IfOk result (λ disk. disk.failing.items ≡ failing.items) }
-        ensures capacity { IfOk result (λ disk. HasCapacity capacity.calls capacity.blocks disk.made) }
+        ensures unused { IfOk result (IsUnused failing.items capacity.calls capacity.blocks) }
     {
         let blocks = bytes.len() / BLOCK;
         Ok(MemDisk {
@@ -115,9 +109,7 @@ impl MemDisk {
         ensures fill { IfOk result (λ image. HasFill fill (⟦<MemDisk as Disk>⟧.contents self.now) self.now.made
             (length self.now.bytes.items) (⟦<MemDisk as Disk>⟧.contents image)) }
         ensures settled { IfOk result (λ image. Only (⟦<MemDisk as Disk>⟧.contents image) (⟦<MemDisk as Disk>⟧.images_now image)) }
-        ensures unused { IfOk result (λ image. (⟦<MemDisk as Disk>⟧.calls image ≡ 0) × (⟦<MemDisk as Disk>⟧.faults image ≡ 0)) }
-        ensures failing { IfOk result (λ image. image.failing.items ≡ []) }
-        ensures capacity { IfOk result (λ image. HasCapacity self.now.made.capacity.calls self.now.made.capacity.blocks image.made) }
+        ensures unused { IfOk result (IsUnused [] self.now.made.capacity.calls self.now.made.capacity.blocks) }
     {
         let bytes = self.filled(alloc, fill)?;
         MemDisk::from_bytes(alloc, bytes, self.made.capacity(), Vec::new(alloc))
@@ -241,25 +233,26 @@ fn overwrite_blocks<B: Blocks>(file: &mut Vec<u8>, at: usize, rest: &B)
 
 impl Disk for MemDisk {
     ghost use Rattle.std.specs.Prelude.{◌≡◌, ◌*◌, ◌/◌, ◌%◌, ◌++◌, length, refl, IsErr, OnOk, OnErr};
-    ghost use Rattle.btr_disk.specs.Bytes.{Has, IsBlockRange, Same, SameBut};
-    ghost use Rattle.btr_disk.specs.Images.{Only, SameImages, Tears};
+    ghost use Rattle.btr_disk.specs.Bytes.{IsBlockRange, Same};
+    ghost use Rattle.btr_disk.specs.Images.{Only, SameImages};
     ghost use Rattle.btr_disk.specs.Moments.{Elapses};
+    ghost use Rattle.btr_disk.specs.Calls.{Reads, Writes};
     ghost use Rattle.btr_disk.specs.Causes.{Counted, HasCause};
-    ghost use Rattle.btr_disk.specs.CallRecord.{HasCapacity, contents_of, newest_first, call_count};
-    ghost use Rattle.btr_disk.specs.Memory.{images_of, since_of, FailsAsListed};
+    ghost use Rattle.btr_disk.specs.CallRecord.{newest_first};
+    ghost use Rattle.btr_disk.specs.Memory.{calls_of, reads_of, images_of, since_of, FailsAsListed};
     ghost use Rattle.btr_disk.specs.RecordLaws.{counts_now_of, only_now_of, fewer_later_of};
 
     ghost is_observable = { Unit {0} };
 
     ghost size = { λ disk. length disk.bytes.items / 4096 };
 
-    ghost contents = { λ disk. contents_of disk.bytes.items };
+    ghost contents = { λ disk. reads_of disk };
 
     ghost images_now = { λ disk. images_of disk };
 
     ghost images_since = { λ disk. since_of disk };
 
-    ghost calls = { λ disk. call_count disk.made };
+    ghost calls = { λ disk. calls_of disk };
 
     ghost faults = { λ disk. disk.faults };
 
@@ -267,11 +260,11 @@ impl Disk for MemDisk {
 
     ghost reads_as_image = { λ _ disk. record { bytes = disk.are_bytes; synced = λ k no whole. refl } };
 
-    ghost counts_now = { λ _ disk t c le left. counts_now_of (contents_of disk.bytes.items) disk.made t c left };
+    ghost counts_now = { λ _ disk t c le left. counts_now_of (reads_of disk) disk.made t c left };
 
-    ghost only_now = { λ _ disk c left. only_now_of (contents_of disk.bytes.items) disk.made c left };
+    ghost only_now = { λ _ disk c left. only_now_of (reads_of disk) disk.made c left };
 
-    ghost fewer_later = { λ _ disk s t c earlier le left. fewer_later_of (contents_of disk.bytes.items) disk.made s t c earlier left };
+    ghost fewer_later = { λ _ disk s t c earlier le left. fewer_later_of (reads_of disk) disk.made s t c earlier left };
 
     fn blocks(&self) -> u64 {
         (self.bytes.len() / BLOCK) as u64
@@ -281,13 +274,10 @@ impl Disk for MemDisk {
     fn read(&mut self, first: u64, buf: &mut [u8]) -> Result<(), Failed>
         requires { IsBlockRange (length self.old.bytes.items / 4096) first (length buf.old) }
         ensures size { length self.new.bytes.items / 4096 ≡ length self.old.bytes.items / 4096 }
-        ensures calls { Counted (call_count self.old.made) (call_count self.new.made) }
+        ensures calls { Counted (calls_of self.old) (calls_of self.new) }
         ensures cause { HasCause self.old.faults self.new.faults result }
         ensures fails { FailsAsListed 0 self.old self.new (IsErr result) }
-        ensures bytes { OnOk result (Has (contents_of self.old.bytes.items) (4096 * first) buf.new) }
-        ensures contents { Same (contents_of self.old.bytes.items) (contents_of self.new.bytes.items) }
-        ensures images { SameImages (images_of self.old) (images_of self.new) }
-        ensures time { Elapses (call_count self.old.made) (since_of self.old) (since_of self.new) (images_of self.new) }
+        ensures reads { Reads calls_of reads_of images_of since_of (4096 * first) buf.new self.old self.new result }
     {
         let at = BLOCK * first as usize;
         let fails = self.fails_now();
@@ -305,14 +295,10 @@ impl Disk for MemDisk {
     fn write(&mut self, first: u64, bytes: &[u8]) -> Result<(), Failed>
         requires { IsBlockRange (length self.old.bytes.items / 4096) first (length bytes.now) }
         ensures size { length self.new.bytes.items / 4096 ≡ length self.old.bytes.items / 4096 }
-        ensures calls { Counted (call_count self.old.made) (call_count self.new.made) }
+        ensures calls { Counted (calls_of self.old) (calls_of self.new) }
         ensures cause { HasCause self.old.faults self.new.faults result }
         ensures fails { FailsAsListed (length bytes.now) self.old self.new (IsErr result) }
-        ensures written { OnOk result (Has (contents_of self.new.bytes.items) (4096 * first) bytes.now) }
-        ensures elsewhere { SameBut (4096 * first) (length bytes.now)
-            (contents_of self.old.bytes.items) (contents_of self.new.bytes.items) }
-        ensures images { Tears (4096 * first) (length bytes.now) (images_of self.old) (images_of self.new) }
-        ensures time { Elapses (call_count self.old.made) (since_of self.old) (since_of self.new) (images_of self.new) }
+        ensures writes { Writes calls_of reads_of images_of since_of (4096 * first) bytes.now self.old self.new result }
     {
         self.begin_write(first, bytes.len())?;
         overwrite(&mut self.bytes, BLOCK * first as usize, bytes);
@@ -324,14 +310,11 @@ impl Disk for MemDisk {
         requires able { S.can_work }
         requires range { IsBlockRange (length self.old.bytes.items / 4096) first (length (front.now ++ S.bytes rest.now)) }
         ensures size { length self.new.bytes.items / 4096 ≡ length self.old.bytes.items / 4096 }
-        ensures calls { Counted (call_count self.old.made) (call_count self.new.made) }
+        ensures calls { Counted (calls_of self.old) (calls_of self.new) }
         ensures cause { HasCause self.old.faults self.new.faults result }
         ensures fails { FailsAsListed (length (front.now ++ S.bytes rest.now)) self.old self.new (IsErr result) }
-        ensures written { OnOk result (Has (contents_of self.new.bytes.items) (4096 * first) (front.now ++ S.bytes rest.now)) }
-        ensures elsewhere { SameBut (4096 * first) (length (front.now ++ S.bytes rest.now))
-            (contents_of self.old.bytes.items) (contents_of self.new.bytes.items) }
-        ensures images { Tears (4096 * first) (length (front.now ++ S.bytes rest.now)) (images_of self.old) (images_of self.new) }
-        ensures time { Elapses (call_count self.old.made) (since_of self.old) (since_of self.new) (images_of self.new) }
+        ensures writes { Writes calls_of reads_of images_of since_of
+            (4096 * first) (front.now ++ S.bytes rest.now) self.old self.new result }
     {
         let at = BLOCK * first as usize;
         self.begin_write(first, front.len() + BLOCK * rest.blocks())?;
@@ -343,13 +326,13 @@ impl Disk for MemDisk {
     /// The clauses of the trait, and one more: which calls fail, and that this list and the capacity stay.
     fn sync(&mut self) -> Result<(), Failed>
         ensures size { length self.new.bytes.items / 4096 ≡ length self.old.bytes.items / 4096 }
-        ensures calls { Counted (call_count self.old.made) (call_count self.new.made) }
+        ensures calls { Counted (calls_of self.old) (calls_of self.new) }
         ensures cause { HasCause self.old.faults self.new.faults result }
         ensures fails { FailsAsListed 0 self.old self.new (IsErr result) }
-        ensures contents { Same (contents_of self.old.bytes.items) (contents_of self.new.bytes.items) }
-        ensures synced { OnOk result (Only (contents_of self.new.bytes.items) (images_of self.new)) }
+        ensures contents { Same (reads_of self.old) (reads_of self.new) }
+        ensures synced { OnOk result (Only (reads_of self.new) (images_of self.new)) }
         ensures unsynced { OnErr result (SameImages (images_of self.old) (images_of self.new)) }
-        ensures time { Elapses (call_count self.old.made) (since_of self.old) (since_of self.new) (images_of self.new) }
+        ensures time { Elapses (calls_of self.old) (since_of self.old) (since_of self.new) (images_of self.new) }
     {
         if self.fails_now() {
             self.made.note(Call::Nothing, &[]);

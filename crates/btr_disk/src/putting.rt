@@ -48,41 +48,12 @@ pub fn write_by_threads<R: Threads + Sync, B: Blocks + Sync>(
     let weight = outlet.front_len() / BYTES_FOR_BLOCK;
     let portions = min(threads, blocks).clamp(1, PORTIONS);
     let each = (weight + blocks).div_ceil(portions);
-    write_portions(
-        rt,
-        supply,
-        portions,
-        weight,
-        each,
-        &mut [false; PORTIONS],
-        outlet,
-    )
-}
-
-/// Has this many portions of `each` blocks written, each by a thread of its own. The front is in the first portion, and counts for `weight`
-/// blocks before all others. The caller passes at least as many marks. Returns whether all portions were written.
-fn write_portions<R: Threads + Sync, B: Blocks + Sync>(
-    rt: &R,
-    supply: &B,
-    portions: usize,
-    weight: usize,
-    each: usize,
-    marks: &mut [bool],
-    outlet: &(dyn Outlet + Sync),
-) -> bool
-    requires portions { (1 ≤ portions) × (portions ≤ length marks.old) }
-    requires weight { weight < 2 ^ 63 }
-    requires room { length (B.bytes supply.now) ≤ 4096 * room outlet.now }
-    ensures front { IsTrue result → has_front outlet.now }
-    ensures portions { IsTrue result → (i : ℕ) → i < portions
-        → HasPortion (has_block outlet.now) weight (each * i) (each * i + each) (B.bytes supply.now) }
-    ensures failed { IsFalse result → has_failed outlet.now }
-{
+    let mut marks = [false; PORTIONS];
     mark_portions(rt, supply, weight, each, &mut marks[..portions], outlet)
 }
 
-/// Has as many portions of `each` blocks written as there are marks, each by a thread of its own, where the front counts for `weight`
-/// blocks. Marks the portions that were written, and returns whether all of them were.
+/// Has as many portions of `each` blocks written as there are marks, each by a thread of its own. The front is in the first portion, and
+/// counts for `weight` blocks before all others. Marks the portions that were written, and returns whether all of them were.
 fn mark_portions<R: Threads + Sync, B: Blocks + Sync>(
     rt: &R,
     supply: &B,

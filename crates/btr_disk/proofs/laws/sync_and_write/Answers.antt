@@ -9,4 +9,4 @@ returns-clause-differ g c is_observable =
     let mid = c.sync.new.self in
     on_ok c.write.result _
     (differ_in (4096 * c.args.first) (length c.args.bytes.now) (disk.contents c.args.device.now) (disk.contents mid) (disk.images_now mid) (disk.images_now c.write.new.self)
-    (c.in_ok-sync.ensures.contents is_observable) (c.in_ok-sync.ensures.synced is_observable) (c.write.ensures.images is_observable).torn)
+    (c.in_ok-sync.ensures.contents is_observable) (c.in_ok-sync.ensures.synced is_observable) (c.write.ensures.writes is_observable).images.torn)

@@ -12,6 +12,6 @@ returns-clause-read g c is_observable =
     let bytes = c.args.bytes.now in
     let d1 = disk.contents c.write.new.self in
     let d2 = disk.contents c.sync.new.self in
-    let has : Has d2 a bytes = Has-Same d1 d2 a bytes (c.sync.ensures.contents is_observable) (c.in_ok-write.ensures.written is_observable) in
+    let has : Has d2 a bytes = Has-Same d1 d2 a bytes (c.sync.ensures.contents is_observable) (c.in_ok-write.ensures.writes is_observable).written in
     let size : length c.read.new.buf ≡ length bytes = omega (arith, c.read.auto.buf, c.requires.length) in
-    both_ok c.read.result _ _ (c.read.ensures.bytes is_observable) (λ read. Has-one d2 a c.read.new.buf bytes size read has)
+    both_ok c.read.result _ _ (c.read.ensures.reads is_observable).bytes (λ read. Has-one d2 a c.read.new.buf bytes size read has)

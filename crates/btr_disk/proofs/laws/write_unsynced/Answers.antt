@@ -10,4 +10,4 @@ returns-clause-unsynced g c is_observable =
     let new = c.write.new.self in
     let was = laws.reads_as_image is_observable old in
     is_unsynced (4096 * c.args.first) (length c.args.bytes.now) (disk.contents old) (disk.contents new) (disk.images_now old) (disk.images_now new)
-    (laws.image_bytes is_observable old (disk.contents old) was) was (laws.reads_as_image is_observable new) (c.write.ensures.images is_observable).unsynced
+    (laws.image_bytes is_observable old (disk.contents old) was) was (laws.reads_as_image is_observable new) (c.write.ensures.writes is_observable).images.unsynced

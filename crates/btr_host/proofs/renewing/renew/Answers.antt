@@ -11,8 +11,8 @@ returns-clause-same g c seen =
     let mid = disk.contents c.read.new.self in
     let new = disk.contents c.write.new.self in
     let bytes = c.read.new.buf in
-    let kept : Same old mid = c.read.ensures.contents seen in
-    let was : Has mid (4096 * c.args.block) bytes = Has-Same old mid (4096 * c.args.block) bytes kept (c.in_ok-read.ensures.bytes seen) in
+    let kept : Same old mid = (c.read.ensures.reads seen).same in
+    let was : Has mid (4096 * c.args.block) bytes = Has-Same old mid (4096 * c.args.block) bytes kept (c.in_ok-read.ensures.reads seen).bytes in
     on_ok c.write.result _ (Same old new)
-    (λ written. Same-trans old mid new kept (Same-written mid new (4096 * c.args.block) bytes was written (c.write.ensures.elsewhere seen)))
-    (c.write.ensures.written seen)
+    (λ written. Same-trans old mid new kept (Same-written mid new (4096 * c.args.block) bytes was written (c.write.ensures.writes seen).elsewhere))
+    (c.write.ensures.writes seen).written

@@ -2,11 +2,17 @@ use Rattle.std.specs.Prelude.{◌*◌, length}
 use Rattle.btr_disk.proofs.FuseImages.{cut_off_time}
 use Rattle.btr_disk.proofs.fuse.FuseDiskDisk.write.Goals as goal
 
-pub returns-then-self-eq0-clause-time : goal.returns-then-self-eq0-clause-time
-returns-then-self-eq0-clause-time g c is_observable =
+pub returns-then-self-eq0-clause-writes : goal.returns-then-self-eq0-clause-writes
+returns-then-self-eq0-clause-writes g c is_observable =
     let laws = g.met.D.Disk in
     let old = c.args.self.now.disk in
     let new = c.write.new.self in
-    cut_off_time g.D.Disk old new c.write.ensures.calls (c.write.ensures.time is_observable) c.args.self.now.withheld
-    (4096 * c.args.first) (length c.args.bytes.now) (laws.image_bytes is_observable old) (c.write.ensures.images is_observable).unsynced
-    (laws.counts_now is_observable new) (laws.only_now is_observable old) (laws.fewer_later is_observable new)
+    let done = c.write.ensures.writes is_observable in
+    record {
+      written = tt;
+      elsewhere = done.elsewhere;
+      images = done.images;
+      time = cut_off_time g.D.Disk old new c.write.ensures.calls done.time c.args.self.now.withheld
+          (4096 * c.args.first) (length c.args.bytes.now) (laws.image_bytes is_observable old) done.images.unsynced
+          (laws.counts_now is_observable new) (laws.only_now is_observable old) (laws.fewer_later is_observable new);
+    }

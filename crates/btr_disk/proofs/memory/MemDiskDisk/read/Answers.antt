@@ -2,15 +2,20 @@ use Rattle.std.specs.Prelude.{◌≡◌, ◌+◌, ◌-◌, ◌*◌, ◌≤◌, �
 use Rattle.std.proofs.Common.{arith, ap, ◌∙◌, sym, subst}
 use Rattle.btr_disk.specs.Bytes.{Has}
 use Rattle.btr_disk.specs.CallRecord.{contents_of}
-use Rattle.btr_disk.proofs.Recording.{counted_alone, nothing_recorded, Has-part}
+use Rattle.btr_disk.proofs.ByteLemmas.{Same-refl}
+use Rattle.btr_disk.proofs.Recording.{nothing_recorded, nothing_changed, Has-part}
 use Rattle.btr_disk.proofs.memory.MemDiskDisk.read.Goals as goal
 
-pub returns-then-fails-clause-time : goal.returns-then-fails-clause-time
-returns-then-fails-clause-time c =
-    nothing_recorded (contents_of c.args.self.now.bytes.items) c.args.self.now.made c.note.new.self c.if-not-note.ensures.recorded
+pub returns-then-fails-clause-reads : goal.returns-then-fails-clause-reads
+returns-then-fails-clause-reads c = record {
+  bytes = tt;
+  same = Same-refl (contents_of c.args.self.now.bytes.items);
+  images = nothing_changed (contents_of c.args.self.now.bytes.items) c.args.self.now.made c.note.new.self c.if-not-note.ensures.recorded;
+  time = nothing_recorded (contents_of c.args.self.now.bytes.items) c.args.self.now.made c.note.new.self c.if-not-note.ensures.recorded;
+}
 
-pub returns-clause-bytes : goal.returns-clause-bytes
-returns-clause-bytes c =
+pub returns-clause-reads : goal.returns-clause-reads
+returns-clause-reads c =
     let bytes = c.args.self.now.bytes.items in
     let a = 4096 * c.args.first in
     let n = length c.args.buf.now in
@@ -18,12 +23,9 @@ returns-clause-bytes c =
     let fits : a + n ≤ length bytes = omega (arith, c.requires.inside) in
     let is : c.copy_from_slice.new.self ≡ take n (drop a bytes) =
     c.copy_from_slice.ensures.after ∙ ap (λ (x : ℕ). take x (drop a c.deref.result.now)) size ∙ ap (λ (l : List ℕ). take n (drop a l)) c.deref.ensures.value in
-    subst (λ (l : List ℕ). Has (contents_of bytes) a l) (sym is) (Has-part bytes a n fits)
-
-pub returns-clause-time : goal.returns-clause-time
-returns-clause-time c =
-    nothing_recorded (contents_of c.args.self.now.bytes.items) c.args.self.now.made c.note.new.self c.if-not-note.ensures.recorded
-
-pub returns-then-not-note-clause-time : goal.returns-then-not-note-clause-time
-returns-then-not-note-clause-time c =
-    counted_alone (contents_of c.args.self.now.bytes.items) c.args.self.now.made c.note.new.self c.if-not-note.ensures.recorded
+    record {
+      bytes = subst (λ (l : List ℕ). Has (contents_of bytes) a l) (sym is) (Has-part bytes a n fits);
+      same = Same-refl (contents_of bytes);
+      images = nothing_changed (contents_of bytes) c.args.self.now.made c.note.new.self c.if-not-note.ensures.recorded;
+      time = nothing_recorded (contents_of bytes) c.args.self.now.made c.note.new.self c.if-not-note.ensures.recorded;
+    }

@@ -23,29 +23,8 @@ module _ (address n : ℕ) (parts front rest : List ℕ) (mid now : Image) (list
       (subst (λ (l : List ℕ). SameBut address (length front) (contents_of l) mid) same
       (subst (λ (l : List ℕ). SameBut address (length l) (contents_of kept) mid) list but))
 
-pub returns-clause-written : goal.returns-clause-written
-returns-clause-written g c =
-    let mid : Image = contents_of c.overwrite_parts.new.file.items in
-    let now : Image = contents_of c.overwrite_blocks.new.file.items in
-    written (4096 * c.args.first) c.len-2.result _ c.args.front.now (g.S.Blocks.bytes c.args.rest.now) mid now c.as_slices.ensures c.len-2.ensures c.overwrite_blocks.ensures.elsewhere
-    c.overwrite_parts.ensures.written c.overwrite_blocks.ensures.written
-
-pub returns-clause-images : goal.returns-clause-images
-returns-clause-images g c =
-    let front = c.args.front.now in
-    let rest = g.S.Blocks.bytes c.args.rest.now in
-    let bytes = c.args.self.now.bytes.items in
-    let a = 4096 * c.args.first in
-    let mid : Image = contents_of c.overwrite_parts.new.file.items in
-    let now : Image = contents_of c.overwrite_blocks.new.file.items in
-    let count : c.len.result + 4096 * c.blocks-2.result ≡ length (front ++ rest) = omega (arith, c.len.ensures, c.blocks-2.ensures.whole, length-append front rest) in
-    let recorded = subst (λ (x : ℕ). RecordsWrite a x c.args.self.now c.begin_write.new.self) count c.in_ok-begin_write.ensures.recorded in
-    let but = changed a c.len-2.result _ front rest mid now c.as_slices.ensures c.len-2.ensures c.overwrite_blocks.ensures.elsewhere
-    bytes c.begin_write.new.self.bytes.items c.begin_write.ensures.bytes c.overwrite_parts.ensures.elsewhere in
-    write_images a (length (front ++ rest)) _ (contents_of bytes) now c.args.self.now.made c.begin_write.new.self.made recorded but c.args.self.now.are_bytes
-
-pub returns-clause-time : goal.returns-clause-time
-returns-clause-time g c =
+pub returns-clause-writes : goal.returns-clause-writes
+returns-clause-writes g c =
     let front = c.args.front.now in
     let rest = g.S.Blocks.bytes c.args.rest.now in
     let bytes = c.args.self.now.bytes.items in
@@ -58,5 +37,11 @@ returns-clause-time g c =
     let recorded = subst (λ (x : ℕ). RecordsWrite a x c.args.self.now c.begin_write.new.self) count c.in_ok-begin_write.ensures.recorded in
     let but = changed a c.len-2.result _ front rest mid now c.as_slices.ensures c.len-2.ensures c.overwrite_blocks.ensures.elsewhere
     bytes c.begin_write.new.self.bytes.items c.begin_write.ensures.bytes c.overwrite_parts.ensures.elsewhere in
-    write_recorded a n _ (contents_of bytes) now c.args.self.now.made c.begin_write.new.self.made (omega (arith, fits, length-take n (drop a bytes), length-drop a bytes)) recorded
-    (Has-part bytes a n fits) but
+    record {
+      written = written a c.len-2.result _ front rest mid now c.as_slices.ensures c.len-2.ensures c.overwrite_blocks.ensures.elsewhere
+          c.overwrite_parts.ensures.written c.overwrite_blocks.ensures.written;
+      elsewhere = but;
+      images = write_images a n _ (contents_of bytes) now c.args.self.now.made c.begin_write.new.self.made recorded but c.args.self.now.are_bytes;
+      time = write_recorded a n _ (contents_of bytes) now c.args.self.now.made c.begin_write.new.self.made
+          (omega (arith, fits, length-take n (drop a bytes), length-drop a bytes)) recorded (Has-part bytes a n fits) but;
+    }
