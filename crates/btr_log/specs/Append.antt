@@ -1,9 +1,10 @@
 -- What an append promises: which runs it takes, when each result comes, and what the log is then.
-use Rattle.std.specs.Prelude.{◌≡◌, ◌⊎◌, ℕ, ◌+◌, ◌-◌, ◌*◌, ◌<◌, ◌≤◌, false, true, List, [], ◌∷◌, ◌++◌, length, take, IsTrue, IsFalse}
+use Rattle.std.specs.Prelude.{◌≡◌, ◌⊎◌, ℕ, ◌+◌, ◌-◌, ◌*◌, ◌<◌, ◌≤◌, false, true, List, [], ◌∷◌, ◌++◌, length, take, IsTrue, IsFalse, Result, Err}
 use Rattle.btr_disk.specs.declared.disk.Disk.{Ghosts}
 use Rattle.btr_disk.specs.Bytes.{Image}
 use Rattle.btr_disk.specs.Causes.{Rose, CountedTimes}
-use Rattle.btr_disk.specs.Gate.{zeros}
+use Rattle.btr_disk.specs.Gate.{gate_block, zeros}
+use Rattle.btr_disk.specs.Publish.{Published}
 use Rattle.btr_log.specs.declared.head.Head.{Head}
 use Rattle.btr_log.specs.declared.log.Log.{Log}
 use Rattle.btr_log.specs.declared.append.AppendFault.{AppendFault}
@@ -36,6 +37,15 @@ module _ {D : Type 0} {disk : Ghosts D} where
   abbrev pub IsTooLong : Log D disk → List ℕ → Type 0
   IsTooLong log run = log_room log < need (body_in_run run)
 
+  -- An image at a moment of an append of the run to a log that was at rest with these bodies.
+  abbrev pub IsAppendMoment : Log D disk → List (List ℕ) → List ℕ → Image → Type 0
+  IsAppendMoment log bodies run = IsMoment (disk.contents (log_device log)) (log_tail log) bodies (body_in_run run)
+
+  -- What an append returns if the log is stopped, and what if it is not and the run is too long.
+  pub record RefusesAppend {T : Type 0} (log : Log D disk) (run : List ℕ) (result : Result T AppendFault) : Type 0 where
+    pub stopped : IsTrue (is_log_stopped log) → result ≡ Err (Stopped (extents_of log))
+    pub full : IsFalse (is_log_stopped log) → IsTooLong log run → result ≡ Err (Full (need (body_in_run run)) (log_room log))
+
   -- The device has failed, within one to four calls. The log is stopped, and has the extents that it had.
   pub record LogStopsByFault (old new : Log D disk) : Type 0 where
     pub rose : Rose (disk.faults (log_device old)) (disk.faults (log_device new))
@@ -53,10 +63,13 @@ module _ {D : Type 0} {disk : Ghosts D} where
   AppendCause old new run (Stopped extents) =
       IsTrue (is_log_stopped old) × (extents ≡ extents_of old) × (new ≡ old)
 
-  -- The log has one more extent, by four calls of the device.
+  -- The log has one more extent, by four calls of the device, which has the run and the open gate before it.
   pub record IsAppended (old new : Log D disk) (run : List ℕ) : Type 0 where
     pub tail : log_tail new ≡ log_tail old + need (body_in_run run)
     pub extents : extents_of new ≡ extents_of old + 1
     pub calls : CountedTimes 4 (disk.calls (log_device old)) (disk.calls (log_device new))
     pub ran : is_log_stopped old ≡ false
     pub runs : is_log_stopped new ≡ false
+    pub written : disk.is_observable
+        → Published (disk.contents (log_device old)) (4096 * (log_tail old + 1)) run (4096 * log_tail old) gate_block
+        (disk.contents (log_device new))

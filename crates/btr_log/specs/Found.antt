@@ -71,6 +71,11 @@ ReadCause before after (Damaged block) = ⊥
 ReadCause before after Fault = Rose before after
 ReadCause before after Want = Unit {0}
 
+-- The bytes are n blocks, and the first of them is this one.
+pub record HasFirstBlock (n : ℕ) (first bytes : List ℕ) : Type 0 where
+  pub size : length bytes ≡ 4096 * n
+  pub begins : take 4096 bytes ≡ first
+
 -- Why a log finds nothing at a gate.
 abbrev pub ExtentCause : {D : Type 0} {disk : Ghosts D} → Log D disk → Log D disk → ℕ → ExtentFault → Type 0
 ExtentCause {D} {disk} old new gate fault =

@@ -1,11 +1,21 @@
 -- What contracts see of a log: its device, where it ends, how much room is left, and whether it is stopped.
-use Rattle.std.specs.Prelude.{◌≡◌, ℕ, Bool, false, List}
+use Rattle.std.specs.Prelude.{◌≡◌, ◌+◌, ◌^◌, ◌≤◌, ℕ, Bool, false, List}
 use Rattle.btr_disk.specs.declared.disk.Disk.{Ghosts}
 use Rattle.btr_disk.specs.Bytes.{Image}
 use Rattle.btr_disk.specs.Moments.{Leaves, WroteNothing}
 use Rattle.btr_log.specs.declared.log.Log.{Log}
 use Rattle.btr_log.specs.Extents.{left, AtRest}
 use Rattle.btr_disk.specs.Causes.{KeepsCounts}
+
+-- A log of this many blocks is inside a device of `size` blocks, and is one whose blocks can be addressed.
+pub record FitsDevice (blocks size : ℕ) : Type 0 where
+  pub inside : blocks ≤ size
+  pub addressable : blocks ≤ 2 ^ 32
+
+-- The device has as many blocks as before, its counts have not fallen, and at most one call was counted.
+pub record CallsOnce {D : Type 0} (size calls faults : D → ℕ) (old new : D) : Type 0 where
+  pub counts : KeepsCounts size calls faults old new
+  pub most : calls new ≤ calls old + 1
 
 module _ {D : Type 0} {disk : Ghosts D} where
   -- The device.
@@ -60,6 +70,12 @@ module _ {D : Type 0} {disk : Ghosts D} where
   -- The calls between the two logs wrote nothing.
   abbrev pub LogWroteNothing : Log D disk → Log D disk → Type 0
   LogWroteNothing old new = WroteNothing disk.calls disk.contents disk.images_now disk.images_since (log_device old) (log_device new)
+
+  -- The calls between the two logs read the device at most: it has as many blocks as before, its counts have not fallen, and nothing was
+  -- written.
+  pub record LogReads (old new : Log D disk) : Type 0 where
+    pub counts : KeepsDevice old new
+    pub nothing : disk.is_observable → LogWroteNothing old new
 
   -- Its number of blocks and its first count of faults are as before, and so is its device but for the calls.
   pub record KeepsBounds (old new : Log D disk) : Type 0 where

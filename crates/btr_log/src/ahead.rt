@@ -1,11 +1,10 @@
 //! Reading extents in order: one call of the device for about each mebibyte of the log.
-ghost use Rattle.std.specs.Prelude.{◌≡◌, ◌+◌, ◌-◌, ◌<◌, ◌≤◌, ◌^◌, min, IfErr, IfOk, OnOk};
-ghost use Rattle.btr_disk.specs.Causes.{KeepsCounts};
+ghost use Rattle.std.specs.Prelude.{◌<◌, IfErr, IfOk};
 ghost use Rattle.btr_disk.specs.Moments.{WroteNothing};
-ghost use Rattle.btr_log.specs.Log.{log_device, log_blocks, KeepsLog, KeepsDevice, LogWroteNothing};
-ghost use Rattle.btr_log.specs.Found.{FindCause, ExtentCause, StartSays};
-ghost use Rattle.btr_log.specs.Piece.{IsPieceOf, HoldsBlocks, ReadsIfNotHeld, bytes_at};
-ghost use Rattle.btr_log.specs.Ahead.{HoldsWhole, MatchesPiece, ReadsAhead};
+ghost use Rattle.btr_log.specs.Log.{log_device, log_blocks, FitsDevice, KeepsLog, LogReads};
+ghost use Rattle.btr_log.specs.Found.{FindCause, ExtentCause};
+ghost use Rattle.btr_log.specs.Piece.{IsPieceOf, HoldsBlocks, ReadsPiece};
+ghost use Rattle.btr_log.specs.Ahead.{TellsStart, HoldsStart, IsFoundAhead, ReadsAhead};
 
 use crate::read::{start_blocks, start_of};
 use crate::{ExtentFault, Head, Log, Piece};
@@ -33,13 +32,12 @@ impl<D: Disk> Log<D> {
         requires gate { gate < log_blocks self.old }
         requires piece { D.is_observable → IsPieceOf (D.contents (log_device self.old)) piece.old }
         ensures kept { KeepsLog self.old self.new }
-        ensures log_device { KeepsDevice self.old self.new }
+        ensures reads { LogReads self.old self.new }
         ensures calls { ReadsAhead (log_blocks self.old) gate piece.old result
             (D.calls (log_device self.old)) (D.calls (log_device self.new)) }
-        ensures unwritten { D.is_observable → LogWroteNothing self.old self.new }
         ensures piece { D.is_observable → IsPieceOf (D.contents (log_device self.new)) piece.new }
-        ensures whole { IfOk result (HoldsWhole (log_blocks self.old) gate piece.new) }
-        ensures matches { D.is_observable → IfOk result (MatchesPiece (D.contents (log_device self.old)) gate piece.new) }
+        ensures found { IfOk result
+            (IsFoundAhead D.is_observable (D.contents (log_device self.old)) (log_blocks self.old) gate piece.new) }
         ensures cause { IfErr result (ExtentCause self.old self.new gate) }
     {
         let blocks = self.blocks;
@@ -66,18 +64,13 @@ fn hold_start<D: Disk>(
     count: u64,
     piece: &mut Piece,
 ) -> Result<Option<Head>, ExtentFault>
-    requires gate { gate < blocks }
-    requires start { min 2 (blocks - gate) ≤ count }
-    requires inside { gate + count ≤ blocks }
-    requires blocks { blocks ≤ D.size disk.old }
-    requires addressable { blocks ≤ 2 ^ 32 }
+    requires start { TellsStart blocks gate count }
+    requires device { FitsDevice blocks (D.size disk.old) }
     requires piece { D.is_observable → IsPieceOf (D.contents disk.old) piece.old }
-    ensures counts { KeepsCounts D.size D.calls D.faults disk.old disk.new }
-    ensures call { ReadsIfNotHeld (HoldsBlocks piece.old gate count) piece.old piece.new (D.calls disk.old) (D.calls disk.new) }
+    ensures reads { ReadsPiece D.size D.calls D.faults (HoldsBlocks piece.old gate count) piece.old piece.new disk.old disk.new }
     ensures unwritten { D.is_observable → WroteNothing D.calls D.contents D.images_now D.images_since disk.old disk.new }
     ensures piece { D.is_observable → IsPieceOf (D.contents disk.new) piece.new }
-    ensures held { OnOk result (HoldsBlocks piece.new gate count) }
-    ensures start { IfOk result (StartSays blocks gate (bytes_at piece.new gate (min 2 (blocks - gate)))) }
+    ensures found { IfOk result (HoldsStart blocks gate count piece.new) }
     ensures cause { IfErr result (FindCause D.is_observable (D.contents disk.old) blocks gate (D.faults disk.old) (D.faults disk.new)) }
 {
     piece.hold(disk, blocks, gate, count)?;

@@ -1,10 +1,7 @@
 //! The append: one more body at the end of the log, durable before its gate is open.
-ghost use Rattle.std.specs.Prelude.{◌≡◌, ◌+◌, ◌*◌, ◌++◌, ◌∷◌, [], List, ℕ, IsTrue, IsFalse, IfErr, OnOk};
-ghost use Rattle.btr_disk.specs.Gate.{gate_block};
-ghost use Rattle.btr_disk.specs.Publish.{Published};
-ghost use Rattle.btr_log.specs.Extents.{need};
-ghost use Rattle.btr_log.specs.Log.{log_device, log_tail, log_room, extents_of, is_log_stopped, IsLogAtRest, LogLeaves, KeepsBounds};
-ghost use Rattle.btr_log.specs.Append.{body_in_run, IsAppendRun, IsTooLong, IsMoment, AppendCause, IsAppended};
+ghost use Rattle.std.specs.Prelude.{◌++◌, ◌∷◌, [], List, ℕ, IfErr, OnOk};
+ghost use Rattle.btr_log.specs.Log.{IsLogAtRest, LogLeaves, KeepsBounds};
+ghost use Rattle.btr_log.specs.Append.{body_in_run, IsAppendRun, IsAppendMoment, RefusesAppend, AppendCause, IsAppended};
 
 use crate::Log;
 use btr_disk::{BLOCK, Disk, Parts, Supply, open_gate, publish};
@@ -37,22 +34,15 @@ impl<D: Disk> Log<D> {
     pub fn append<S: Supply>(&mut self, front: &Parts, rest: &S) -> Result<(), AppendFault>
         requires able { S.can_work }
         requires run { IsAppendRun (front.now ++ S.bytes rest.now) }
-        ensures stopped { IsTrue (is_log_stopped self.old)
-            → result ≡ Err (AppendFault.Stopped (extents_of self.old)) }
-        ensures full { IsFalse (is_log_stopped self.old) → IsTooLong self.old (front.now ++ S.bytes rest.now)
-            → result ≡ Err (AppendFault.Full (need (body_in_run (front.now ++ S.bytes rest.now))) (log_room self.old)) }
+        ensures refused { RefusesAppend self.old (front.now ++ S.bytes rest.now) result }
         ensures cause { IfErr result (AppendCause self.old self.new (front.now ++ S.bytes rest.now)) }
         ensures kept { KeepsBounds self.old self.new }
         ensures appended { OnOk result (IsAppended self.old self.new (front.now ++ S.bytes rest.now)) }
-        ensures written { D.is_observable
-            → OnOk result (Published (D.contents (log_device self.old)) (4096 * (log_tail self.old + 1)) (front.now ++ S.bytes rest.now)
-            (4096 * log_tail self.old) gate_block (D.contents (log_device self.new))) }
         // Given that the log was at rest with these bodies.
         ensures at_rest { D.is_observable → (bodies : List (List ℕ)) → IsLogAtRest self.old bodies
             → OnOk result (IsLogAtRest self.new (bodies ++ body_in_run (front.now ++ S.bytes rest.now) ∷ [])) }
         ensures moments { D.is_observable → (bodies : List (List ℕ)) → IsLogAtRest self.old bodies
-            → LogLeaves self.old self.new
-            (IsMoment (D.contents (log_device self.old)) (log_tail self.old) bodies (body_in_run (front.now ++ S.bytes rest.now))) }
+            → LogLeaves self.old self.new (IsAppendMoment self.old bodies (front.now ++ S.bytes rest.now)) }
     {
         if self.stopped {
             return Err(AppendFault::Stopped {

@@ -4,7 +4,8 @@ ghost use Rattle.btr_disk.specs.Bytes.{IsBlockRange};
 ghost use Rattle.btr_disk.specs.Causes.{KeepsCounts};
 ghost use Rattle.btr_disk.specs.Moments.{WroteNothing};
 ghost use Rattle.btr_log.specs.Found.{ReadCause};
-ghost use Rattle.btr_log.specs.Piece.{empty_piece, bytes_at, IsPieceOf, HoldsBlocks, ReadsIfNotHeld};
+ghost use Rattle.btr_log.specs.Log.{FitsDevice};
+ghost use Rattle.btr_log.specs.Piece.{empty_piece, bytes_at, IsPieceOf, HoldsBlocks, ReadsPiece};
 
 use crate::ExtentFault;
 use btr_disk::{BLOCK, Disk};
@@ -70,10 +71,8 @@ impl Piece {
     ) -> Result<(), ExtentFault>
         requires some { 1 ≤ count }
         requires inside { block + count ≤ blocks }
-        requires blocks { blocks ≤ D.size disk.old }
-        requires addressable { blocks ≤ 2 ^ 32 }
-        ensures counts { KeepsCounts D.size D.calls D.faults disk.old disk.new }
-        ensures call { ReadsIfNotHeld (HoldsBlocks self.old block count) self.old self.new (D.calls disk.old) (D.calls disk.new) }
+        requires device { FitsDevice blocks (D.size disk.old) }
+        ensures reads { ReadsPiece D.size D.calls D.faults (HoldsBlocks self.old block count) self.old self.new disk.old disk.new }
         ensures unwritten { D.is_observable → WroteNothing D.calls D.contents D.images_now D.images_since disk.old disk.new }
         ensures piece { D.is_observable → IsPieceOf (D.contents disk.old) self.old → IsPieceOf (D.contents disk.new) self.new }
         ensures held { OnOk result (HoldsBlocks self.new block count) }

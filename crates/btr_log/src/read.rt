@@ -4,8 +4,8 @@ ghost use Rattle.btr_disk.specs.Bytes.{Has, IsBlockRange};
 ghost use Rattle.btr_log.specs.Head.{Spells, IsNoHead};
 ghost use Rattle.btr_disk.specs.Moments.{WroteNothing};
 ghost use Rattle.btr_disk.specs.Causes.{KeepsCounts};
-ghost use Rattle.btr_log.specs.Log.{log_device, log_blocks, KeepsLog, KeepsDevice, LogWroteNothing};
-ghost use Rattle.btr_log.specs.Found.{IsWhole, MatchesDevice, FindCause, ReadCause, ExtentCause, StartSays, IsDamagedStart};
+ghost use Rattle.btr_log.specs.Log.{log_device, log_blocks, FitsDevice, CallsOnce, KeepsLog, LogReads};
+ghost use Rattle.btr_log.specs.Found.{HasFirstBlock, IsWhole, MatchesDevice, FindCause, ReadCause, ExtentCause, StartSays, IsDamagedStart};
 
 use crate::{ExtentFault, Found, HEAD_BYTES, Head, Log};
 use btr_disk::{BLOCK, Disk, is_open_gate};
@@ -22,9 +22,8 @@ impl<D: Disk> Log<D> {
     pub fn read_extent(&mut self, alloc: Global, gate: u64) -> Result<Found, ExtentFault>
         requires { gate < log_blocks self.old }
         ensures kept { KeepsLog self.old self.new }
-        ensures log_device { KeepsDevice self.old self.new }
+        ensures reads { LogReads self.old self.new }
         ensures calls { D.calls (log_device self.new) ≤ D.calls (log_device self.old) + 2 }
-        ensures unwritten { D.is_observable → LogWroteNothing self.old self.new }
         ensures whole { IfOk result (IsWhole (log_blocks self.old) gate) }
         ensures matches { D.is_observable → IfOk result (MatchesDevice (D.contents (log_device self.old)) gate) }
         ensures cause { IfErr result (ExtentCause self.old self.new gate) }
@@ -42,8 +41,7 @@ pub fn find_extent<D: Disk>(
     gate: u64,
 ) -> Result<Found, ExtentFault>
     requires gate { gate < blocks }
-    requires blocks { blocks ≤ D.size disk.old }
-    requires addressable { blocks ≤ 2 ^ 32 }
+    requires device { FitsDevice blocks (D.size disk.old) }
     ensures counts { KeepsCounts D.size D.calls D.faults disk.old disk.new }
     ensures calls { D.calls disk.new ≤ D.calls disk.old + 2 }
     ensures unwritten { D.is_observable → WroteNothing D.calls D.contents D.images_now D.images_since disk.old disk.new }
@@ -114,8 +112,7 @@ fn read_blocks<D: Disk>(
 ) -> Result<Vec<u8>, ExtentFault>
     requires run { IsBlockRange (D.size disk.old) first (4096 * count) }
     requires addressable { count ≤ 2 ^ 32 }
-    ensures counts { KeepsCounts D.size D.calls D.faults disk.old disk.new }
-    ensures call { D.calls disk.new ≤ D.calls disk.old + 1 }
+    ensures calls { CallsOnce D.size D.calls D.faults disk.old disk.new }
     ensures unwritten { D.is_observable → WroteNothing D.calls D.contents D.images_now D.images_since disk.old disk.new }
     ensures length { IfOk result (λ bytes. length bytes.items ≡ 4096 * count) }
     ensures stored { D.is_observable → IfOk result (λ bytes. Has (D.contents disk.old) (4096 * first) bytes.items) }
@@ -144,13 +141,10 @@ fn read_body<D: Disk>(
 ) -> Result<Vec<u8>, ExtentFault>
     requires prefix { length prefix.now ≡ 4096 }
     requires some { 1 ≤ n }
-    requires inside { first + n ≤ D.size disk.old }
-    requires addressable { first + n ≤ 2 ^ 32 }
-    ensures counts { KeepsCounts D.size D.calls D.faults disk.old disk.new }
-    ensures call { D.calls disk.new ≤ D.calls disk.old + 1 }
+    requires device { FitsDevice (first + n) (D.size disk.old) }
+    ensures calls { CallsOnce D.size D.calls D.faults disk.old disk.new }
     ensures unwritten { D.is_observable → WroteNothing D.calls D.contents D.images_now D.images_since disk.old disk.new }
-    ensures length { IfOk result (λ body. length body.items ≡ 4096 * n) }
-    ensures prefix { IfOk result (λ body. take 4096 body.items ≡ prefix.now) }
+    ensures body { IfOk result (λ body. HasFirstBlock n prefix.now body.items) }
     ensures stored { D.is_observable → Has (D.contents disk.old) (4096 * first) prefix.now
         → IfOk result (λ body. Has (D.contents disk.old) (4096 * first) body.items) }
     ensures cause { IfErr result (ReadCause (D.faults disk.old) (D.faults disk.new)) }
@@ -165,8 +159,7 @@ fn with_first_block(alloc: Global, prefix: &[u8], n: u64) -> Result<Vec<u8>, All
     requires prefix { length prefix.now ≡ 4096 }
     requires some { 1 ≤ n }
     requires addressable { n ≤ 2 ^ 32 }
-    ensures length { IfOk result (λ body. length body.items ≡ 4096 * n) }
-    ensures prefix { IfOk result (λ body. take 4096 body.items ≡ prefix.now) }
+    ensures { IfOk result (λ body. HasFirstBlock n prefix.now body.items) }
 {
     let mut body = zeroed(alloc, n)?;
     copy_to_prefix(&mut body, prefix);
@@ -186,8 +179,7 @@ fn read_rest<D: Disk>(disk: &mut D, first: u64, body: &mut [u8]) -> Result<(), E
     requires some { 4096 ≤ length body.old }
     requires run { IsBlockRange (D.size disk.old) first (length body.old) }
     requires addressable { first < 2 ^ 32 }
-    ensures counts { KeepsCounts D.size D.calls D.faults disk.old disk.new }
-    ensures call { D.calls disk.new ≤ D.calls disk.old + 1 }
+    ensures calls { CallsOnce D.size D.calls D.faults disk.old disk.new }
     ensures unwritten { D.is_observable → WroteNothing D.calls D.contents D.images_now D.images_since disk.old disk.new }
     ensures prefix { take 4096 body.new ≡ take 4096 body.old }
     ensures stored { D.is_observable → Has (D.contents disk.old) (4096 * first) (take 4096 body.old)

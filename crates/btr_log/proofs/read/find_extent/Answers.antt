@@ -15,7 +15,7 @@ returns-clause-whole g c =
     let prefix = c.deref-2.result.now in
     let same : c.deref.result.now ≡ prefix = c.deref.ensures.value ∙ sym c.deref-2.ensures.value in
     let start : IsOpenStart blocks gate prefix head = subst (λ b. IsOpenStart blocks gate b head) same (subst (StartSays blocks gate c.deref.result.now) c.in-Some.is c.in_ok-head.ensures.start) in
-    whole_extent blocks gate head (after_first prefix) c.in_ok-body.body.items start.spells c.in_ok-body.ensures.length c.in_ok-body.ensures.prefix start.inside
+    whole_extent blocks gate head (after_first prefix) c.in_ok-body.body.items start.spells c.in_ok-body.ensures.body.size c.in_ok-body.ensures.body.begins start.inside
 
 pub returns-clause-matches : goal.returns-clause-matches
 returns-clause-matches g c is_observable =

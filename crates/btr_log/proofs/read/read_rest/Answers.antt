@@ -20,4 +20,4 @@ returns-clause-prefix g c =
 
 pub returns-clause-stored : goal.returns-clause-stored
 returns-clause-stored g c is_observable has =
-    Has-put_mid (g.D.Disk.contents c.args.disk.now) c.args.first c.args.body.now c.read.new.buf c.requires.some has (c.in_ok-read.ensures.bytes is_observable)
+    Has-put_mid (g.D.Disk.contents c.args.disk.now) c.args.first c.args.body.now c.read.new.buf c.requires.some has (c.in_ok-read.ensures.reads is_observable).bytes

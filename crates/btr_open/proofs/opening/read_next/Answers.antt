@@ -30,7 +30,7 @@ returns-in-Err-clause-cause g c =
 
 -- The first call of the log only reads.
 first-reads : (g : Over) (c : In-Some g) → OnlyReads g.D.Disk (disk_of c.args.log.now) (disk_of c.read_ahead.new.self)
-first-reads g c = record { counts = c.read_ahead.ensures.log_device; nothing = λ reported. c.read_ahead.ensures.unwritten reported }
+first-reads g c = record { counts = c.read_ahead.ensures.reads.counts; nothing = λ reported. c.read_ahead.ensures.reads.nothing reported }
 
 -- So the bytes of the device are as before.
 bytes-same : (g : Over) (c : In-Some g) → g.D.Disk.is_observable → g.D.Disk.contents (disk_of c.args.log.now) ≡ g.D.Disk.contents (disk_of c.read_ahead.new.self)
@@ -41,7 +41,7 @@ abbrev body : (g : Over) (c : In-Some g) → List ℕ
 body g c = bytes_at c.read_ahead.new.piece (c.args.gate + 1) c.in-Some.head.n
 
 found : (g : Over) (c : In-Some g) → HoldsExtent (log_blocks c.args.log.now) c.args.gate c.read_ahead.new.piece c.in-Some.head
-found g c = subst (HoldsWhole (log_blocks c.args.log.now) c.args.gate c.read_ahead.new.piece) c.in-Some.is c.in-Ok.ensures.whole
+found g c = subst (HoldsWhole (log_blocks c.args.log.now) c.args.gate c.read_ahead.new.piece) c.in-Some.is c.in-Ok.ensures.found.whole
 
 next : (g : Over) (c : In-Some g) → c.args.gate + c.in-Some.head.n + 1 ≡ c.args.gate + need (body g c)
 next g c =
@@ -50,7 +50,7 @@ next g c =
 extent : (g : Over) (c : In-Some g) → g.D.Disk.is_observable → IsExtent (g.D.Disk.contents (disk_of c.args.log.now)) c.args.gate (body g c) c.in-Some.head
 extent g c reported =
     let image = g.D.Disk.contents (disk_of c.args.log.now) in
-    let matches = subst (MatchesPiece image c.args.gate c.read_ahead.new.piece) c.in-Some.is (c.in-Ok.ensures.matches reported) in
+    let matches = subst (MatchesPiece image c.args.gate c.read_ahead.new.piece) c.in-Some.is (c.in-Ok.ensures.found.matches reported) in
     (found-extent image (log_blocks c.args.log.now) c.args.gate c.in-Some.head (body g c) (c.args.gate + c.in-Some.head.n + 1) (found g c).whole matches).0
 
 pub blocks-requires : goal.blocks-requires

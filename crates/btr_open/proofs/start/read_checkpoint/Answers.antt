@@ -30,7 +30,7 @@ returns-in_default-clause-cause g c =
     let disk = g.D.Disk in
     let d0 = disk_of c.args.log.now in
     no-checkpoint-cause disk c.args.found d0 (disk_of c.read_ahead.new.self) c.requires.some c.no_checkpoint.result c.no_checkpoint.ensures (λ reported. record {
-      why = inl (closed-gate (disk.contents d0) c.args.found.checkpoint c.read_ahead.new.piece c.in-Ok.found_there c.in_default.is (c.in-Ok.ensures.matches reported));
+      why = inl (closed-gate (disk.contents d0) c.args.found.checkpoint c.read_ahead.new.piece c.in-Ok.found_there c.in_default.is (c.in-Ok.ensures.found.matches reported));
       of = refl;
     })
 
@@ -39,11 +39,11 @@ abbrev body : (g : Over) (c : In-Some g) → List ℕ
 body g c = bytes_at c.read_ahead.new.piece (c.args.found.checkpoint + 1) c.in-Some.head.n
 
 held : (g : Over) (c : In-Some g) → HoldsExtent (log_blocks c.args.log.now) c.args.found.checkpoint c.read_ahead.new.piece c.in-Some.head
-held g c = subst (HoldsWhole (log_blocks c.args.log.now) c.args.found.checkpoint c.read_ahead.new.piece) c.in-Some.is c.in-Ok.ensures.whole
+held g c = subst (HoldsWhole (log_blocks c.args.log.now) c.args.found.checkpoint c.read_ahead.new.piece) c.in-Some.is c.in-Ok.ensures.found.whole
 
 matches : (g : Over) (c : In-Some g) → g.D.Disk.is_observable → IsOpen (g.D.Disk.contents (disk_of c.args.log.now)) c.args.found.checkpoint × Has (g.D.Disk.contents (disk_of c.args.log.now)) (4096 * (c.args.found.checkpoint + 1)) (body g c)
 matches g c reported =
-    subst (MatchesPiece (g.D.Disk.contents (disk_of c.args.log.now)) c.args.found.checkpoint c.read_ahead.new.piece) c.in-Some.is (c.in-Ok.ensures.matches reported)
+    subst (MatchesPiece (g.D.Disk.contents (disk_of c.args.log.now)) c.args.found.checkpoint c.read_ahead.new.piece) c.in-Some.is (c.in-Ok.ensures.found.matches reported)
 
 pub returns-then-head-ne2-clause-cause : goal.returns-then-head-ne2-clause-cause
 returns-then-head-ne2-clause-cause g c =

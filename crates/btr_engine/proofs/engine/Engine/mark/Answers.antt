@@ -40,9 +40,9 @@ its_log g c = taken_is c.args.self.now.place c.in-Some.log c.in-Some.ensures.is
 takes : (g : Over) (c : In_default-append g) → TakesAppend (log_of c.args.self.now) c.append.new.self (c.args.extent.now ++ [])
 takes g c =
     subst (λ l. TakesAppend l c.append.new.self (c.args.extent.now ++ [])) (its_log g (goal.at.In_default-append g c).After-append) (record {
-      appends = record { full = c.in_default-append.ensures.full; kept = c.append.ensures.kept; moments = c.in_default-append.ensures.moments };
+      appends = record { full = c.in_default-append.ensures.refused.full; kept = c.append.ensures.kept; moments = c.in_default-append.ensures.moments };
       appended = c.in_default-append.ensures.appended;
-      written = c.in_default-append.ensures.written;
+      written = c.in_default-append.ensures.appended.written;
       at_rest = c.in_default-append.ensures.at_rest;
     })
 
@@ -50,7 +50,7 @@ takes g c =
 fails : (g : Over) (c : In-Err g) → FailsAppend (log_of c.args.self.now) c.append.new.self (c.args.extent.now ++ []) c.in-Err.fault
 fails g c =
     subst (λ l. FailsAppend l c.append.new.self (c.args.extent.now ++ []) c.in-Err.fault) (its_log g (goal.at.In-Err g c).After-append) (record {
-      appends = record { full = c.in-Err.ensures.full; kept = c.append.ensures.kept; moments = c.in-Err.ensures.moments };
+      appends = record { full = c.in-Err.ensures.refused.full; kept = c.append.ensures.kept; moments = c.in-Err.ensures.moments };
       cause = c.in-Err.ensures.cause;
     })
 

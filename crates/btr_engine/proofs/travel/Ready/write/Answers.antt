@@ -29,7 +29,7 @@ pub returns-clause-holds : goal.returns-clause-holds
 returns-clause-holds g c is_observable h b s e ready staged now =
     let r = c.args.self.now in
     let is = ap (λ nodes. r.front ++ late_bytes r.is_late r.staged.receipt.stream nodes) c.deref.ensures.value in
-    holds_of_write h b s c.args.log e r ready staged now _ is c.append.new.self c.in_default.ensures.appended c.append.ensures.kept (c.in_default.ensures.written is_observable)
+    holds_of_write h b s c.args.log e r ready staged now _ is c.append.new.self c.in_default.ensures.appended c.append.ensures.kept (c.in_default.ensures.appended.written is_observable)
     (c.in_default.ensures.at_rest is_observable now.holds.bodies (log_rests_now h b s c.args.log now))
 
 pub returns-clause-moments : goal.returns-clause-moments

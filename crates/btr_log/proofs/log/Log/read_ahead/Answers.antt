@@ -12,8 +12,8 @@ use Rattle.btr_log.proofs.log.Log.read_ahead.Given.{Over}
 use Rattle.btr_log.proofs.log.Log.read_ahead.Goals.{In-Some, in_default-2-via-in-Some-2+else-again-head, in_default-2-via-in_default-2}
 use Rattle.btr_log.proofs.log.Log.read_ahead.Goals as goal
 
-pub returns-in_default-clause-matches : goal.returns-in_default-clause-matches
-returns-in_default-clause-matches g c reported =
+pub returns-in_default-clause-found : goal.returns-in_default-clause-found
+returns-in_default-clause-found g c =
     let disk = g.D.Disk in
     let a = c.args in
     let blocks = a.self.now.blocks in
@@ -21,35 +21,41 @@ returns-in_default-clause-matches g c reported =
     let ok = c.in_ok-head.ensures in
     let few : min 2 (blocks - a.gate) ≤ c.start_blocks-count.result = omega (arith, c.start_blocks-count.ensures) in
     let piece = c.hold_start.new.piece in
-    let has = Has-start piece blocks a.gate c.start_blocks-count.result few ok.held image (disk.contents c.hold_start.new.disk) (ok.unwritten reported).same (ok.piece reported) in
-    closed-start piece blocks a.gate c.start_blocks-count.result few ok.held image c.requires.gate has (subst (StartSays blocks a.gate (start_bytes piece blocks a.gate)) c.in_default.is ok.start)
+    record {
+      whole = tt;
+      matches = λ reported.
+          let has = Has-start piece blocks a.gate c.start_blocks-count.result few ok.found.held image (disk.contents c.hold_start.new.disk) (ok.unwritten reported).same (ok.piece reported) in
+          closed-start piece blocks a.gate c.start_blocks-count.result few ok.found.held image c.requires.gate has (subst (StartSays blocks a.gate (start_bytes piece blocks a.gate)) c.in_default.is ok.found.start);
+    }
 
 -- What the first reading of the start says.
 start : (g : Over) (c : In-Some g) → IsOpenStart c.args.self.now.blocks c.args.gate (start_bytes c.hold_start.new.piece c.args.self.now.blocks c.args.gate) c.in-Some.head
 start g c =
-    subst (StartSays c.args.self.now.blocks c.args.gate (start_bytes c.hold_start.new.piece c.args.self.now.blocks c.args.gate)) c.in-Some.is c.in_ok-head.ensures.start
+    subst (StartSays c.args.self.now.blocks c.args.gate (start_bytes c.hold_start.new.piece c.args.self.now.blocks c.args.gate)) c.in-Some.is c.in_ok-head.ensures.found.start
 
 few : (g : Over) (c : In-Some g) → min 2 (c.args.self.now.blocks - c.args.gate) ≤ c.in-Some.head.n + 1
 few g c = min_few (c.args.self.now.blocks - c.args.gate) c.in-Some.head.n (omega (arith, (start g c).spells.is_head.blocks))
 
-pub returns-then-holds-clause-whole : goal.returns-then-holds-clause-whole
-returns-then-holds-clause-whole g c =
-    let at = (goal.at.returns-then-holds-clause-whole g c).In-Some in
-    holds-extent c.hold_start.new.piece c.args.self.now.blocks c.args.gate (c.in-Some.head.n + 1) (few g at) (c.holds.ensures.0 c.if-holds.true) c.in-Some.head (start g at) (omega arith)
-
-pub returns-then-holds-clause-matches : goal.returns-then-holds-clause-matches
-returns-then-holds-clause-matches g c reported =
+pub returns-then-holds-clause-found : goal.returns-then-holds-clause-found
+returns-then-holds-clause-found g c =
     let disk = g.D.Disk in
-    let at = (goal.at.returns-then-holds-clause-matches g c).In-Some in
+    let at = (goal.at.returns-then-holds-clause-found g c).In-Some in
+    let blocks = c.args.self.now.blocks in
+    let piece = c.hold_start.new.piece in
     let ok = c.in_ok-head.ensures in
-    matches-extent c.hold_start.new.piece c.args.self.now.blocks c.args.gate (c.in-Some.head.n + 1) (few g at) (c.holds.ensures.0 c.if-holds.true) c.in-Some.head (start g at)
-    (disk.contents c.args.self.now.disk) (disk.contents c.hold_start.new.disk) (ok.unwritten reported).same (ok.piece reported) (omega arith)
+    let held = c.holds.ensures.0 c.if-holds.true in
+    record {
+      whole = holds-extent piece blocks c.args.gate (c.in-Some.head.n + 1) (few g at) held c.in-Some.head (start g at) (omega arith);
+      matches = λ reported.
+          matches-extent piece blocks c.args.gate (c.in-Some.head.n + 1) (few g at) held c.in-Some.head (start g at)
+          (disk.contents c.args.self.now.disk) (disk.contents c.hold_start.new.disk) (ok.unwritten reported).same (ok.piece reported) (omega arith);
+    }
 
 pub returns-in_default-clause-calls : goal.returns-in_default-clause-calls
 returns-in_default-clause-calls g c =
     let a = c.args in
     let count = c.start_blocks-count.result in
-    let first = c.in_ok-head.ensures.call in
+    let first = c.in_ok-head.ensures.reads.call in
     record {
       most = omega (arith, first.most);
       none = λ holds.
@@ -61,7 +67,7 @@ returns-then-holds-clause-calls g c =
     let a = c.args in
     let at = (goal.at.returns-then-holds-clause-calls g c).In-Some in
     let count = c.start_blocks-count.result in
-    let first = c.in_ok-head.ensures.call in
+    let first = c.in_ok-head.ensures.reads.call in
     record {
       most = omega (arith, first.most);
       none = λ holds.
@@ -74,8 +80,8 @@ returns-in-Some-2-clause-calls g c =
     let at = (goal.at.returns-in-Some-2-clause-calls g c).In-Some in
     let count = c.start_blocks-count.result in
     let most = c.in-Some.head.n + 1 in
-    let first = c.in_ok-head.ensures.call in
-    let second = c.in_ok-again.ensures.call in
+    let first = c.in_ok-head.ensures.reads.call in
+    let second = c.in_ok-again.ensures.reads.call in
     record {
       most = omega (arith, first.most, second.most);
       none = λ holds.
@@ -92,23 +98,12 @@ returns-in_err-again-clause-cause g c =
     let d2 = c.hold_start-2.new.disk in
     let p = err_from_is_err_and c.from_residual-in_err-again.result c.from_residual-in_err-again.ensures.1 in
     rw (p.1, p.2) (FindCause-before disk.is_observable (disk.contents d0) (disk.contents d1) c.args.self.now.blocks c.args.gate (disk.faults d0) (disk.faults d1) (disk.faults d2) c.in_err-again.field-0.0
-    (λ reported. (c.in_ok-head.ensures.unwritten reported).same) c.in_ok-head.ensures.counts.more_faults c.in_err-again.ensures.cause)
+    (λ reported. (c.in_ok-head.ensures.unwritten reported).same) c.in_ok-head.ensures.reads.counts.more_faults c.in_err-again.ensures.cause)
 
-pub returns-in-Some-2-clause-whole : goal.returns-in-Some-2-clause-whole
-returns-in-Some-2-clause-whole g c =
-    let at = (goal.at.returns-in-Some-2-clause-whole g c).In-Some in
-    let blocks = c.args.self.now.blocks in
-    let gate = c.args.gate in
-    let piece = c.hold_start-2.new.piece in
-    let ok = c.in_ok-again.ensures in
-    let again = c.in-Some-2.again in
-    let start : IsOpenStart blocks gate (start_bytes piece blocks gate) again = subst (StartSays blocks gate (start_bytes piece blocks gate)) c.in-Some-2.is ok.start in
-    holds-extent piece blocks gate (c.in-Some.head.n + 1) (few g at) ok.held again start (omega (arith, c.if-again-head.true))
-
-pub returns-in-Some-2-clause-matches : goal.returns-in-Some-2-clause-matches
-returns-in-Some-2-clause-matches g c reported =
+pub returns-in-Some-2-clause-found : goal.returns-in-Some-2-clause-found
+returns-in-Some-2-clause-found g c =
     let disk = g.D.Disk in
-    let at = (goal.at.returns-in-Some-2-clause-matches g c).In-Some in
+    let at = (goal.at.returns-in-Some-2-clause-found g c).In-Some in
     let blocks = c.args.self.now.blocks in
     let gate = c.args.gate in
     let piece = c.hold_start-2.new.piece in
@@ -116,9 +111,13 @@ returns-in-Some-2-clause-matches g c reported =
     let image = disk.contents c.args.self.now.disk in
     let new = disk.contents c.hold_start-2.new.disk in
     let ok = c.in_ok-again.ensures in
-    let same = Same-trans image (disk.contents c.hold_start.new.disk) new (c.in_ok-head.ensures.unwritten reported).same (ok.unwritten reported).same in
-    let start : IsOpenStart blocks gate (start_bytes piece blocks gate) again = subst (StartSays blocks gate (start_bytes piece blocks gate)) c.in-Some-2.is ok.start in
-    matches-extent piece blocks gate (c.in-Some.head.n + 1) (few g at) ok.held again start image new same (ok.piece reported) (omega (arith, c.if-again-head.true))
+    let start : IsOpenStart blocks gate (start_bytes piece blocks gate) again = subst (StartSays blocks gate (start_bytes piece blocks gate)) c.in-Some-2.is ok.found.start in
+    record {
+      whole = holds-extent piece blocks gate (c.in-Some.head.n + 1) (few g at) ok.found.held again start (omega (arith, c.if-again-head.true));
+      matches = λ reported.
+          let same = Same-trans image (disk.contents c.hold_start.new.disk) new (c.in_ok-head.ensures.unwritten reported).same (ok.unwritten reported).same in
+          matches-extent piece blocks gate (c.in-Some.head.n + 1) (few g at) ok.found.held again start image new same (ok.piece reported) (omega (arith, c.if-again-head.true));
+    }
 
 pub returns-in_default-2-clause-cause : goal.returns-in_default-2-clause-cause
 returns-in_default-2-clause-cause g c reported =
@@ -137,11 +136,11 @@ returns-in_default-2-clause-cause g c reported =
     let second = c.hold_start-2.new.piece in
     let one : min 2 (blocks - a.gate) ≤ count = omega (arith, c.start_blocks-count.ensures) in
     let same : Same image new = Same-trans image mid new (ok.unwritten reported).same (ok2.unwritten reported).same in
-    let sizes = length-start first blocks a.gate count one ok.held ∙ sym (length-start second blocks a.gate (head.n + 1) (few g at) ok2.held) in
-    let has_first = Has-start first blocks a.gate count one ok.held image mid (ok.unwritten reported).same (ok.piece reported) in
-    let has_second = Has-start second blocks a.gate (head.n + 1) (few g at) ok2.held image new same (ok2.piece reported) in
+    let sizes = length-start first blocks a.gate count one ok.found.held ∙ sym (length-start second blocks a.gate (head.n + 1) (few g at) ok2.found.held) in
+    let has_first = Has-start first blocks a.gate count one ok.found.held image mid (ok.unwritten reported).same (ok.piece reported) in
+    let has_second = Has-start second blocks a.gate (head.n + 1) (few g at) ok2.found.held image new same (ok2.piece reported) in
     let found : c.in_ok-again.field-0 ≡ Some head =
-    one-start image blocks a.gate (start_bytes first blocks a.gate) (start_bytes second blocks a.gate) head c.in_ok-again.field-0 sizes has_first has_second (start g at) ok2.start
+    one-start image blocks a.gate (start_bytes first blocks a.gate) (start_bytes second blocks a.gate) head c.in_ok-again.field-0 sizes has_first has_second (start g at) ok2.found.start
     in
     elim c.in_default-2.branch [
       | in_default-2-via-in-Some-2+else-again-head w ↦

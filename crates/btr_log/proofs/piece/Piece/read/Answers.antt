@@ -14,4 +14,4 @@ returns-clause-piece g c is_observable _ =
     let xs = c.read.new.buf in
     let size : length xs ≡ bytes.len = omega (arith, bytes.ok, ap length c.deref_mut.ensures.value) in
     subst (Has new (4096 * c.args.first)) (sym (written_whole bytes.len xs bytes.items size))
-    (Has-Same old new (4096 * c.args.first) xs (c.in_default.ensures.contents is_observable) (c.in_default.ensures.bytes is_observable))
+    (Has-Same old new (4096 * c.args.first) xs (c.in_default.ensures.reads is_observable).same (c.in_default.ensures.reads is_observable).bytes)
