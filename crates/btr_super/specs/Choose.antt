@@ -1,5 +1,5 @@
 -- Which superblock of a device counts: of those with an open gate the one with the greater number.
-use Rattle.std.specs.Prelude.{◌≡◌, ℕ, ◌+◌, ◌-◌, ◌*◌, ◌<◌, ◌⊎◌}
+use Rattle.std.specs.Prelude.{◌≡◌, ℕ, ◌+◌, ◌-◌, ◌*◌, ◌<◌, ◌≤◌, ◌⊎◌}
 use Rattle.btr_disk.specs.Bytes.{Image, Has}
 use Rattle.btr_disk.specs.Gate.{IsOpen}
 use Rattle.btr_super.specs.declared.superblock.Super.{Super}
@@ -48,3 +48,8 @@ abbrev pub IsDamagedSuper : ℕ → Image → ℕ → Type 0
 IsDamagedSuper size image block =
     ((block ≡ 1) × IsBroken size image 0)
     ⊎ ((block ≡ 3) × (IsBroken size image 0 → ⊥) × (IsBroken size image 1 ⊎ ((a b : Super) × HasEqualSeq size image a b)))
+
+-- At most one call was counted.
+pub record AtMostOneCall (old new : ℕ) : Type 0 where
+  pub later : old ≤ new
+  pub most : new ≤ old + 1

@@ -6,7 +6,7 @@ ghost use Rattle.btr_disk.specs.Causes.{HasCause};
 ghost use Rattle.btr_super.specs.declared.superblock.Super.{Super};
 ghost use Rattle.btr_super.specs.declared.choosing.ChooseFault.TheVariants.{Fault};
 ghost use Rattle.btr_super.specs.Super.{IsSuper};
-ghost use Rattle.btr_super.specs.Choose.{IsOpenAt, Spells, IsChosen, HasNoSuper, IsDamagedSuper};
+ghost use Rattle.btr_super.specs.Choose.{AtMostOneCall, IsOpenAt, Spells, IsChosen, HasNoSuper, IsDamagedSuper};
 ghost use Rattle.btr_super.specs.Chosen.{IsBlockOf, SideIs, IsLater, ChoiceIs};
 ghost use Rattle.btr_disk.specs.Causes.{CausesFault};
 
@@ -131,8 +131,7 @@ fn choose_in(prefix: &[u8], size: u64) -> Result<Super, ChooseFault>
 fn read_prefix<D: Disk>(device: &mut D, prefix: &mut [u8]) -> Result<(), Failed>
     requires { length prefix.old ≡ 4096 * min 4 (D.size device.old) }
     ensures size { D.size device.new ≡ D.size device.old }
-    ensures calls { D.calls device.old ≤ D.calls device.new }
-    ensures one_call { D.calls device.new ≤ D.calls device.old + 1 }
+    ensures calls { AtMostOneCall (D.calls device.old) (D.calls device.new) }
     ensures cause { HasCause (D.faults device.old) (D.faults device.new) result }
     ensures bytes { D.is_observable → OnOk result (Has (D.contents device.old) 0 prefix.new) }
     ensures nothing { D.is_observable → WroteNothing D.calls D.contents D.images_now D.images_since device.old device.new }
@@ -154,8 +153,7 @@ fn read_prefix<D: Disk>(device: &mut D, prefix: &mut [u8]) -> Result<(), Failed>
 /// memory.
 pub fn choose<D: Disk>(device: &mut D) -> Result<Super, ChooseFault>
     ensures size { D.size device.new ≡ D.size device.old }
-    ensures calls { D.calls device.old ≤ D.calls device.new }
-    ensures one_call { D.calls device.new ≤ D.calls device.old + 1 }
+    ensures calls { AtMostOneCall (D.calls device.old) (D.calls device.new) }
     ensures cause { CausesFault (D.faults device.old) (D.faults device.new) (result ≡ Err ChooseFault.Fault) }
     ensures table { IfOk result (IsSuper (D.size device.old)) }
     ensures chosen { D.is_observable → result ≢ Err ChooseFault.Fault

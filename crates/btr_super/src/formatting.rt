@@ -1,13 +1,13 @@
 //! Making a store that has no entry.
-ghost use Rattle.std.specs.Prelude.{◌≡◌, ◌≢◌, ◌↔◌, ◌⊎◌, ℕ, ◌*◌, ◌^◌, ◌<◌, ◌≤◌, OnOk};
-ghost use Rattle.btr_disk.specs.Bytes.{Has, SameBut, SameButTwo};
+ghost use Rattle.std.specs.Prelude.{◌≡◌, ◌≢◌, ◌↔◌, ℕ, ◌*◌, ◌<◌, ◌≤◌, OnOk};
+ghost use Rattle.btr_disk.specs.Bytes.{Has, SameBut};
 ghost use Rattle.btr_disk.specs.Images.{Only};
 ghost use Rattle.btr_disk.specs.Moments.{IsUnwritten, Leaves};
 ghost use Rattle.btr_disk.specs.Causes.{CountsCalls, HasCause, UsesDevice};
-ghost use Rattle.btr_disk.specs.Gate.{gate_block, zeros};
+ghost use Rattle.btr_disk.specs.Gate.{gate_block};
 ghost use Rattle.btr_super.specs.declared.formatting.FormatFault.TheVariants.{Fault};
-ghost use Rattle.btr_super.specs.Super.{super_bytes, first_super};
-ghost use Rattle.btr_super.specs.Format.{IsTooSmall, IsOccupied, HasClosedGates, Formatted, IsFormatting, WritesFrom};
+ghost use Rattle.btr_super.specs.Format.{IsStoreSize, IsTooSmall, IsOccupied, HasBodies, SameButBodies, WritesStore};
+ghost use Rattle.btr_super.specs.Format.{MakesStore, LeavesFormatting};
 
 use crate::codec::encode;
 use crate::gates::read_gates;
@@ -50,12 +50,11 @@ fn write_bodies<D: Disk>(device: &mut D, blocks: u64) -> Result<(), Failed>
     ensures size { D.size device.new ≡ D.size device.old }
     ensures calls { CountsCalls 3 (D.calls device.old) (D.calls device.new) result }
     ensures cause { HasCause (D.faults device.old) (D.faults device.new) result }
-    ensures body { D.is_observable → OnOk result (Has (D.contents device.new) (4096 * 1) (super_bytes (first_super blocks))) }
-    ensures log { D.is_observable → OnOk result (Has (D.contents device.new) (4096 * 4) (zeros 4096)) }
-    ensures elsewhere { D.is_observable → SameButTwo (4096 * 1) 4096 (4096 * 4) 4096 (D.contents device.old) (D.contents device.new) }
+    ensures stored { D.is_observable → OnOk result (HasBodies blocks (D.contents device.new)) }
+    ensures elsewhere { D.is_observable → SameButBodies (D.contents device.old) (D.contents device.new) }
     ensures synced { D.is_observable → OnOk result (Only (D.contents device.new) (D.images_now device.new)) }
     ensures moments { D.is_observable → Only (D.contents device.old) (D.images_now device.old)
-        → Leaves D.calls D.images_since device.old device.new (SameButTwo (4096 * 1) 4096 (4096 * 4) 4096 (D.contents device.old)) }
+        → Leaves D.calls D.images_since device.old device.new (SameButBodies (D.contents device.old)) }
 {
     let first = Super {
         seq: 1,
@@ -88,17 +87,13 @@ fn open_first_gate<D: Disk>(device: &mut D) -> Result<(), Failed>
 
 /// Writes the store that has no entry, on a device whose gates are closed.
 fn write_store<D: Disk>(device: &mut D, blocks: u64) -> Result<(), Failed>
-    requires least { 8 ≤ blocks }
-    requires greatest { blocks ≤ 2 ^ 32 }
+    requires blocks { IsStoreSize blocks }
     requires inside { blocks ≤ D.size device.old }
     ensures size { D.size device.new ≡ D.size device.old }
     ensures calls { CountsCalls 5 (D.calls device.old) (D.calls device.new) result }
     ensures cause { HasCause (D.faults device.old) (D.faults device.new) result }
-    ensures formatted { D.is_observable → HasClosedGates (D.contents device.old)
-        → OnOk result (Formatted (D.size device.old) blocks (D.contents device.old) (D.contents device.new)) }
-    ensures synced { D.is_observable → OnOk result (Only (D.contents device.new) (D.images_now device.new)) }
-    ensures moments { D.is_observable → HasClosedGates (D.contents device.old) → Only (D.contents device.old) (D.images_now device.old)
-        → Leaves D.calls D.images_since device.old device.new (IsFormatting (D.size device.old) blocks (D.contents device.old)) }
+    ensures writes { D.is_observable
+        → WritesStore D.size D.calls D.contents D.images_now D.images_since blocks device.old device.new result }
 {
     write_bodies(device, blocks)?;
     open_first_gate(device)
@@ -112,22 +107,18 @@ fn write_store<D: Disk>(device: &mut D, blocks: u64) -> Result<(), Failed>
 /// It makes eight calls: sync, read blocks 0 and 2, write blocks 1 and 4, sync, write block 0, sync. It stops
 /// at the first that fails, and after the reads if a gate is open. It allocates no memory.
 pub fn format<D: Disk>(device: &mut D, blocks: u64) -> Result<(), FormatFault>
-    requires least { 8 ≤ blocks }
-    requires greatest { blocks ≤ 2 ^ 32 }
+    requires { IsStoreSize blocks }
     ensures counts { UsesDevice 8 D.size D.calls D.faults device.old device.new result (result ≡ Err FormatFault.Fault) }
     ensures too_small { (asked has : ℕ)
         → (result ≡ Err (FormatFault.TooSmall asked has)) ↔ IsTooSmall (D.size device.old) blocks asked has }
     ensures uncalled { D.size device.old < blocks → device.new ≡ device.old }
     ensures occupied { D.is_observable → blocks ≤ D.size device.old → result ≢ Err FormatFault.Fault
-        → (block : ℕ) → (result ≡ Err (FormatFault.Occupied block)) ↔ IsOccupied (D.contents device.old) block }
+        → (at : ℕ) → (result ≡ Err (FormatFault.Occupied at)) ↔ IsOccupied (D.contents device.old) at }
     ensures refused { D.is_observable → (block : ℕ) → result ≡ Err (FormatFault.Occupied block)
         → IsUnwritten D.calls D.contents D.images_now D.images_since device.old device.new }
-    ensures formatted { D.is_observable
-        → OnOk result (Formatted (D.size device.old) blocks (D.contents device.old) (D.contents device.new)) }
-    ensures synced { D.is_observable → OnOk result (Only (D.contents device.new) (D.images_now device.new)) }
-    ensures moments { D.is_observable → IsUnwritten D.calls D.contents D.images_now D.images_since device.old device.new
-        ⊎ ((start : D) × WritesFrom D.calls D.contents D.images_now D.images_since
-        (IsFormatting (D.size device.old) blocks (D.contents device.old)) device.old start device.new) }
+    ensures made { D.is_observable → MakesStore D.size D.contents D.images_now blocks device.old device.new result }
+    ensures moments { D.is_observable
+        → LeavesFormatting D.size D.calls D.contents D.images_now D.images_since blocks device.old device.new }
 {
     let has = device.blocks();
     if blocks > has {

@@ -1,15 +1,13 @@
 //! Replacing the superblock that counts by one on the other side.
 ghost use Rattle.std.specs.Prelude.{◌≡◌, ◌+◌, ◌*◌, ◌<◌, length, OnOk};
-ghost use Rattle.btr_disk.specs.Bytes.{Has, SameBut};
+ghost use Rattle.btr_disk.specs.Bytes.{SameBut};
 ghost use Rattle.btr_disk.specs.Causes.{CountsCalls, HasCause};
 ghost use Rattle.btr_disk.specs.Gate.{IsClosed};
-ghost use Rattle.btr_disk.specs.Images.{Only};
 ghost use Rattle.btr_disk.specs.Moments.{Leaves};
-ghost use Rattle.btr_super.specs.declared.superblock.Super.{Super};
 ghost use Rattle.btr_super.specs.declared.replacing.ReplaceFault.TheVariants.{Fault};
 ghost use Rattle.btr_super.specs.Super.{IsSuper};
-ghost use Rattle.btr_super.specs.Choose.{IsChosen};
-ghost use Rattle.btr_super.specs.Replace.{IsFollowed, HasOnePrefix, StoresSuper, IsReplacing, CountsEither, IsButBlock, IsClosing};
+ghost use Rattle.btr_super.specs.Replace.{HasOnePrefix, CountsEither, IsClosing, WritesBlock};
+ghost use Rattle.btr_super.specs.Replace.{StoresDurably, ChoosesNext, LeavesReplacing};
 
 use crate::codec::encode;
 use crate::gates::read_gate;
@@ -38,11 +36,8 @@ fn write_block<D: Disk>(device: &mut D, block: u64, bytes: &[u8]) -> Result<(), 
     ensures size { D.size device.new ≡ D.size device.old }
     ensures calls { CountsCalls 2 (D.calls device.old) (D.calls device.new) result }
     ensures cause { HasCause (D.faults device.old) (D.faults device.new) result }
-    ensures written { D.is_observable → OnOk result (Has (D.contents device.new) (4096 * block) bytes.now) }
-    ensures elsewhere { D.is_observable → SameBut (4096 * block) 4096 (D.contents device.old) (D.contents device.new) }
-    ensures synced { D.is_observable → OnOk result (Only (D.contents device.new) (D.images_now device.new)) }
-    ensures moments { D.is_observable
-        → Leaves D.calls D.images_since device.old device.new (IsButBlock block (D.images_now device.old)) }
+    ensures writes { D.is_observable
+        → WritesBlock D.calls D.contents D.images_now D.images_since block bytes.now device.old device.new result }
 {
     device.write(block, bytes)?;
     device.sync()
@@ -83,14 +78,11 @@ pub fn replace<D: Disk>(device: &mut D, next: &Super) -> Result<(), ReplaceFault
     ensures calls { CountsEither 5 7 (D.calls device.old) (D.calls device.new) result }
     ensures cause { HasCause (D.faults device.old) (D.faults device.new) result }
     ensures elsewhere { D.is_observable → SameBut (8192 * next.now.side) 8192 (D.contents device.old) (D.contents device.new) }
-    ensures written { D.is_observable → OnOk result (StoresSuper (D.contents device.new) next.now) }
-    ensures synced { D.is_observable → OnOk result (Only (D.contents device.new) (D.images_now device.new)) }
-    ensures replaced { D.is_observable → (s : Super) → IsFollowed (D.size device.old) (D.contents device.old) s next.now
-        → HasOnePrefix (D.contents device.old) (D.images_now device.old)
-        → OnOk result (IsChosen (D.size device.old) (D.contents device.new) next.now) }
-    ensures moments { D.is_observable → (s : Super) → IsFollowed (D.size device.old) (D.contents device.old) s next.now
-        → HasOnePrefix (D.contents device.old) (D.images_now device.old)
-        → Leaves D.calls D.images_since device.old device.new (IsReplacing (D.size device.old) (D.images_now device.old) s next.now) }
+    ensures stored { D.is_observable → StoresDurably D.contents D.images_now next.now device.new result }
+    ensures replaced { D.is_observable
+        → ChoosesNext D.size D.contents D.images_now next.now device.old device.new result }
+    ensures moments { D.is_observable
+        → LeavesReplacing D.size D.calls D.contents D.images_now D.images_since next.now device.old device.new }
 {
     let gate = 2 * next.side as u64;
     close_gate(device, gate)?;

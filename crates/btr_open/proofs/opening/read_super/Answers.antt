@@ -20,7 +20,7 @@ synced_counts g c =
 -- and the choice only reads
 chosen_reads : (g : Over) (c : After-choose g) → OnlyReads g.D.Disk c.sync.new.self c.choose.new.device
 chosen_reads g c = record {
-  counts = record { same_size = c.choose.ensures.size; more_calls = c.choose.ensures.calls; more_faults = c.choose.ensures.cause.later };
+  counts = record { same_size = c.choose.ensures.size; more_calls = c.choose.ensures.calls.later; more_faults = c.choose.ensures.cause.later };
   nothing = λ reported. c.choose.ensures.nothing reported;
 }
 

@@ -19,7 +19,7 @@ read_and_written disk d0 d1 d2 block opened nothing written =
 pub returns-in_err-write_block-clause-moments : goal.returns-in_err-write_block-clause-moments
 returns-in_err-write_block-clause-moments g c is_observable =
     read_and_written g.D.Disk c.args.device.now c.read_gate.new.device c.write_block.new.device c.args.block ((c.in_ok-opened.ensures.gate is_observable).0 c.if-opened.true)
-    (c.read_gate.ensures.nothing is_observable) (c.write_block.ensures.moments is_observable)
+    (c.read_gate.ensures.nothing is_observable) (c.write_block.ensures.writes is_observable).moments
 
 pub returns-in_ok-write_block-clause-elsewhere : goal.returns-in_ok-write_block-clause-elsewhere
 returns-in_ok-write_block-clause-elsewhere g c is_observable =
@@ -27,9 +27,9 @@ returns-in_ok-write_block-clause-elsewhere g c is_observable =
     let d0 = c.args.device.now in
     let d1 = c.read_gate.new.device in
     SameBut-trans (4096 * c.args.block) 4096 (contents d0) (contents d1) (contents c.write_block.new.device)
-    (SameBut-from_Same (4096 * c.args.block) 4096 (contents d0) (contents d1) (c.read_gate.ensures.nothing is_observable).same) (c.write_block.ensures.elsewhere is_observable)
+    (SameBut-from_Same (4096 * c.args.block) 4096 (contents d0) (contents d1) (c.read_gate.ensures.nothing is_observable).same) (c.write_block.ensures.writes is_observable).elsewhere
 
 pub returns-in_ok-write_block-clause-moments : goal.returns-in_ok-write_block-clause-moments
 returns-in_ok-write_block-clause-moments g c is_observable =
     read_and_written g.D.Disk c.args.device.now c.read_gate.new.device c.write_block.new.device c.args.block ((c.in_ok-opened.ensures.gate is_observable).0 c.if-opened.true)
-    (c.read_gate.ensures.nothing is_observable) (c.write_block.ensures.moments is_observable)
+    (c.read_gate.ensures.nothing is_observable) (c.write_block.ensures.writes is_observable).moments

@@ -1,4 +1,4 @@
-use Rattle.std.proofs.Common.{◌≡◌, ℕ, ◌+◌, ◌*◌, ◌≤◌, List, subst, arith}
+use Rattle.std.proofs.Common.{◌≡◌, ℕ, ◌+◌, ◌*◌, ◌≤◌, List, Result, subst, arith}
 use Rattle.btr_disk.specs.declared.disk.Disk.{Ghosts}
 use Rattle.btr_disk.specs.Bytes.{Image, Has, SameBut}
 use Rattle.btr_disk.specs.Gate.{IsClosed, gate_block}
@@ -8,7 +8,7 @@ use Rattle.btr_disk.proofs.ByteLemmas.{Has-above}
 use Rattle.btr_disk.proofs.MomentLemmas.{composes, weakens, left_now}
 use Rattle.btr_super.specs.declared.superblock.Super.{Super}
 use Rattle.btr_super.specs.Super.{super_bytes, IsSuper}
-use Rattle.btr_super.specs.Replace.{IsFollowed, HasOnePrefix, IsButBlock, IsClosing, IsReplacing}
+use Rattle.btr_super.specs.Replace.{IsFollowed, HasOnePrefix, IsButBlock, IsClosing, IsReplacing, WritesBlock}
 use Rattle.btr_super.proofs.Side.{IsShut, IsWritten, closing_from, body_written, while_closing, while_body, while_gate, next_chosen}
 use Rattle.btr_super.proofs.replacing.replace.Goals as goal
 
@@ -63,47 +63,58 @@ module _ {D : Type 0} (disk : Ghosts D) (s next : Super) (d0 d1 : D) (follows : 
         (weakens disk.calls disk.images_since d1 d2 (IsButBlock (2 * next.side) (disk.images_now d1)) (IsReplacing (disk.size d0) (disk.images_now d0) s next)
         (while_gate (disk.size d0) (disk.contents d0) (disk.images_now d0) s next follows keeps (disk.contents d1) (disk.images_now d1) at) steps)
 
+-- the steps after the gate is closed
+module _ {D : Type 0} (disk : Ghosts D) (counts_now : CountsNow disk) (s next : Super) (d0 d1 : D) (follows : IsFollowed (disk.size d0) (disk.contents d0) s next) (one : HasOnePrefix (disk.contents d0) (disk.images_now d0)) (closing : Steps disk d0 d1 (IsClosing (2 * next.side) (disk.contents d0) (disk.images_now d0))) (closed : IsClosed (disk.contents d1) (2 * next.side)) (but : SameBut (4096 * (2 * next.side)) 4096 (disk.contents d0) (disk.contents d1)) (still : HasOnePrefix (disk.contents d1) (disk.images_now d1)) where
+  at : IsShutAt disk next d0 d1
+  at = shut disk counts_now next d0 d1 closing closed but still
+
+  module _ (d2 : D) {T E : Type 0} (bytes : List ℕ) (result : Result T E) (wrote : WritesBlock disk.calls disk.contents disk.images_now disk.images_since (2 * next.side + 1) bytes d1 d2 result) where
+    up_to_body : Steps disk d0 d2 (IsReplacing (disk.size d0) (disk.images_now d0) s next)
+    up_to_body = to_body disk s next d0 d1 follows (to_shut disk s next d0 d1 follows one closing) d2 at wrote.moments
+
+    module _ (spelled : bytes ≡ super_bytes next) (has : Has (disk.contents d2) (4096 * (2 * next.side + 1)) bytes) (only : Only (disk.contents d2) (disk.images_now d2)) where
+      there : IsWrittenAt disk next d0 d2
+      there = written disk counts_now next d0 d1 d2 bytes spelled at wrote.moments wrote.elsewhere has only
+
+      through_gate : (d3 : D) → IsSuper (disk.size d0) next → Steps disk d2 d3 (IsButBlock (2 * next.side) (disk.images_now d2)) → Steps disk d0 d3 (IsReplacing (disk.size d0) (disk.images_now d0) s next)
+      through_gate d3 keeps steps = to_gate disk s next d0 d2 follows up_to_body d3 keeps there steps
+
 pub returns-in_err-close_gate-clause-moments : goal.returns-in_err-close_gate-clause-moments
 returns-in_err-close_gate-clause-moments g c is_observable s follows one =
     to_shut g.D.Disk s c.args.next.now c.args.device.now c.close_gate.new.device follows one (c.close_gate.ensures.moments is_observable)
 
 pub returns-in_err-write_block-clause-moments : goal.returns-in_err-write_block-clause-moments
 returns-in_err-write_block-clause-moments g c is_observable s follows one =
-    let disk = g.D.Disk in
-    let next = c.args.next.now in
-    let d0 = c.args.device.now in
-    let d1 = c.close_gate.new.device in
-    let d2 = c.write_block.new.device in
     let first = c.in_ok-close_gate.ensures in
-    let at = shut disk (g.met.D.Disk.counts_now is_observable) next d0 d1 (first.moments is_observable) (first.closed is_observable) (first.elsewhere is_observable) (first.prefix is_observable one) in
-    to_body disk s next d0 d1 follows (to_shut disk s next d0 d1 follows one (first.moments is_observable)) d2 at (c.write_block.ensures.moments is_observable)
+    up_to_body g.D.Disk (g.met.D.Disk.counts_now is_observable) s c.args.next.now c.args.device.now c.close_gate.new.device follows one
+    (first.moments is_observable) (first.closed is_observable) (first.elsewhere is_observable) (first.prefix is_observable one)
+    c.write_block.new.device c.encode.result c.write_block.result (c.write_block.ensures.writes is_observable)
 
 pub returns-in_err-write_block-2-clause-moments : goal.returns-in_err-write_block-2-clause-moments
 returns-in_err-write_block-2-clause-moments g c is_observable s follows one =
-    let disk = g.D.Disk in
-    let next = c.args.next.now in
-    let d0 = c.args.device.now in
-    let d1 = c.close_gate.new.device in
-    let d2 = c.write_block.new.device in
     let first = c.in_ok-close_gate.ensures in
-    let second = c.in_ok-write_block.ensures in
-    let at = shut disk (g.met.D.Disk.counts_now is_observable) next d0 d1 (first.moments is_observable) (first.closed is_observable) (first.elsewhere is_observable) (first.prefix is_observable one) in
-    let there = written disk (g.met.D.Disk.counts_now is_observable) next d0 d1 d2 c.encode.result c.encode.ensures at (second.moments is_observable) (second.elsewhere is_observable) (second.written is_observable) (second.synced is_observable) in
-    let so_far = to_body disk s next d0 d1 follows (to_shut disk s next d0 d1 follows one (first.moments is_observable)) d2 at (second.moments is_observable) in
-    to_gate disk s next d0 d2 follows so_far c.write_block-2.new.device c.requires there (c.write_block-2.ensures.moments is_observable)
+    let second = c.in_ok-write_block.ensures.writes is_observable in
+    through_gate g.D.Disk (g.met.D.Disk.counts_now is_observable) s c.args.next.now c.args.device.now c.close_gate.new.device follows one
+    (first.moments is_observable) (first.closed is_observable) (first.elsewhere is_observable) (first.prefix is_observable one)
+    c.write_block.new.device c.encode.result _ second c.encode.ensures second.written second.synced
+    c.write_block-2.new.device c.requires (c.write_block-2.ensures.writes is_observable).moments
 
-pub returns-clause-written : goal.returns-clause-written
-returns-clause-written g c is_observable =
+pub returns-clause-stored : goal.returns-clause-stored
+returns-clause-stored g c is_observable =
     let contents = g.D.Disk.contents in
     let next = c.args.next.now in
     let d2 = c.write_block.new.device in
     let d3 = c.write_block-2.new.device in
+    let last = c.in_ok-write_block-2.ensures.writes is_observable in
     let body : Has (contents d2) (4096 * (2 * next.side + 1)) (super_bytes next) =
-    subst (Has (contents d2) (4096 * (2 * next.side + 1))) c.encode.ensures (c.in_ok-write_block.ensures.written is_observable) in
+    subst (Has (contents d2) (4096 * (2 * next.side + 1))) c.encode.ensures (c.in_ok-write_block.ensures.writes is_observable).written in
     record {
-      gate = subst (Has (contents d3) (4096 * (2 * next.side))) c.open_gate.ensures (c.in_ok-write_block-2.ensures.written is_observable);
-      body = Has-above (4096 * (2 * next.side)) 4096 (contents d2) (contents d3) (c.write_block-2.ensures.elsewhere is_observable)
-          (4096 * (2 * next.side + 1)) (super_bytes next) (omega arith) body;
+      written = record {
+        gate = subst (Has (contents d3) (4096 * (2 * next.side))) c.open_gate.ensures last.written;
+        body = Has-above (4096 * (2 * next.side)) 4096 (contents d2) (contents d3) last.elsewhere
+            (4096 * (2 * next.side + 1)) (super_bytes next) (omega arith) body;
+      };
+      synced = last.synced;
     }
 
 pub returns-clause-replaced : goal.returns-clause-replaced
@@ -111,27 +122,23 @@ returns-clause-replaced g c is_observable s follows one =
     let disk = g.D.Disk in
     let next = c.args.next.now in
     let d0 = c.args.device.now in
-    let d1 = c.close_gate.new.device in
     let d2 = c.write_block.new.device in
     let d3 = c.write_block-2.new.device in
     let first = c.in_ok-close_gate.ensures in
-    let second = c.in_ok-write_block.ensures in
-    let at = shut disk (g.met.D.Disk.counts_now is_observable) next d0 d1 (first.moments is_observable) (first.closed is_observable) (first.elsewhere is_observable) (first.prefix is_observable one) in
-    let there = written disk (g.met.D.Disk.counts_now is_observable) next d0 d1 d2 c.encode.result c.encode.ensures at (second.moments is_observable) (second.elsewhere is_observable) (second.written is_observable) (second.synced is_observable) in
+    let second = c.in_ok-write_block.ensures.writes is_observable in
+    let last = c.in_ok-write_block-2.ensures.writes is_observable in
+    let written = there disk (g.met.D.Disk.counts_now is_observable) s next d0 c.close_gate.new.device follows one
+    (first.moments is_observable) (first.closed is_observable) (first.elsewhere is_observable) (first.prefix is_observable one)
+    d2 c.encode.result _ second c.encode.ensures second.written second.synced in
     let gate : Has (disk.contents d3) (4096 * (2 * next.side)) gate_block =
-    subst (Has (disk.contents d3) (4096 * (2 * next.side))) c.open_gate.ensures (c.in_ok-write_block-2.ensures.written is_observable) in
-    next_chosen (disk.size d0) (disk.contents d0) (disk.images_now d0) s next follows c.requires (disk.contents d2) (disk.images_now d2) there (disk.contents d3) (c.write_block-2.ensures.elsewhere is_observable) gate
+    subst (Has (disk.contents d3) (4096 * (2 * next.side))) c.open_gate.ensures last.written in
+    next_chosen (disk.size d0) (disk.contents d0) (disk.images_now d0) s next follows c.requires (disk.contents d2) (disk.images_now d2) written (disk.contents d3) last.elsewhere gate
 
 pub returns-clause-moments : goal.returns-clause-moments
 returns-clause-moments g c is_observable s follows one =
-    let disk = g.D.Disk in
-    let next = c.args.next.now in
-    let d0 = c.args.device.now in
-    let d1 = c.close_gate.new.device in
-    let d2 = c.write_block.new.device in
     let first = c.in_ok-close_gate.ensures in
-    let second = c.in_ok-write_block.ensures in
-    let at = shut disk (g.met.D.Disk.counts_now is_observable) next d0 d1 (first.moments is_observable) (first.closed is_observable) (first.elsewhere is_observable) (first.prefix is_observable one) in
-    let there = written disk (g.met.D.Disk.counts_now is_observable) next d0 d1 d2 c.encode.result c.encode.ensures at (second.moments is_observable) (second.elsewhere is_observable) (second.written is_observable) (second.synced is_observable) in
-    let so_far = to_body disk s next d0 d1 follows (to_shut disk s next d0 d1 follows one (first.moments is_observable)) d2 at (second.moments is_observable) in
-    to_gate disk s next d0 d2 follows so_far c.write_block-2.new.device c.requires there (c.write_block-2.ensures.moments is_observable)
+    let second = c.in_ok-write_block.ensures.writes is_observable in
+    through_gate g.D.Disk (g.met.D.Disk.counts_now is_observable) s c.args.next.now c.args.device.now c.close_gate.new.device follows one
+    (first.moments is_observable) (first.closed is_observable) (first.elsewhere is_observable) (first.prefix is_observable one)
+    c.write_block.new.device c.encode.result _ second c.encode.ensures second.written second.synced
+    c.write_block-2.new.device c.requires (c.write_block-2.ensures.writes is_observable).moments

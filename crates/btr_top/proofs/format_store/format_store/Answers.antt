@@ -10,8 +10,8 @@ returns-in-Ok-clause-cause g c =
       uncalled = c.in-Ok.ensures.uncalled;
       occupied = c.in-Ok.ensures.occupied;
       refused = c.in-Ok.ensures.refused;
-      formatted = c.in-Ok.ensures.formatted;
-      synced = c.in-Ok.ensures.synced;
+      formatted = λ seen. (c.in-Ok.ensures.made seen).formatted;
+      synced = λ seen. (c.in-Ok.ensures.made seen).synced;
     }) c.in-Ok.ensures.counts.counted.all
 
 pub returns-in-Err-Occupied-clause-cause : goal.returns-in-Err-Occupied-clause-cause
@@ -21,8 +21,8 @@ returns-in-Err-Occupied-clause-cause g c =
       uncalled = c.in-Err-Occupied.ensures.uncalled;
       occupied = c.in-Err-Occupied.ensures.occupied;
       refused = c.in-Err-Occupied.ensures.refused;
-      formatted = c.in-Err-Occupied.ensures.formatted;
-      synced = c.in-Err-Occupied.ensures.synced;
+      formatted = λ seen. (c.in-Err-Occupied.ensures.made seen).formatted;
+      synced = λ seen. (c.in-Err-Occupied.ensures.made seen).synced;
     })
 
 pub returns-in-Err-TooSmall-clause-cause : goal.returns-in-Err-TooSmall-clause-cause
@@ -32,8 +32,8 @@ returns-in-Err-TooSmall-clause-cause g c =
       uncalled = c.in-Err-TooSmall.ensures.uncalled;
       occupied = c.in-Err-TooSmall.ensures.occupied;
       refused = c.in-Err-TooSmall.ensures.refused;
-      formatted = c.in-Err-TooSmall.ensures.formatted;
-      synced = c.in-Err-TooSmall.ensures.synced;
+      formatted = λ seen. (c.in-Err-TooSmall.ensures.made seen).formatted;
+      synced = λ seen. (c.in-Err-TooSmall.ensures.made seen).synced;
     })
 
 pub returns-in-Err-Fault-clause-cause : goal.returns-in-Err-Fault-clause-cause
@@ -43,6 +43,6 @@ returns-in-Err-Fault-clause-cause g c =
       uncalled = c.in-Err-Fault.ensures.uncalled;
       occupied = c.in-Err-Fault.ensures.occupied;
       refused = c.in-Err-Fault.ensures.refused;
-      formatted = c.in-Err-Fault.ensures.formatted;
-      synced = c.in-Err-Fault.ensures.synced;
+      formatted = λ seen. (c.in-Err-Fault.ensures.made seen).formatted;
+      synced = λ seen. (c.in-Err-Fault.ensures.made seen).synced;
     }) (c.in-Err-Fault.ensures.counts.cause.rose (ap Err c.in-Err-Fault.field-0-is))

@@ -242,7 +242,7 @@ returns-clause-at_rest g c is_observable h rest =
     at_rest old (c.args.extent.now ++ []) (whole c.requires.bytes) (room g a is_observable h rest) h rest c.append.new.self w.appends.kept w.appended.tail (w.written is_observable) (rests g a is_observable h rest) c.next_super-next.result (is_next g a)
     c.replace.new.device c.replace.ensures.size (c.replace.ensures.elsewhere is_observable)
     (on_ok c.replace.result done (c.replace.ensures.replaced is_observable (super_of old) (its_super g a is_observable h rest) (its_prefix g a is_observable h rest)))
-    _ (ap (λ p. log.log_device (log_in p)) back) (ap (λ p. log.log_blocks (log_in p)) back ∙ w.appends.kept.blocks) (ap (λ p. log.log_tail (log_in p)) back) refl refl (on_ok c.replace.result done (c.replace.ensures.synced is_observable))
+    _ (ap (λ p. log.log_device (log_in p)) back) (ap (λ p. log.log_blocks (log_in p)) back ∙ w.appends.kept.blocks) (ap (λ p. log.log_tail (log_in p)) back) refl refl (on_ok c.replace.result done (c.replace.ensures.stored is_observable).synced)
 
 pub returns-clause-named : goal.returns-clause-named
 returns-clause-named g c is_observable h rest =
@@ -256,7 +256,7 @@ returns-clause-named g c is_observable h rest =
     (named_in old (c.args.extent.now ++ []) (whole c.requires.bytes) (room g a is_observable h rest) h rest c.append.new.self w.appends.kept w.appended.tail (w.written is_observable) (rests g a is_observable h rest) c.next_super-next.result (is_next g a)
     c.replace.new.device c.replace.ensures.size (c.replace.ensures.elsewhere is_observable)
     (on_ok c.replace.result done (c.replace.ensures.replaced is_observable (super_of old) (its_super g a is_observable h rest) (its_prefix g a is_observable h rest)))
-    (log.log_blocks (log_in p)) (log.log_tail (log_in p)) (ap (λ q. log.log_blocks (log_in q)) back ∙ w.appends.kept.blocks) (ap (λ q. log.log_tail (log_in q)) back) (on_ok c.replace.result done (c.replace.ensures.synced is_observable)))
+    (log.log_blocks (log_in p)) (log.log_tail (log_in p)) (ap (λ q. log.log_blocks (log_in q)) back ∙ w.appends.kept.blocks) (ap (λ q. log.log_tail (log_in q)) back) (on_ok c.replace.result done (c.replace.ensures.stored is_observable).synced))
 
 pub returns-clause-moments : goal.returns-clause-moments
 returns-clause-moments g c is_observable h rest =
