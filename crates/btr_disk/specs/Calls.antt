@@ -5,16 +5,16 @@ use Rattle.btr_disk.specs.Images.{SameImages, Tears}
 use Rattle.btr_disk.specs.Moments.{Elapses}
 
 -- A read at the address. If it succeeds, the bytes are those of the device. It changes nothing on the device, whether it succeeds or fails.
-pub record Reads {D T E : Type 0} (calls : D → ℕ) (contents : D → Image) (images_now : D → Image → Type 0)
+pub record ReadsBytes {D T E : Type 0} (calls : D → ℕ) (contents : D → Image) (images_now : D → Image → Type 0)
     (images_since : D → ℕ → Image → Type 0) (address : ℕ) (buf : List ℕ) (old new : D) (result : Result T E) : Type 0 where
   pub bytes : OnOk result (Has (contents old) address buf)
   pub same : Same (contents old) (contents new)
   pub images : SameImages (images_now old) (images_now new)
   pub time : Elapses (calls old) (images_since old) (images_since new) (images_now new)
 
--- A write of the bytes at the address. If it succeeds, a read returns them. Whether it succeeds or fails, a read of all else returns the same,
--- and a crash may leave any bytes at their addresses.
-pub record Writes {D T E : Type 0} (calls : D → ℕ) (contents : D → Image) (images_now : D → Image → Type 0)
+-- A write of the bytes at the address. If it succeeds, a read returns them. Whether it succeeds or fails, a read of all else returns the
+-- same, and a crash may leave any bytes at their addresses.
+pub record WritesBytes {D T E : Type 0} (calls : D → ℕ) (contents : D → Image) (images_now : D → Image → Type 0)
     (images_since : D → ℕ → Image → Type 0) (address : ℕ) (bytes : List ℕ) (old new : D) (result : Result T E) : Type 0 where
   pub written : OnOk result (Has (contents new) address bytes)
   pub elsewhere : SameBut address (length bytes) (contents old) (contents new)

@@ -15,16 +15,16 @@ abbrev pub since_of : MemDisk → ℕ → Image → Type 0
 since_of disk = MayLeaveSince (contents_of disk.bytes.items) disk.made
 
 -- What a read returns.
-abbrev pub reads_of : MemDisk → Image
-reads_of disk = contents_of disk.bytes.items
+abbrev pub memory_contents : MemDisk → Image
+memory_contents disk = contents_of disk.bytes.items
 
 -- The number of calls that were made.
-abbrev pub calls_of : MemDisk → ℕ
-calls_of disk = call_count disk.made
+abbrev pub memory_calls : MemDisk → ℕ
+memory_calls disk = call_count disk.made
 
 -- No call was made of the device and none failed. The calls of this list will fail, and it can remember this much.
-pub record IsUnused (failing : List ℕ) (calls blocks : ℕ) (disk : MemDisk) : Type 0 where
-  pub no_calls : calls_of disk ≡ 0
+pub record IsUnusedDisk (failing : List ℕ) (calls blocks : ℕ) (disk : MemDisk) : Type 0 where
+  pub no_calls : memory_calls disk ≡ 0
   pub no_faults : disk.faults ≡ 0
   pub list : disk.failing.items ≡ failing
   pub capacity : HasCapacity calls blocks disk.made

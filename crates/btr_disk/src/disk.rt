@@ -3,7 +3,7 @@ ghost use Rattle.std.specs.Prelude.{◌≡◌, ◌*◌, ◌≤◌, ℕ, ◌++◌
 ghost use Rattle.btr_disk.specs.Bytes.{Image, Same, AreBytes, IsBlockRange};
 ghost use Rattle.btr_disk.specs.Images.{Only, SameImages};
 ghost use Rattle.btr_disk.specs.Moments.{Elapses};
-ghost use Rattle.btr_disk.specs.Calls.{Reads, Writes};
+ghost use Rattle.btr_disk.specs.Calls.{ReadsBytes, WritesBytes};
 ghost use Rattle.btr_disk.specs.Causes.{Counted, HasCause};
 
 use crate::{Parts, Supply};
@@ -58,7 +58,7 @@ pub trait Disk {
         ensures calls { Counted (calls self.old) (calls self.new) }
         ensures cause { HasCause (faults self.old) (faults self.new) result }
         ensures reads { is_observable
-            → Reads calls contents images_now images_since (4096 * first) buf.new self.old self.new result };
+            → ReadsBytes calls contents images_now images_since (4096 * first) buf.new self.old self.new result };
 
     /// Writes `bytes`, which are whole blocks inside the device, at block `first`.
     ///
@@ -70,7 +70,7 @@ pub trait Disk {
         ensures calls { Counted (calls self.old) (calls self.new) }
         ensures cause { HasCause (faults self.old) (faults self.new) result }
         ensures writes { is_observable
-            → Writes calls contents images_now images_since (4096 * first) bytes.now self.old self.new result };
+            → WritesBytes calls contents images_now images_since (4096 * first) bytes.now self.old self.new result };
 
     /// Writes `front` and then the blocks of `rest` as [`Disk::write`] does, in one call.
     fn write_parts<S: Supply>(&mut self, first: u64, front: &Parts, rest: &S) -> Result<(), Failed>
@@ -80,7 +80,7 @@ pub trait Disk {
         ensures calls { Counted (calls self.old) (calls self.new) }
         ensures cause { HasCause (faults self.old) (faults self.new) result }
         ensures writes { is_observable
-            → Writes calls contents images_now images_since (4096 * first) (front.now ++ S.bytes rest.now) self.old self.new result };
+            → WritesBytes calls contents images_now images_since (4096 * first) (front.now ++ S.bytes rest.now) self.old self.new result };
 
     /// After a sync that succeeds a crash leaves what a read returns. A sync that fails changes nothing.
     fn sync(&mut self) -> Result<(), Failed>

@@ -57,9 +57,10 @@ impl<D: Disk> Disk for FuseDisk<D> {
     ghost use Rattle.btr_disk.specs.Bytes.{IsBlockRange, Same};
     ghost use Rattle.btr_disk.specs.Images.{Only, SameImages};
     ghost use Rattle.btr_disk.specs.Moments.{Elapses};
-    ghost use Rattle.btr_disk.specs.Calls.{Reads, Writes};
+    ghost use Rattle.btr_disk.specs.Calls.{ReadsBytes, WritesBytes};
     ghost use Rattle.btr_disk.specs.Causes.{Counted, HasCause};
-    ghost use Rattle.btr_disk.specs.Fuse.{WithholdsIfSpent, CutsOffIfSpent, fuse_calls, fuse_faults, fuse_contents, fuse_images, fuse_since};
+    ghost use Rattle.btr_disk.specs.Fuse.{WithholdsIfSpent, CutsOffIfSpent};
+    ghost use Rattle.btr_disk.specs.Fuse.{fuse_calls, fuse_faults, fuse_contents, fuse_images, fuse_since};
     ghost use Rattle.btr_disk.specs.FuseLaws.{fuse_counts_now, fuse_only_now, fuse_fewer_later};
 
     ghost is_observable = { D.is_observable };
@@ -99,7 +100,7 @@ impl<D: Disk> Disk for FuseDisk<D> {
         ensures calls { Counted (fuse_calls self.old) (fuse_calls self.new) }
         ensures cause { HasCause (fuse_faults self.old) (fuse_faults self.new) result }
         ensures reads { D.is_observable
-            → Reads fuse_calls fuse_contents fuse_images fuse_since (4096 * first) buf.new self.old self.new result }
+            → ReadsBytes fuse_calls fuse_contents fuse_images fuse_since (4096 * first) buf.new self.old self.new result }
         ensures withheld { WithholdsIfSpent self.old self.new (IsErr result × (buf.new ≡ buf.old)) }
     {
         if self.left == 0 {
@@ -117,7 +118,7 @@ impl<D: Disk> Disk for FuseDisk<D> {
         ensures calls { Counted (fuse_calls self.old) (fuse_calls self.new) }
         ensures cause { HasCause (fuse_faults self.old) (fuse_faults self.new) result }
         ensures writes { D.is_observable
-            → Writes fuse_calls fuse_contents fuse_images fuse_since (4096 * first) bytes.now self.old self.new result }
+            → WritesBytes fuse_calls fuse_contents fuse_images fuse_since (4096 * first) bytes.now self.old self.new result }
         ensures cut_off { CutsOffIfSpent self.old self.new (IsErr result) }
     {
         if self.left == 0 {
@@ -136,7 +137,7 @@ impl<D: Disk> Disk for FuseDisk<D> {
         ensures calls { Counted (fuse_calls self.old) (fuse_calls self.new) }
         ensures cause { HasCause (fuse_faults self.old) (fuse_faults self.new) result }
         ensures writes { D.is_observable
-            → Writes fuse_calls fuse_contents fuse_images fuse_since (4096 * first) (front.now ++ S.bytes rest.now)
+            → WritesBytes fuse_calls fuse_contents fuse_images fuse_since (4096 * first) (front.now ++ S.bytes rest.now)
             self.old self.new result }
         ensures cut_off { CutsOffIfSpent self.old self.new (IsErr result) }
     {

@@ -48,7 +48,7 @@ impl MemDisk {
     ghost use Rattle.btr_disk.specs.Moments.{Elapses};
     ghost use Rattle.btr_disk.specs.CallRecord.{call_count};
     ghost use Rattle.btr_disk.specs.Fill.{HasFill};
-    ghost use Rattle.btr_disk.specs.Memory.{is_listed, images_of, since_of, FailsAsListed, IsUnused, RecordsWrite};
+    ghost use Rattle.btr_disk.specs.Memory.{is_listed, images_of, since_of, FailsAsListed, IsUnusedDisk, RecordsWrite};
 
     /// A device of `blocks` blocks of zeros, at most 2^32, on which no call was made.
     ///
@@ -65,7 +65,7 @@ impl MemDisk {
         ensures size { IfOk result (λ disk. ⟦<MemDisk as Disk>⟧.size disk ≡ blocks) }
         ensures zeros { IfOk result (λ disk. (k : ℕ) → ⟦<MemDisk as Disk>⟧.contents disk k ≡ 0) }
         ensures settled { IfOk result (λ disk. Only (⟦<MemDisk as Disk>⟧.contents disk) (⟦<MemDisk as Disk>⟧.images_now disk)) }
-        ensures unused { IfOk result (IsUnused failing.items capacity.calls capacity.blocks) }
+        ensures unused { IfOk result (IsUnusedDisk failing.items capacity.calls capacity.blocks) }
     {
         MemDisk::from_bytes(alloc, vec![in alloc; 0; blocks * BLOCK]?, capacity, failing)
     }
@@ -85,7 +85,7 @@ impl MemDisk {
         ensures size { IfOk result (λ disk. 4096 * ⟦<MemDisk as Disk>⟧.size disk ≡ length bytes.items) }
         ensures contents { IfOk result (λ disk. (k : ℕ) → ⟦<MemDisk as Disk>⟧.contents disk k ≡ slice_index bytes.items k) }
         ensures settled { IfOk result (λ disk. Only (⟦<MemDisk as Disk>⟧.contents disk) (⟦<MemDisk as Disk>⟧.images_now disk)) }
-        ensures unused { IfOk result (IsUnused failing.items capacity.calls capacity.blocks) }
+        ensures unused { IfOk result (IsUnusedDisk failing.items capacity.calls capacity.blocks) }
     {
         let blocks = bytes.len() / BLOCK;
         Ok(MemDisk {
@@ -109,7 +109,7 @@ impl MemDisk {
         ensures fill { IfOk result (λ image. HasFill fill (⟦<MemDisk as Disk>⟧.contents self.now) self.now.made
             (length self.now.bytes.items) (⟦<MemDisk as Disk>⟧.contents image)) }
         ensures settled { IfOk result (λ image. Only (⟦<MemDisk as Disk>⟧.contents image) (⟦<MemDisk as Disk>⟧.images_now image)) }
-        ensures unused { IfOk result (IsUnused [] self.now.made.capacity.calls self.now.made.capacity.blocks) }
+        ensures unused { IfOk result (IsUnusedDisk [] self.now.made.capacity.calls self.now.made.capacity.blocks) }
     {
         let bytes = self.filled(alloc, fill)?;
         MemDisk::from_bytes(alloc, bytes, self.made.capacity(), Vec::new(alloc))
@@ -236,23 +236,23 @@ impl Disk for MemDisk {
     ghost use Rattle.btr_disk.specs.Bytes.{IsBlockRange, Same};
     ghost use Rattle.btr_disk.specs.Images.{Only, SameImages};
     ghost use Rattle.btr_disk.specs.Moments.{Elapses};
-    ghost use Rattle.btr_disk.specs.Calls.{Reads, Writes};
+    ghost use Rattle.btr_disk.specs.Calls.{ReadsBytes, WritesBytes};
     ghost use Rattle.btr_disk.specs.Causes.{Counted, HasCause};
     ghost use Rattle.btr_disk.specs.CallRecord.{newest_first};
-    ghost use Rattle.btr_disk.specs.Memory.{calls_of, reads_of, images_of, since_of, FailsAsListed};
+    ghost use Rattle.btr_disk.specs.Memory.{memory_calls, memory_contents, images_of, since_of, FailsAsListed};
     ghost use Rattle.btr_disk.specs.RecordLaws.{counts_now_of, only_now_of, fewer_later_of};
 
     ghost is_observable = { Unit {0} };
 
     ghost size = { λ disk. length disk.bytes.items / 4096 };
 
-    ghost contents = { λ disk. reads_of disk };
+    ghost contents = { λ disk. memory_contents disk };
 
     ghost images_now = { λ disk. images_of disk };
 
     ghost images_since = { λ disk. since_of disk };
 
-    ghost calls = { λ disk. calls_of disk };
+    ghost calls = { λ disk. memory_calls disk };
 
     ghost faults = { λ disk. disk.faults };
 
@@ -260,11 +260,11 @@ impl Disk for MemDisk {
 
     ghost reads_as_image = { λ _ disk. record { bytes = disk.are_bytes; synced = λ k no whole. refl } };
 
-    ghost counts_now = { λ _ disk t c le left. counts_now_of (reads_of disk) disk.made t c left };
+    ghost counts_now = { λ _ disk t c le left. counts_now_of (memory_contents disk) disk.made t c left };
 
-    ghost only_now = { λ _ disk c left. only_now_of (reads_of disk) disk.made c left };
+    ghost only_now = { λ _ disk c left. only_now_of (memory_contents disk) disk.made c left };
 
-    ghost fewer_later = { λ _ disk s t c earlier le left. fewer_later_of (reads_of disk) disk.made s t c earlier left };
+    ghost fewer_later = { λ _ disk s t c earlier le left. fewer_later_of (memory_contents disk) disk.made s t c earlier left };
 
     fn blocks(&self) -> u64 {
         (self.bytes.len() / BLOCK) as u64
@@ -274,10 +274,10 @@ impl Disk for MemDisk {
     fn read(&mut self, first: u64, buf: &mut [u8]) -> Result<(), Failed>
         requires { IsBlockRange (length self.old.bytes.items / 4096) first (length buf.old) }
         ensures size { length self.new.bytes.items / 4096 ≡ length self.old.bytes.items / 4096 }
-        ensures calls { Counted (calls_of self.old) (calls_of self.new) }
+        ensures calls { Counted (memory_calls self.old) (memory_calls self.new) }
         ensures cause { HasCause self.old.faults self.new.faults result }
         ensures fails { FailsAsListed 0 self.old self.new (IsErr result) }
-        ensures reads { Reads calls_of reads_of images_of since_of (4096 * first) buf.new self.old self.new result }
+        ensures reads { ReadsBytes memory_calls memory_contents images_of since_of (4096 * first) buf.new self.old self.new result }
     {
         let at = BLOCK * first as usize;
         let fails = self.fails_now();
@@ -295,10 +295,10 @@ impl Disk for MemDisk {
     fn write(&mut self, first: u64, bytes: &[u8]) -> Result<(), Failed>
         requires { IsBlockRange (length self.old.bytes.items / 4096) first (length bytes.now) }
         ensures size { length self.new.bytes.items / 4096 ≡ length self.old.bytes.items / 4096 }
-        ensures calls { Counted (calls_of self.old) (calls_of self.new) }
+        ensures calls { Counted (memory_calls self.old) (memory_calls self.new) }
         ensures cause { HasCause self.old.faults self.new.faults result }
         ensures fails { FailsAsListed (length bytes.now) self.old self.new (IsErr result) }
-        ensures writes { Writes calls_of reads_of images_of since_of (4096 * first) bytes.now self.old self.new result }
+        ensures writes { WritesBytes memory_calls memory_contents images_of since_of (4096 * first) bytes.now self.old self.new result }
     {
         self.begin_write(first, bytes.len())?;
         overwrite(&mut self.bytes, BLOCK * first as usize, bytes);
@@ -310,10 +310,10 @@ impl Disk for MemDisk {
         requires able { S.can_work }
         requires range { IsBlockRange (length self.old.bytes.items / 4096) first (length (front.now ++ S.bytes rest.now)) }
         ensures size { length self.new.bytes.items / 4096 ≡ length self.old.bytes.items / 4096 }
-        ensures calls { Counted (calls_of self.old) (calls_of self.new) }
+        ensures calls { Counted (memory_calls self.old) (memory_calls self.new) }
         ensures cause { HasCause self.old.faults self.new.faults result }
         ensures fails { FailsAsListed (length (front.now ++ S.bytes rest.now)) self.old self.new (IsErr result) }
-        ensures writes { Writes calls_of reads_of images_of since_of
+        ensures writes { WritesBytes memory_calls memory_contents images_of since_of
             (4096 * first) (front.now ++ S.bytes rest.now) self.old self.new result }
     {
         let at = BLOCK * first as usize;
@@ -326,13 +326,13 @@ impl Disk for MemDisk {
     /// The clauses of the trait, and one more: which calls fail, and that this list and the capacity stay.
     fn sync(&mut self) -> Result<(), Failed>
         ensures size { length self.new.bytes.items / 4096 ≡ length self.old.bytes.items / 4096 }
-        ensures calls { Counted (calls_of self.old) (calls_of self.new) }
+        ensures calls { Counted (memory_calls self.old) (memory_calls self.new) }
         ensures cause { HasCause self.old.faults self.new.faults result }
         ensures fails { FailsAsListed 0 self.old self.new (IsErr result) }
-        ensures contents { Same (reads_of self.old) (reads_of self.new) }
-        ensures synced { OnOk result (Only (reads_of self.new) (images_of self.new)) }
+        ensures contents { Same (memory_contents self.old) (memory_contents self.new) }
+        ensures synced { OnOk result (Only (memory_contents self.new) (images_of self.new)) }
         ensures unsynced { OnErr result (SameImages (images_of self.old) (images_of self.new)) }
-        ensures time { Elapses (calls_of self.old) (since_of self.old) (since_of self.new) (images_of self.new) }
+        ensures time { Elapses (memory_calls self.old) (since_of self.old) (since_of self.new) (images_of self.new) }
     {
         if self.fails_now() {
             self.made.note(Call::Nothing, &[]);

@@ -14,7 +14,7 @@ pub record TellsStart (blocks gate count : ℕ) : Type 0 where
   pub inside : gate + count ≤ blocks
 
 -- The piece holds the `count` blocks from the gate on, and this is what they say.
-pub record HoldsStart (blocks gate count : ℕ) (piece : PieceValue) (found : Option Head) : Type 0 where
+pub record HoldsGateBlocks (blocks gate count : ℕ) (piece : PieceValue) (found : Option Head) : Type 0 where
   pub held : HoldsBlocks piece gate count
   pub start : StartSays blocks gate (bytes_at piece gate (min 2 (blocks - gate))) found
 

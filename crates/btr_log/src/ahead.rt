@@ -4,7 +4,7 @@ ghost use Rattle.btr_disk.specs.Moments.{WroteNothing};
 ghost use Rattle.btr_log.specs.Log.{log_device, log_blocks, FitsDevice, KeepsLog, LogReads};
 ghost use Rattle.btr_log.specs.Found.{FindCause, ExtentCause};
 ghost use Rattle.btr_log.specs.Piece.{IsPieceOf, HoldsBlocks, ReadsPiece};
-ghost use Rattle.btr_log.specs.Ahead.{TellsStart, HoldsStart, IsFoundAhead, ReadsAhead};
+ghost use Rattle.btr_log.specs.Ahead.{TellsStart, HoldsGateBlocks, IsFoundAhead, ReadsAhead};
 
 use crate::read::{start_blocks, start_of};
 use crate::{ExtentFault, Head, Log, Piece};
@@ -70,7 +70,7 @@ fn hold_start<D: Disk>(
     ensures reads { ReadsPiece D.size D.calls D.faults (HoldsBlocks piece.old gate count) piece.old piece.new disk.old disk.new }
     ensures unwritten { D.is_observable → WroteNothing D.calls D.contents D.images_now D.images_since disk.old disk.new }
     ensures piece { D.is_observable → IsPieceOf (D.contents disk.new) piece.new }
-    ensures found { IfOk result (HoldsStart blocks gate count piece.new) }
+    ensures found { IfOk result (HoldsGateBlocks blocks gate count piece.new) }
     ensures cause { IfErr result (FindCause D.is_observable (D.contents disk.old) blocks gate (D.faults disk.old) (D.faults disk.new)) }
 {
     piece.hold(disk, blocks, gate, count)?;

@@ -2,7 +2,7 @@ use Rattle.std.specs.Prelude.{ℕ, ◌+◌, ◌*◌, ◌<◌, ◌≤◌, List, �
 use Rattle.std.proofs.Common.{rules, arith, inl}
 use Rattle.btr_disk.specs.declared.disk.Disk.{Ghosts}
 use Rattle.btr_disk.specs.Bytes.{Image, Has, Same, SameBut, IsOutside}
-use Rattle.btr_disk.specs.Calls.{Writes}
+use Rattle.btr_disk.specs.Calls.{WritesBytes}
 use Rattle.btr_disk.specs.Causes.{Counted}
 use Rattle.btr_disk.specs.Images.{Only, SameImages, Torn}
 use Rattle.btr_disk.specs.Moments.{Elapses, Leaves}
@@ -28,7 +28,7 @@ module _ {D : Type 0} (disk : Ghosts D) (d0 : D) (a : ℕ) (body : List ℕ) (p 
       goes_on disk.calls disk.images_since d0 mid new (IsBeforeOrHasBody (disk.contents d0) a body p) (disk.images_now new) so_far step.counted step.time here
 
   -- the body's write, whether it succeeded or failed
-  module _ (d1 : D) {T E : Type 0} (result : Result T E) (now : (x : Image) → disk.images_since d0 (disk.calls d0) x → disk.images_now d0 x) (counted : Counted (disk.calls d0) (disk.calls d1)) (wrote : Writes disk.calls disk.contents disk.images_now disk.images_since a body d0 d1 result) (settled : Only (disk.contents d0) (disk.images_now d0)) where
+  module _ (d1 : D) {T E : Type 0} (result : Result T E) (now : (x : Image) → disk.images_since d0 (disk.calls d0) x → disk.images_now d0 x) (counted : Counted (disk.calls d0) (disk.calls d1)) (wrote : WritesBytes disk.calls disk.contents disk.images_now disk.images_since a body d0 d1 result) (settled : Only (disk.contents d0) (disk.images_now d0)) where
     torn_first : (x : Image) → disk.images_now d1 x → IsBeforeOrHasBody (disk.contents d0) a body p x
     torn_first = body_torn (disk.contents d0) a body p (disk.images_now d0) (disk.images_now d1) settled wrote.images.torn
 
