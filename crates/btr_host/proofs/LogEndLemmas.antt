@@ -1,5 +1,5 @@
 -- Lemmas on the last gate of a log.
-use Rattle.std.specs.Prelude.{◌≡◌, ℕ, ◌+◌, ◌*◌, ◌<◌, ◌≤◌, List, [], ◌∷◌, ◌++◌, length, take, drop}
+use Rattle.std.specs.Prelude.{◌≡◌, ℕ, ◌+◌, ◌*◌, ◌<◌, ◌≤◌, ◌⊎◌, List, [], ◌∷◌, ◌++◌, length, take, drop}
 use Rattle.std.proofs.Common.{refl, sym, ◌∙◌, ap, subst, inl, inr, arith, length-drop}
 use Rattle.std.proofs.lemmas.List.{length-take-le, take-append-drop}
 use Rattle.btr_disk.specs.Bytes.{Image, Has, Same}
@@ -13,7 +13,13 @@ use Rattle.btr_log.specs.Head.{head_bytes, Spells, IsNoHead}
 use Rattle.btr_log.specs.Found.{SpellsAt}
 use Rattle.btr_log.proofs.HeadLemmas.{length-head_bytes, head_bytes-one}
 use Rattle.btr_disk.proofs.MomentLemmas.{nothing_composes}
-use Rattle.btr_host.specs.LogEnd.{Leads, LeadsNowhere, LeadsAlong, LeadsSoFar, IsLastGate}
+use Rattle.btr_host.specs.LogEnd.{Leads, LeadsNowhere, LeadsAlong, IsLastGate}
+
+-- So far the gates lead from `start` to `last`, and this leads to `gate`; or both are `start`.
+pub record LeadsSoFar (image : Image) (start last gate : ℕ) : Type 0 where
+  pub path : List ℕ
+  pub along : LeadsAlong image start path last
+  pub to_gate : ((path ≡ []) × (last ≡ gate)) ⊎ Leads image last gate
 
 -- one gate more
 pub LeadsAlong-push : (image : Image) (start : ℕ) (path : List ℕ) (last gate : ℕ) → LeadsAlong image start path last → Leads image last gate → LeadsAlong image start (path ++ gate ∷ []) gate
@@ -135,5 +141,6 @@ module _ {D : Type 0} (disk : Ghosts D) (start blocks : ℕ) (old mid new : D) (
     along = (walked.leads seen).along;
     end = gate;
     to_end = (walked.leads seen).to_gate;
+    inside = walked.gate_inside;
     ends = λ next inside leads. nowhere next inside (Leads-Same (disk.contents old) (disk.contents mid) gate next (walked.unwritten seen).same leads);
   }

@@ -1,1 +1,2 @@
 pub mod LogEnd
+pub mod Renewed

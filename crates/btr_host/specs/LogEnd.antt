@@ -29,23 +29,16 @@ LeadsAlong image start [] gate = start ≡ gate
 LeadsAlong image start (next ∷ rest) gate = Leads image start next × LeadsAlong image next rest gate
 
 -- The gates of a log of `blocks` blocks from `start` on lead to this one, and no other extent is after that of this one: the gate to
--- which it leads, if any, leads nowhere. It is `start` if that leads nowhere.
+-- which it leads, if any, is one of the first `blocks` blocks and leads nowhere. It is `start` if that leads nowhere.
 pub record IsLastGate (image : Image) (blocks start gate : ℕ) : Type 0 where
   pub path : List ℕ
   pub along : LeadsAlong image start path gate
   pub end : ℕ
   pub to_end : ((path ≡ []) × (gate ≡ end)) ⊎ Leads image gate end
+  pub inside : end < blocks
   pub ends : LeadsNowhere image blocks end
 
 -- The gate is the last one of the log that the superblock of the device names. There is none if no superblock counts.
 abbrev pub IsLastGateOf : ℕ → Image → Option ℕ → Type 0
 IsLastGateOf size image None = (s : Super) → IsChosen size image s → ⊥
 IsLastGateOf size image (Some gate) = (s : Super) × IsChosen size image s × IsLastGate image s.blocks s.tail gate
-
--- ---- private promises
-
--- So far the gates lead from `start` to `last`, and this leads to `gate`; or both are `start`.
-pub record LeadsSoFar (image : Image) (start last gate : ℕ) : Type 0 where
-  pub path : List ℕ
-  pub along : LeadsAlong image start path last
-  pub to_gate : ((path ≡ []) × (last ≡ gate)) ⊎ Leads image last gate

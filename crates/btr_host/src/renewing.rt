@@ -2,6 +2,7 @@
 ghost use Rattle.std.specs.Prelude.{◌≡◌, ◌*◌, ◌<◌, OnOk};
 ghost use Rattle.btr_disk.specs.Bytes.{Same};
 ghost use Rattle.btr_disk.specs.Causes.{HasCause, KeepsCounts};
+ghost use Rattle.btr_host.specs.Renewed.{Renews, RenewsBlock};
 
 use crate::log_end::last_gate;
 use btr_disk::{BLOCK, Disk, Failed, is_open_gate};
@@ -18,6 +19,8 @@ use btr_disk::{BLOCK, Disk, Failed, is_open_gate};
 pub fn renew_gates<D: Disk>(disk: &mut D) -> Result<(), Failed>
     ensures counts { KeepsCounts D.size D.calls D.faults disk.old disk.new }
     ensures same { D.is_observable → OnOk result (Same (D.contents disk.old) (D.contents disk.new)) }
+    ensures renewed { D.is_observable
+        → OnOk result (Renews (D.size disk.old) (D.contents disk.old) (D.images_now disk.old) (D.images_now disk.new)) }
     ensures cause { HasCause (D.faults disk.old) (D.faults disk.new) result }
 {
     let Some(gate) = last_gate(disk)? else {
@@ -33,6 +36,8 @@ fn renew<D: Disk>(disk: &mut D, block: u64, also_closed: bool) -> Result<(), Fai
     requires { block < D.size disk.old }
     ensures counts { KeepsCounts D.size D.calls D.faults disk.old disk.new }
     ensures same { D.is_observable → OnOk result (Same (D.contents disk.old) (D.contents disk.new)) }
+    ensures images { D.is_observable
+        → OnOk result (RenewsBlock also_closed block (D.contents disk.old) (D.images_now disk.old) (D.images_now disk.new)) }
     ensures cause { HasCause (D.faults disk.old) (D.faults disk.new) result }
 {
     let mut bytes = [0; BLOCK];
