@@ -1,5 +1,5 @@
 -- Lemmas on blocks that are written anew with the bytes that they have.
-use Rattle.std.specs.Prelude.{◌≡◌, ℕ, ◌+◌, ◌-◌, ◌*◌, ◌<◌, List, [], ◌∷◌, length, take, true, false, Some, Result, Ok, Err, OnOk}
+use Rattle.std.specs.Prelude.{◌≡◌, ℕ, ◌+◌, ◌-◌, ◌*◌, ◌<◌, List, [], ◌∷◌, ◌++◌, length, take, true, false, Some, Result, Ok, Err, OnOk, OnErr}
 use Rattle.std.proofs.Common.{refl, sym, ◌∙◌, subst, inl, inr, arith}
 use Rattle.std.proofs.lemmas.Bool.{cases_lt}
 use Rattle.std.proofs.lemmas.List.{length-take-le}
@@ -8,7 +8,7 @@ use Rattle.btr_disk.specs.Images.{SameImages, Tears}
 use Rattle.btr_disk.specs.Gate.{mark, IsOpen, IsClosed}
 use Rattle.btr_disk.proofs.ByteLemmas.{Has-at, Has-one, Has-take, Same-is, SameBut-at, SameBut-patched, AreBytes-patched, patched, patched-inside, cases_range}
 use Rattle.btr_host.specs.LogEnd.{IsLastGateOf}
-use Rattle.btr_host.specs.Renewed.{TearsBlocks, RenewsBlock, Renews}
+use Rattle.btr_host.specs.Renewed.{IsInNone, TearsBlocks, RenewsBlock, Renews, TearsAtMost}
 
 -- both images have the same bytes in the block, and agree elsewhere
 pub Same-written : (old new : Image) (address : ℕ) (bytes : List ℕ) → Has old address bytes → Has new address bytes → SameBut address (length bytes) old new → Same old new
@@ -103,3 +103,30 @@ Renews-all size image gate old first second new old_bytes first_bytes second_byt
         (TearsBlocks-none second new left.2)),
   );
 }
+
+-- ---- after a failure
+
+-- nothing was written
+pub AtMost-none : (blocks : List ℕ) (was is : Image) (old new : Image → Type 0) → Same was is → SameImages old new → TearsAtMost blocks was is old new
+AtMost-none blocks was is old new same images = record {
+  elsewhere = λ k out. same k;
+  torn = λ c left. (c, images.none_new c left, λ k out. refl);
+}
+
+none_append : (xs ys : List ℕ) (k : ℕ) → IsInNone (xs ++ ys) k → IsInNone xs k × IsInNone ys k
+none_append [] ys k out = (tt, out)
+none_append (x ∷ xs) ys k out = let rest = none_append xs ys k out.1 in ((out.0, rest.0), rest.1)
+
+-- some blocks, and then others
+pub AtMost-then : (xs ys : List ℕ) (was mid is : Image) (old between new : Image → Type 0) → TearsAtMost xs was mid old between → TearsAtMost ys mid is between new → TearsAtMost (xs ++ ys) was is old new
+AtMost-then xs ys was mid is old between new first second = record {
+  elsewhere = λ k out. let parts = none_append xs ys k out in second.elsewhere k parts.1 ∙ first.elsewhere k parts.0;
+  torn = λ c left.
+      let from = second.torn c left in
+      let before = first.torn from.0 from.1 in
+      (before.0, before.1, λ k out. let parts = none_append xs ys k out in from.2 k parts.1 ∙ before.2 k parts.0);
+}
+
+pub on_err : {T E : Type 0} (r : Result T E) (P : Type 0) → P → OnErr r P
+on_err (Ok v) P p = tt
+on_err (Err e) P p = p

@@ -40,3 +40,17 @@ pub record Renews (size : ℕ) (image : Image) (old new : Image → Type 0) : Ty
   pub gate : Option ℕ
   pub last : IsLastGateOf size image gate
   pub renewed : RenewsFound image gate old new
+
+-- ---- after a failure
+
+-- What a read returns is as before but in these blocks, and each new image is an old one but for bytes there.
+pub record TearsAtMost (blocks : List ℕ) (was is : Image) (old new : Image → Type 0) : Type 0 where
+  pub elsewhere : SameButBlocks blocks was is
+  pub torn : (c : Image) → new c → (d : Image) × old d × SameButBlocks blocks d c
+
+-- Of the gates on which all else depends some may have been written, and nothing else was. The device is one of `size` blocks that read as
+-- `was`.
+abbrev pub RenewsInPart : ℕ → Image → Image → (Image → Type 0) → (Image → Type 0) → Type 0
+RenewsInPart size was is old new =
+    TearsAtMost [] was is old new
+    ⊎ ((gate : ℕ) × IsLastGateOf size was (Some gate) × TearsAtMost (0 ∷ 2 ∷ gate ∷ []) was is old new)
