@@ -42,5 +42,5 @@ pub use decoding::decode;
 pub use encoding::{append_entry, append_front, append_points, spelling_length};
 pub use fields::{put_byte, put_id, put_u32, put_u64, read_id, read_u32, read_u64};
 pub use laws::one_spelling;
-pub use reads_bytes::{put_reads, read_reads};
-pub use spec_bytes::{put_spec, read_spec};
+pub use reads_bytes::{put_reads, read_reads, reads_length};
+pub use spec_bytes::{put_spec, read_spec, spec_length};

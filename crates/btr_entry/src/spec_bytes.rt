@@ -25,7 +25,15 @@ fn kernel_length(kernel: Kernel) -> u64
 {
     match kernel {
         Kernel::Affine { .. } => 25,
-        _ => 1,
+        Kernel::Sum
+        | Kernel::Mean
+        | Kernel::Least
+        | Kernel::Greatest
+        | Kernel::Count
+        | Kernel::Delta
+        | Kernel::Minus
+        | Kernel::Angle
+        | Kernel::Hold => 1,
     }
 }
 

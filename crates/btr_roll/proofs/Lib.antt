@@ -1,1 +1,2 @@
 pub mod RollLemmas
+mod LengthLemmas

@@ -13,10 +13,13 @@ mod roll;
 // the streams one by one
 mod reading;
 mod writing;
+// how many bytes they have
+mod lengths;
 // which rolls a checkpoint can have
 mod table;
 // what holds of all bytes of rolls
 mod laws;
 
 pub use laws::one_roll;
+pub use lengths::{kind_length, streams_length, versions_length};
 pub use roll::{Roll, RollStream, RollVersion, decode_roll, encode_roll};
