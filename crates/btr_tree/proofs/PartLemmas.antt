@@ -305,6 +305,12 @@ counted-reported a m reported n e f =
     let same = length-map reported bare in
     omega arith
 
+-- After the first part, the second has blocks enough from the next free block on.
+pub later-room : (span : SpanValue) (first n front back : ℕ) → IsSpan span → n ≤ span.height * front → first + 11 * (front + back) ≤ 2 ^ 62 → first + n + 11 * back ≤ 2 ^ 62
+later-room span first n front back aligned few room =
+    let most : span.height * front ≤ 10 * front = mul-le-mul_right front aligned.1.height in
+    omega arith
+
 -- ---- one slot
 
 sub-add_one : (n : ℕ) → 1 ≤ n → n - 1 + 1 ≡ n

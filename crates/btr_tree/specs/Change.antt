@@ -1,20 +1,24 @@
 -- What the private functions that apply a commit promise, and the premises that their clauses share.
 use Rattle.std.specs.Prelude.{◌≡◌, ℕ, zero, suc, ◌+◌, ◌<◌, ◌≤◌, ◌^◌, ℤ, pos, ◌+ℤ◌}
-use Rattle.std.specs.Prelude.{◌≤ℤ◌, ◌<ℤ◌, Bool, true, not, ◌||◌, List, length, slice_get, Option, MatchOption, min, ◌-◌}
+use Rattle.std.specs.Prelude.{◌≤ℤ◌, ◌<ℤ◌, Bool, true, not, ◌||◌, List, ◌++◌, length, slice_get, Option, MatchOption, min, ◌-◌}
 use Rattle.btr_base.specs.declared.point.Point.{Point}
-use Rattle.btr_base.specs.Range.{RangeValue, covered}
+use Rattle.btr_base.specs.Bag.{IsInOrder, within}
+use Rattle.btr_base.specs.Range.{RangeValue, IsCut, covered}
 use Rattle.btr_base.specs.Span.{width, SpanValue}
 use Rattle.btr_base.specs.declared.limits.TheConstants.{LEAF_POINTS}
+use Rattle.btr_tree.specs.declared.commit.OldSlot.{OldSlot}
+use Rattle.btr_tree.specs.declared.commit.SpanCommit.{SpanCommit}
 use Rattle.btr_tree.specs.declared.node.NodeData.{NodeData, out-NodeData}
 use Rattle.btr_tree.specs.declared.node.Slot.{Slot}
 use Rattle.btr_tree.specs.declared.slots.Slots.{Slots}
-use Rattle.btr_tree.specs.History.{Commit, Past, ◌▷◌, bag}
+use Rattle.btr_tree.specs.History.{Commit, Past, ◌▷◌, bag, IsBefore}
 use Rattle.btr_tree.specs.Nodes.{points_of, touches, is_node, is_inner, last_change}
 use Rattle.btr_base.specs.Agg.{agg, AggValue, no_points, joined}
-use Rattle.btr_tree.specs.NewNodes.{NewNodeValue, concat_first, new_nodes}
+use Rattle.btr_tree.specs.NewNodes.{NewNodeValue, bare_all, concat_first, new_nodes}
 use Rattle.btr_tree.specs.EachHistory.{points_in}
 use Rattle.btr_tree.specs.Shape.{slot_start, ByKind, IsChild, HasSlots, HasChildren}
-use Rattle.btr_tree.specs.Slots.{slot_in, AreSameSlots}
+use Rattle.btr_tree.specs.Slots.{slot_in, node_of, AreSameSlots}
+use Rattle.btr_tree.specs.Stored.{Store, IsBelow, IsLaid, AreBelow}
 
 -- The end of a span.
 abbrev pub end_of : SpanValue → ℤ
@@ -105,7 +109,29 @@ pub record IsApplied (below : ℕ) (span : SpanValue) (h : Past) (c : Commit) (c
   pub each : HasChildren below span.start h slots
   pub change : IsChange (suc below) span.start c cut added version
 
+-- Points of a span, for which nodes can be built from a block on.
+pub record CanBuild (span : SpanValue) (points : List Point) (block : ℕ) : Type 0 where
+  pub order : IsInOrder points
+  pub inside : within span.start (end_of span) points ≡ points
+  pub first : (1 ≤ block) × (block ≤ 2 ^ 62)
+
+-- The part of a commit in a span, which can be applied to the span.
+pub record CanApply (span : SpanValue) (commit : SpanCommit) : Type 0 where
+  pub cut : IsCut commit.cut.now
+  pub order : IsInOrder commit.added.now
+  pub inside : within span.start (end_of span) commit.added.now ≡ commit.added.now
+  pub first : (1 ≤ commit.numbering.first) × (commit.numbering.first ≤ 2 ^ 33)
+
+-- The slot of a span after a commit. If the slot before was that of the history, then this one is that of the history and the commit.
+pub record IsNewSlot (span : SpanValue) (was new : Slot) (above : List Point → Bool) (h : Past) (c : Commit) : Type 0 where
+  pub agg : new.agg ≡ agg (points_in span (bag (c ▷ h)))
+  pub is : was ≡ slot_at above span.height span.start h → new ≡ slot_at above span.height span.start (c ▷ h)
+
 -- ---- premises that the clauses of the walk share
+
+-- Whether a commit changes the points of a span.
+abbrev pub is_touched : SpanValue → Past → Commit → Bool
+is_touched span h c = touches c span.height span.start (bag h)
 
 -- P holds for each history and commit after which the span has these points.
 abbrev pub AtEachFresh : SpanValue → ℕ → List Point → ((List Point → Bool) → Past → Commit → Type 0) → Type 0
@@ -120,34 +146,75 @@ AtEachSplit span version points P =
     (below : ℕ) (h : Past) (c : Commit) → IsSplit below span h c version points → P below h c
 
 -- P holds for each history that the child belongs to, and each commit with this part in the span.
-abbrev pub AtEachCommit : SpanValue → Option NodeData → List RangeValue → List Point → ℕ
-    → ((List Point → Bool) → Past → Commit → Type 0) → Type 0
-AtEachCommit span child cut added version P =
+abbrev pub AtEachCommit : SpanValue → Option NodeData → SpanCommit → ((List Point → Bool) → Past → Commit → Type 0) → Type 0
+AtEachCommit span child part P =
     (above : List Point → Bool) (h : Past) (c : Commit)
     → IsChild span.height span.start above h child
-    → IsChange span.height span.start c cut added version
+    → IsChange span.height span.start c part.cut.now part.added.now part.numbering.version
     → P above h c
 
+-- P holds for each history that the child belongs to, and each commit with this part in the span that changes points there.
+abbrev pub AtEachTouch : SpanValue → Option NodeData → SpanCommit → ((List Point → Bool) → Past → Commit → Type 0) → Type 0
+AtEachTouch span child part P = AtEachCommit span child part (λ above h c. is_touched span h c ≡ true → P above h c)
+
 -- P holds for each history that the slot belongs to, below an inner node, and each commit with this part in the span.
-abbrev pub AtEachSlotCommit : SpanValue → Slot → Option NodeData → List RangeValue → List Point → ℕ
-    → ((List Point → Bool) → Past → Commit → Type 0) → Type 0
-AtEachSlotCommit span slot child cut added version P =
+abbrev pub AtEachSlotCommit : SpanValue → OldSlot → SpanCommit → ((List Point → Bool) → Past → Commit → Type 0) → Type 0
+AtEachSlotCommit span was part P =
     (above : List Point → Bool) (h : Past) (c : Commit)
     → above (bag h) ≡ true
-    → IsChild span.height span.start above h child
-    → slot.agg ≡ agg (points_in span (bag h))
-    → IsChange span.height span.start c cut added version
+    → IsChild span.height span.start above h (node_of was.child)
+    → was.slot.agg ≡ agg (points_in span (bag h))
+    → IsChange span.height span.start c part.cut.now part.added.now part.numbering.version
     → P above h c
 
 -- P holds for each history that the inner node belongs to, and each commit with this part in the span.
-abbrev pub AtEachInnerCommit : SpanValue → Slots → List RangeValue → List Point → ℕ
-    → (ℕ → Past → Commit → Type 0) → Type 0
-AtEachInnerCommit span slots cut added version P =
+abbrev pub AtEachInnerCommit : SpanValue → Slots → SpanCommit → (ℕ → Past → Commit → Type 0) → Type 0
+AtEachInnerCommit span slots part P =
     (below : ℕ) (h : Past) (c : Commit)
-    → IsApplied below span h c cut added version slots
+    → IsApplied below span h c part.cut.now part.added.now part.numbering.version slots
     → P below h c
+
+-- P holds for each history that the inner node belongs to, and each commit with this part in the span that changes points there.
+abbrev pub AtEachInnerTouch : SpanValue → Slots → SpanCommit → ((List Point → Bool) → Past → Commit → Type 0) → Type 0
+AtEachInnerTouch span slots part P = AtEachInnerCommit span slots part (λ below h c.
+    (above : List Point → Bool) → is_touched span h c ≡ true → P above h c)
+
+-- P holds for each store that has the children of the 64 slots of a span below a block.
+abbrev pub AtEachStore : SpanValue → ℕ → Slots → (Store → ℕ → Type 0) → Type 0
+AtEachStore span first slots P =
+    (store : Store) (below : ℕ) → span.height ≡ suc below → AreBelow store first below span.start slots → P store below
+
+-- ---- what is appended
 
 -- The nodes that a commit writes below an inner node.
 abbrev pub new_below : ℕ → ℤ → Past → ℕ → List NewNodeValue
 new_below below start h version =
     concat_first 64 (λ i. new_nodes below (slot_start below start i) (is_inner (suc below) start) h version)
+
+-- The nodes that the commit writes in the span were appended, if its version is above those of all commits before.
+abbrev pub AppendsNew : SpanValue → SpanCommit → List NewNodeValue → List NewNodeValue → (List Point → Bool) → Past → Commit → Type 0
+AppendsNew span part old new above h c =
+    above (bag (c ▷ h)) ≡ true → 0 < part.numbering.version → IsBefore part.numbering.version h
+    → bare_all new ≡ bare_all old ++ new_nodes span.height span.start above (c ▷ h) part.numbering.version
+
+-- The nodes that the commit writes below an inner node were appended, if its version is above those of all commits before.
+abbrev pub AppendsBelow : SpanValue → SpanCommit → List NewNodeValue → List NewNodeValue → ℕ → Past → Commit → Type 0
+AppendsBelow span part old new below h c =
+    LEAF_POINTS < length (points_of (suc below) span.start (bag (c ▷ h))) → 0 < part.numbering.version
+    → IsBefore part.numbering.version h
+    → bare_all new ≡ bare_all old ++ new_below below span.start (c ▷ h) part.numbering.version
+
+-- The nodes of a span whose points are new were appended.
+abbrev pub AppendsFresh : SpanValue → ℕ → List Point → List NewNodeValue → List NewNodeValue → Type 0
+AppendsFresh span version points old new = AtEachFresh span version points (λ above h c. above (bag (c ▷ h)) ≡ true
+    → bare_all new ≡ bare_all old ++ new_nodes span.height span.start above (c ▷ h) version)
+
+-- The nodes below a new inner node were appended.
+abbrev pub AppendsSplit : SpanValue → ℕ → List Point → List NewNodeValue → List NewNodeValue → Type 0
+AppendsSplit span version points old new = AtEachSplit span version points (λ below h c. LEAF_POINTS < length points
+    → bare_all new ≡ bare_all old ++ new_below below span.start (c ▷ h) version)
+
+-- In each store that has the old child below a block, the new child is stored once these nodes are laid.
+abbrev pub KeepsStored : SpanValue → ℕ → List NewNodeValue → Option NodeData → Option NodeData → Type 0
+KeepsStored span first nodes old new =
+    (store : Store) → IsBelow store first span.height span.start old → IsLaid store first nodes span.height span.start new

@@ -7,6 +7,9 @@ use Rattle.btr_base.specs.declared.limits.TheConstants.{LEAF_POINTS}
 use Rattle.btr_tree.specs.declared.fault.TreeFault.{TreeFault}
 use Rattle.btr_tree.specs.declared.node.NodeData.{NodeData}
 use Rattle.btr_tree.specs.declared.slots.Slots.{Slots}
+use Rattle.btr_tree.specs.declared.work.Halves.{Halves}
+use Rattle.btr_tree.specs.declared.work.PartWork.{PartWork}
+use Rattle.btr_tree.specs.declared.work.Work.{Work}
 use Rattle.btr_tree.specs.History.{Commit, Past, ◌▷◌, bag}
 use Rattle.btr_tree.specs.Nodes.{points_of, is_inner}
 use Rattle.btr_tree.specs.Crowd.{HasNoCrowdedSpan, IsCrowdedFault}
@@ -39,6 +42,12 @@ AtEachPart span from to version points P =
 abbrev pub slot_nodes : ℕ → ℤ → Past → ℕ → ℕ → List NewNodeValue
 slot_nodes below start h version i =
     new_nodes below (slot_start below start i) (is_inner (suc below) start) h version
+
+-- The slots from one up to, and without, another get this many nodes.
+abbrev pub IsNodeCount : ℕ → ℤ → ℕ → ℕ → Past → ℕ → ℕ → Type 0
+IsNodeCount below start from to h version count =
+    length (concat_first to (slot_nodes below start h version))
+    ≡ length (concat_first from (slot_nodes below start h version)) + count
 
 -- The points of a span, for which nodes are to be built from a block on.
 pub record IsWork (span : SpanValue) (points : List Point) (first : ℕ) : Type 0 where
@@ -106,3 +115,45 @@ pub record AreJoined (mid to : ℕ) (front back all : Slots) : Type 0 where
   pub front_children : (i : ℕ) → i < mid → child_in all i ≡ child_in front i
   pub back_slots : (i : ℕ) → mid ≤ i → i < to → slot_in all i ≡ without_address (slot_in back i)
   pub back_children : (i : ℕ) → mid ≤ i → i < to → child_in all i ≡ child_in back i
+
+-- ---- what the functions take, what they return, and why they fail
+
+-- The subtree can be built.
+abbrev pub CanBuildAll : Work → Type 0
+CanBuildAll w = IsWork w.span w.points.now w.numbering.first
+
+-- The part can be built.
+abbrev pub CanBuildPart : PartWork → Type 0
+CanBuildPart w = IsPartWork w.span w.from w.to w.points.now w.numbering.first
+
+-- The first half can be built, and the second, if it is built from the same block on.
+abbrev pub CanBuildFront : Halves → Type 0
+CanBuildFront w = IsPartWork w.span w.from w.mid w.front.now w.numbering.first
+
+abbrev pub CanBuildBack : Halves → Type 0
+CanBuildBack w = IsPartWork w.span w.mid w.to w.back.now w.numbering.first
+
+-- The subtree was built.
+abbrev pub IsBuiltFor : Work → Option NodeData → List NewNodeValue → Type 0
+IsBuiltFor w root nodes_built = IsBuilt w.span w.numbering.version w.numbering.first w.points.now root nodes_built
+
+-- The part was built.
+abbrev pub IsPartFor : PartWork → Slots → List NewNodeValue → Type 0
+IsPartFor w x nodes_built = IsBuiltPart w.span w.from w.to w.numbering.version w.numbering.first w.points.now x nodes_built
+
+-- The first half was built.
+abbrev pub IsFrontFor : Halves → Slots → List NewNodeValue → Type 0
+IsFrontFor w x nodes_built = IsBuiltPart w.span w.from w.mid w.numbering.version w.numbering.first w.front.now x nodes_built
+
+-- The second half was built. Its blocks follow those of the first half, which has this many nodes.
+abbrev pub IsBackFor : Halves → ℕ → Slots → List NewNodeValue → Type 0
+IsBackFor w count x nodes_built =
+    IsBuiltPart w.span w.mid w.to w.numbering.version (w.numbering.first + count) w.back.now x nodes_built
+
+-- Why the part was not built.
+abbrev pub IsFaultFor : PartWork → TreeFault → Type 0
+IsFaultFor w e = IsPartFault w.span w.from w.to w.points.now e
+
+-- Why the halves were not built.
+abbrev pub IsFaultOfHalves : Halves → TreeFault → Type 0
+IsFaultOfHalves w e = IsFaultOfTwo w.span w.from w.mid w.to w.front.now w.back.now e

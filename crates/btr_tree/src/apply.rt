@@ -1,24 +1,22 @@
 //! A commit, applied to the nodes of a span.
-ghost use Rattle.std.specs.Prelude.{◌≡◌, ◌<◌, ◌≤◌, ◌+◌, ◌++◌, ◌∷◌, ◌||◌, [], ◌+ℤ◌, ◌^◌, ℕ, ℤ};
-ghost use Rattle.std.specs.Prelude.{pos, suc, true, false, not, Bool, List, length, IfOk, IfErr, OnOk};
+ghost use Rattle.std.specs.Prelude.{◌≡◌, ◌<◌, ◌≤◌, ◌+◌, ◌++◌, ℕ, suc, true, false, not, length, IfOk, IfErr, OnOk};
 ghost use Rattle.btr_base.specs.Agg.{agg};
-ghost use Rattle.btr_base.specs.Bag.{IsInOrder, within, outside, sort};
+ghost use Rattle.btr_base.specs.Bag.{IsInOrder, outside, sort};
 ghost use Rattle.btr_base.specs.Range.{IsCut};
-ghost use Rattle.btr_base.specs.declared.point.Point.{Point as APoint};
 ghost use Rattle.btr_base.specs.declared.limits.TheConstants.{LEAF_POINTS as FEW};
-ghost use Rattle.btr_tree.specs.History.{bag, ◌▷◌, IsBefore};
-ghost use Rattle.btr_tree.specs.Nodes.{points_of, touches};
+ghost use Rattle.btr_tree.specs.History.{bag, ◌▷◌};
 ghost use Rattle.btr_tree.specs.Shape.{IsChild, HasSlots, HasChildren};
 ghost use Rattle.btr_tree.specs.EachHistory.{AtEachInner, points_in};
-ghost use Rattle.btr_tree.specs.Change.{IsSomeChild, AreSomeSlots, IsSomeSlot, CountsNodes, slot_at, new_below, end_of};
-ghost use Rattle.btr_tree.specs.Change.{AtEachCommit, AtEachSlotCommit, AtEachInnerCommit};
+ghost use Rattle.btr_tree.specs.Change.{IsSomeChild, AreSomeSlots, IsSomeSlot, CanApply, IsNewSlot, CountsNodes, is_touched, end_of};
+ghost use Rattle.btr_tree.specs.Change.{AppendsNew, AppendsBelow, KeepsStored, AtEachStore};
+ghost use Rattle.btr_tree.specs.Change.{AtEachCommit, AtEachTouch, AtEachSlotCommit, AtEachInnerCommit, AtEachInnerTouch};
 ghost use Rattle.btr_tree.specs.Crowd.{IsCrowdedFault};
-ghost use Rattle.btr_tree.specs.NewNodes.{new_nodes, bare_all};
-ghost use Rattle.btr_tree.specs.Stored.{Store, IsBelow, IsLaid, AreBelow, AreLaid};
 ghost use Rattle.btr_tree.specs.Slots.{linked, node_of};
+ghost use Rattle.btr_tree.specs.Stored.{IsLaid, AreLaid};
 
 use crate::aggregate::agg_of_child;
 use crate::build::{build, push_inner};
+use crate::commit::{OldSlot, SpanCommit};
 use crate::fault::TreeFault;
 use crate::new_node::NewNode;
 use crate::node::{Child, Link, NodeData, Slot};
@@ -36,46 +34,38 @@ use std::alloc::{AllocError, Global};
 pub(crate) fn apply_slot<L>(
     alloc: Global,
     span: Span,
-    slot: Slot,
-    child: Child<'_>,
-    cut: &[Range],
-    added: &[Point],
-    version: u64,
-    first: u64,
+    was: &OldSlot<'_>,
+    commit: SpanCommit<'_>,
     nodes: &mut Vec<NewNode>,
     steps: &mut Steps<L>,
 ) -> Result<(Slot, Link), TreeFault>
-    requires some { IsSomeSlot span.height span.start slot (node_of child) (length added.now) }
-    requires cut { IsCut cut.now }
-    requires order { IsInOrder added.now }
-    requires inside { within span.start (end_of span) added.now ≡ added.now }
-    requires first { (1 ≤ first) × (first ≤ 2 ^ 33) }
-    ensures child { IfOk result (λ r. AtEachSlotCommit span slot (node_of child.entry) cut.now added.now version (λ above h c.
+    requires some { IsSomeSlot span.height span.start was.now.slot (node_of was.now.child) (length commit.added.now) }
+    requires commit { CanApply span commit }
+    ensures child { IfOk result (λ r. AtEachSlotCommit span was.now commit.entry (λ above h c.
         IsChild span.height span.start above (c ▷ h) (linked r.1))) }
-    ensures agg { IfOk result (λ r. AtEachSlotCommit span slot (node_of child.entry) cut.now added.now version (λ above h c.
-        r.0.agg ≡ agg (points_in span (bag (c ▷ h))))) }
-    ensures slot { IfOk result (λ r. AtEachSlotCommit span slot (node_of child.entry) cut.now added.now version (λ above h c.
-        slot ≡ slot_at above span.height span.start h → r.0 ≡ slot_at above span.height span.start (c ▷ h))) }
-    ensures nodes { OnOk result (AtEachSlotCommit span slot (node_of child.entry) cut.now added.now version (λ above h c.
-        above (bag (c ▷ h)) ≡ true → 0 < version → IsBefore version h
-        → bare_all nodes.new.items ≡ bare_all nodes.old.items ++ new_nodes span.height span.start above (c ▷ h) version)) }
-    ensures stored { IfOk result (λ r. (store : Store) → IsBelow store first span.height span.start (node_of child.entry)
-        → IsLaid store first nodes.new.items span.height span.start (linked r.1)) }
+    ensures slot { IfOk result (λ r. AtEachSlotCommit span was.now commit.entry (IsNewSlot span was.now.slot r.0)) }
+    ensures nodes { OnOk result (AtEachSlotCommit span was.now commit.entry
+        (AppendsNew span commit.entry nodes.old.items nodes.new.items)) }
+    ensures stored { IfOk result (λ r.
+        KeepsStored span commit.entry.numbering.first nodes.new.items (node_of was.now.child) (linked r.1)) }
     ensures counted { OnOk result (CountsNodes steps.old steps.new nodes.old.items nodes.new.items) }
-    ensures fault { IfErr result (λ e. AtEachSlotCommit span slot (node_of child.entry) cut.now added.now version (λ above h c.
+    ensures fault { IfErr result (λ e. AtEachSlotCommit span was.now commit.entry (λ above h c.
         IsCrowdedFault span.start (end_of span) (points_in span (bag (c ▷ h))) e)) }
 {
-    let here = ranges_before(ranges_from(cut, span.start), span.end());
-    if is_untouched(alloc, span, slot, child, here, added)? {
-        return Ok((slot, child.share()?));
+    let here = ranges_before(ranges_from(commit.cut, span.start), span.end());
+    let part = SpanCommit {
+        cut: here,
+        added: commit.added,
+        numbering: commit.numbering,
+    };
+    if is_untouched(alloc, span, was, part)? {
+        return Ok((was.slot, was.child.share()?));
     }
-    let new_child = apply_child(
-        alloc, span, child, here, added, version, first, nodes, steps,
-    )?;
+    let new_child = apply_child(alloc, span, was.child, part, nodes, steps)?;
     let agg = agg_of_child(new_child.seen());
     let slot = Slot {
         agg,
-        version,
+        version: commit.numbering.version,
         child: 0,
     };
     Ok((slot, new_child))
@@ -85,62 +75,54 @@ pub(crate) fn apply_slot<L>(
 fn is_untouched(
     alloc: Global,
     span: Span,
-    slot: Slot,
-    child: Child<'_>,
-    cut: &[Range],
-    added: &[Point],
+    was: &OldSlot<'_>,
+    commit: SpanCommit<'_>,
 ) -> Result<bool, AllocError>
-    requires some { IsSomeChild span.height span.start (node_of child) 0 }
-    requires cut { IsCut cut.now }
-    ensures { IfOk result (λ b. (version : ℕ) → AtEachCommit span (node_of child.entry) cut.now added.now version (λ above h c.
-        slot.agg ≡ agg (points_in span (bag h)) → b ≡ not (touches c span.height span.start (bag h)))) }
+    requires some { IsSomeChild span.height span.start (node_of was.now.child) 0 }
+    requires cut { IsCut commit.cut.now }
+    ensures { IfOk result (λ b. AtEachCommit span (node_of was.now.child) commit.entry (λ above h c.
+        was.now.slot.agg ≡ agg (points_in span (bag h)) → b ≡ not (is_touched span h c))) }
 {
-    if !added.is_empty() {
+    if !commit.added.is_empty() {
         return Ok(false);
     }
+    let slot = was.slot;
     let agg = slot.agg;
-    let left = count_outside_slot(alloc, span, agg.count, child, cut)?;
+    let left = count_outside_slot(alloc, span, agg.count, was.child, commit.cut)?;
     Ok(left == agg.count)
 }
 
-/// Applies a commit that touches the span to its child. `cut` and `added` are the commit's part in the span.
+/// Applies a commit that touches the span to its child. `commit` is its part in the span.
 #[cycle(apply)]
 pub(crate) fn apply_child<L>(
     alloc: Global,
     span: Span,
     child: Child<'_>,
-    cut: &[Range],
-    added: &[Point],
-    version: u64,
-    first: u64,
+    commit: SpanCommit<'_>,
     nodes: &mut Vec<NewNode>,
     steps: &mut Steps<L>,
 ) -> Result<Link, TreeFault>
-    requires some { IsSomeChild span.height span.start (node_of child) (length added.now) }
-    requires cut { IsCut cut.now }
-    requires order { IsInOrder added.now }
-    requires inside { within span.start (end_of span) added.now ≡ added.now }
-    requires first { (1 ≤ first) × (first ≤ 2 ^ 33) }
-    ensures child { IfOk result (λ r. AtEachCommit span (node_of child.entry) cut.now added.now version (λ above h c.
-        touches c span.height span.start (bag h) ≡ true → IsChild span.height span.start above (c ▷ h) (linked r))) }
-    ensures nodes { OnOk result (AtEachCommit span (node_of child.entry) cut.now added.now version (λ above h c.
-        touches c span.height span.start (bag h) ≡ true → above (bag (c ▷ h)) ≡ true → 0 < version → IsBefore version h
-        → bare_all nodes.new.items ≡ bare_all nodes.old.items ++ new_nodes span.height span.start above (c ▷ h) version)) }
-    ensures stored { IfOk result (λ r. (store : Store) → IsBelow store first span.height span.start (node_of child.entry)
-        → IsLaid store first nodes.new.items span.height span.start (linked r)) }
+    requires some { IsSomeChild span.height span.start (node_of child) (length commit.added.now) }
+    requires commit { CanApply span commit }
+    ensures child { IfOk result (λ r. AtEachTouch span (node_of child.entry) commit.entry (λ above h c.
+        IsChild span.height span.start above (c ▷ h) (linked r))) }
+    ensures nodes { OnOk result (AtEachTouch span (node_of child.entry) commit.entry
+        (AppendsNew span commit.entry nodes.old.items nodes.new.items)) }
+    ensures stored { IfOk result (λ r.
+        KeepsStored span commit.entry.numbering.first nodes.new.items (node_of child.entry) (linked r)) }
     ensures counted { OnOk result (CountsNodes steps.old steps.new nodes.old.items nodes.new.items) }
-    ensures fault { IfErr result (λ e. AtEachCommit span (node_of child.entry) cut.now added.now version (λ above h c.
+    ensures fault { IfErr result (λ e. AtEachCommit span (node_of child.entry) commit.entry (λ above h c.
         IsCrowdedFault span.start (end_of span) (points_in span (bag (c ▷ h))) e)) }
 {
     match child.node {
-        None => build(alloc, span, added, version, first, nodes, steps),
+        None => build(alloc, span, commit.added, commit.numbering, nodes, steps),
         Some(node) => match &**node {
             NodeData::Leaf { points, .. } => {
-                let all = changed(alloc, points, cut, added)?;
-                build(alloc, span, &all, version, first, nodes, steps)
+                let all = changed(alloc, points, commit.cut, commit.added)?;
+                build(alloc, span, &all, commit.numbering, nodes, steps)
             }
             NodeData::Inner { slots, .. } => {
-                apply_inner(alloc, span, slots, cut, added, version, first, nodes, steps)
+                apply_inner(alloc, span, slots, commit, nodes, steps)
             }
         },
     }
@@ -168,37 +150,28 @@ pub(crate) fn apply_inner<L>(
     alloc: Global,
     span: Span,
     slots: &Slots,
-    cut: &[Range],
-    added: &[Point],
-    version: u64,
-    first: u64,
+    commit: SpanCommit<'_>,
     nodes: &mut Vec<NewNode>,
     steps: &mut Steps<L>,
 ) -> Result<Link, TreeFault>
-    requires some { (below : ℕ) × (span.height ≡ suc below) × AreSomeSlots below span.start slots.now (length added.now) }
-    requires cut { IsCut cut.now }
-    requires order { IsInOrder added.now }
-    requires inside { within span.start (end_of span) added.now ≡ added.now }
-    requires first { (1 ≤ first) × (first ≤ 2 ^ 33) }
-    ensures child { IfOk result (λ r. AtEachInnerCommit span slots.now cut.now added.now version (λ below h c.
-        (above : List APoint → Bool) → touches c span.height span.start (bag h) ≡ true
-        → IsChild span.height span.start above (c ▷ h) (linked r))) }
-    ensures nodes { OnOk result (AtEachInnerCommit span slots.now cut.now added.now version (λ below h c.
-        (above : List APoint → Bool) → touches c span.height span.start (bag h) ≡ true → above (bag (c ▷ h)) ≡ true
-        → 0 < version → IsBefore version h
-        → bare_all nodes.new.items ≡ bare_all nodes.old.items ++ new_nodes span.height span.start above (c ▷ h) version)) }
-    ensures stored { IfOk result (λ r. (store : Store) (below : ℕ) → span.height ≡ suc below
-        → AreBelow store first below span.start slots.now → IsLaid store first nodes.new.items span.height span.start (linked r)) }
+    requires some { (below : ℕ) × (span.height ≡ suc below) × AreSomeSlots below span.start slots.now (length commit.added.now) }
+    requires commit { CanApply span commit }
+    ensures child { IfOk result (λ r. AtEachInnerTouch span slots.now commit.entry (λ above h c.
+        IsChild span.height span.start above (c ▷ h) (linked r))) }
+    ensures nodes { OnOk result (AtEachInnerTouch span slots.now commit.entry
+        (AppendsNew span commit.entry nodes.old.items nodes.new.items)) }
+    ensures stored { IfOk result (λ r. AtEachStore span commit.entry.numbering.first slots.now (λ store _.
+        IsLaid store commit.entry.numbering.first nodes.new.items span.height span.start (linked r))) }
     ensures counted { OnOk result (CountsNodes steps.old steps.new nodes.old.items nodes.new.items) }
-    ensures fault { IfErr result (λ e. AtEachInnerCommit span slots.now cut.now added.now version (λ below h c.
+    ensures fault { IfErr result (λ e. AtEachInnerCommit span slots.now commit.entry (λ below h c.
         IsCrowdedFault span.start (end_of span) (points_in span (bag (c ▷ h))) e)) }
 {
-    if is_few(alloc, span, slots, cut, added)? {
-        let all = gathered(alloc, span, slots, cut, added)?;
-        return build(alloc, span, &all, version, first, nodes, steps);
+    if is_few(alloc, span, slots, commit.cut, commit.added)? {
+        let all = gathered(alloc, span, slots, commit.cut, commit.added)?;
+        return build(alloc, span, &all, commit.numbering, nodes, steps);
     }
-    let new_slots = apply_slots(alloc, span, slots, cut, added, version, first, nodes, steps)?;
-    Ok(push_inner(alloc, span, version, first, new_slots, nodes, steps)?)
+    let new_slots = apply_slots(alloc, span, slots, commit, nodes, steps)?;
+    Ok(push_inner(alloc, span, commit.numbering, new_slots, nodes, steps)?)
 }
 
 /// Whether a commit leaves an inner node so few points that it is none. Its points are counted only if the cut is not empty.
@@ -248,51 +221,42 @@ pub(crate) fn apply_slots<L>(
     alloc: Global,
     span: Span,
     slots: &Slots,
-    cut: &[Range],
-    added: &[Point],
-    version: u64,
-    first: u64,
+    commit: SpanCommit<'_>,
     nodes: &mut Vec<NewNode>,
     steps: &mut Steps<L>,
 ) -> Result<Slots, TreeFault>
-    requires some { (below : ℕ) × (span.height ≡ suc below) × AreSomeSlots below span.start slots.now (length added.now) }
-    requires cut { IsCut cut.now }
-    requires order { IsInOrder added.now }
-    requires inside { within span.start (end_of span) added.now ≡ added.now }
-    requires first { (1 ≤ first) × (first ≤ 2 ^ 33) }
-    ensures slots { IfOk result (λ r. AtEachInnerCommit span slots.now cut.now added.now version (λ below h c.
+    requires some { (below : ℕ) × (span.height ≡ suc below) × AreSomeSlots below span.start slots.now (length commit.added.now) }
+    requires commit { CanApply span commit }
+    ensures slots { IfOk result (λ r. AtEachInnerCommit span slots.now commit.entry (λ below h c.
         HasSlots below span.start (c ▷ h) r × HasChildren below span.start (c ▷ h) r)) }
-    ensures nodes { OnOk result (AtEachInnerCommit span slots.now cut.now added.now version (λ below h c.
-        FEW < length (points_of (suc below) span.start (bag (c ▷ h))) → 0 < version → IsBefore version h
-        → bare_all nodes.new.items ≡ bare_all nodes.old.items ++ new_below below span.start (c ▷ h) version)) }
-    ensures stored { IfOk result (λ r. (store : Store) (below : ℕ) → span.height ≡ suc below
-        → AreBelow store first below span.start slots.now → AreLaid 64 store first nodes.new.items below span.start r) }
+    ensures nodes { OnOk result (AtEachInnerCommit span slots.now commit.entry
+        (AppendsBelow span commit.entry nodes.old.items nodes.new.items)) }
+    ensures stored { IfOk result (λ r. AtEachStore span commit.entry.numbering.first slots.now (λ store below.
+        AreLaid 64 store commit.entry.numbering.first nodes.new.items below span.start r)) }
     ensures counted { OnOk result (CountsNodes steps.old steps.new nodes.old.items nodes.new.items) }
-    ensures fault { IfErr result (λ e. AtEachInnerCommit span slots.now cut.now added.now version (λ below h c.
+    ensures fault { IfErr result (λ e. AtEachInnerCommit span slots.now commit.entry (λ below h c.
         IsCrowdedFault span.start (end_of span) (points_in span (bag (c ▷ h))) e)) }
 {
     let mut new_slots = Slots::new(alloc, slots.base(), slots.len().saturating_add(1))?;
-    let mut rest = added;
+    let mut rest = commit.added;
     for i in 0..FAN_OUT {
         let part = span.slot(i);
         let (here, after) = parted(rest, part.end());
         rest = after;
-        if cut.is_empty() && here.is_empty() {
+        if commit.cut.is_empty() && here.is_empty() {
             new_slots.put_from(i, slots)?;
             continue;
         }
-        let (slot, child) = apply_slot(
-            alloc,
-            part,
-            slots.slot(i),
-            slots.child(i),
-            cut,
-            here,
-            version,
-            first,
-            nodes,
-            steps,
-        )?;
+        let was = OldSlot {
+            slot: slots.slot(i),
+            child: slots.child(i),
+        };
+        let change = SpanCommit {
+            cut: commit.cut,
+            added: here,
+            numbering: commit.numbering,
+        };
+        let (slot, child) = apply_slot(alloc, part, &was, change, nodes, steps)?;
         new_slots.put(i, slot, child)?;
     }
     Ok(new_slots)

@@ -34,13 +34,17 @@ mod uncounted;
 // what a commit writes
 mod apply;
 mod build;
+mod commit;
+mod node_count;
 mod shared;
 mod tree;
+mod work;
 // trees made of nodes that were read
 mod opened;
 // theorems on the definitions
 mod laws;
 
+pub use commit::TreeCommit;
 pub use fault::TreeFault;
 pub use laws::equal_since_its_version;
 pub use link::visit;

@@ -1,23 +1,25 @@
 //! New nodes of given points, built by several threads.
-ghost use Rattle.std.specs.Prelude.{◌≡◌, ◌<◌, ◌≤◌, ◌+◌, ◌*◌, ◌++◌, ◌^◌, ℕ, true, length, IfOk, IfErr};
+ghost use Rattle.std.specs.Prelude.{◌≡◌, ◌<◌, ◌≤◌, ◌+◌, ◌*◌, ◌++◌, ◌^◌, length, IfOk, IfErr};
 ghost use Rattle.std.specs.Thread.{IsSync};
-ghost use Rattle.btr_base.specs.Bag.{IsInOrder, within};
-ghost use Rattle.btr_tree.specs.History.{bag, ◌▷◌};
-ghost use Rattle.btr_tree.specs.Change.{AtEachFresh, end_of};
+ghost use Rattle.btr_base.specs.Bag.{IsInOrder};
+ghost use Rattle.btr_tree.specs.Change.{end_of};
 ghost use Rattle.btr_tree.specs.Crowd.{IsCrowdedFault};
-ghost use Rattle.btr_tree.specs.NewNodes.{new_nodes, concat_first};
 ghost use Rattle.btr_tree.specs.Slots.{linked, base_of, IsFilled};
-ghost use Rattle.btr_tree.specs.Shared.{slot_from, slot_nodes, AtEachPart};
-ghost use Rattle.btr_tree.specs.Shared.{IsWork, IsPartWork, IsBuilt, IsBuiltPart, CountsAll, IsPartFault, IsFaultOfTwo, AreJoined};
+ghost use Rattle.btr_tree.specs.Shared.{IsPartWork, IsBuiltPart, CountsAll, IsPartFault, AreJoined};
+ghost use Rattle.btr_tree.specs.Shared.{CanBuildAll, CanBuildPart, CanBuildFront, CanBuildBack, IsBuiltFor, IsPartFor, IsFrontFor, IsBackFor};
+ghost use Rattle.btr_tree.specs.Shared.{IsFaultFor, IsFaultOfHalves};
 
 use crate::aggregate::agg_of_child;
 use crate::build::{build, push_inner};
+use crate::commit::Numbering;
 use crate::fault::TreeFault;
 use crate::new_node::NewNode;
 use crate::node::{Link, Slot};
+use crate::node_count::count_slots;
 use crate::slots::Slots;
 use crate::steps::{Fork, Forked, Steps};
-use btr_base::{FAN_OUT, LEAF_POINTS, Point, Span, parted};
+use crate::work::{Halves, PartWork, Work};
+use btr_base::{FAN_OUT, Point, Span, parted};
 use std::alloc::{AllocError, Global};
 use std::marker::Sync;
 use std::thread::{Threads, join};
@@ -42,130 +44,147 @@ pub(crate) struct Part {
     nodes: Vec<NewNode>,
 }
 
-/// Builds the subtree for `points`, which all lie in `span`, by at most `threads` threads, the calling one among them. The n-th
-/// of its nodes is for the block `first + n`. It counts each with the caller's counter.
+/// Builds the subtree for the points of `work` by at most `threads` threads, the calling one among them. It counts each node with
+/// the caller's counter.
 pub(crate) fn build_counted<R: Threads + Sync, L>(
     rt: &R,
     alloc: Global,
-    span: Span,
-    points: &[Point],
-    version: u64,
-    first: u64,
+    work: &Work<'_>,
     threads: usize,
     steps: &mut Steps<L>,
 ) -> Result<Built, TreeFault>
-    requires { IsWork span points.now first }
-    ensures built { IfOk result (λ r. IsBuilt span version first points.now (linked r.root) r.nodes.items) }
+    requires { CanBuildAll work.now }
+    ensures built { IfOk result (λ r. IsBuiltFor work.now (linked r.root) r.nodes.items) }
     ensures counted { IfOk result (λ r. CountsAll steps.old steps.new r.nodes.items) }
-    ensures fault { IfErr result (λ e. IsCrowdedFault span.start (end_of span) points.now e) }
+    ensures fault { IfErr result (λ e. IsCrowdedFault work.now.span.start (end_of work.now.span) work.now.points.now e) }
 {
     let mut fork = Fork::new();
     let counter = &mut fork.steps;
-    let built = build_shared(rt, alloc, span, points, version, first, threads, counter);
+    let built = build_shared(rt, alloc, work, threads, counter);
     steps.join(fork);
     built
 }
 
-/// Builds the subtree for `points`, as [`build_counted`] says, with the counter of a fork.
+/// Builds the subtree for the points of `work`, as [`build_counted`] says, with the counter of a fork.
 #[cycle(shared)]
 fn build_shared<R: Threads + Sync>(
     rt: &R,
     alloc: Global,
-    span: Span,
-    points: &[Point],
-    version: u64,
-    first: u64,
+    work: &Work<'_>,
     threads: usize,
     steps: &mut Steps<Forked>,
 ) -> Result<Built, TreeFault>
-    requires { IsWork span points.now first }
-    ensures built { IfOk result (λ r. IsBuilt span version first points.now (linked r.root) r.nodes.items) }
+    requires { CanBuildAll work.now }
+    ensures built { IfOk result (λ r. IsBuiltFor work.now (linked r.root) r.nodes.items) }
     ensures counted { IfOk result (λ r. CountsAll steps.old steps.new r.nodes.items) }
-    ensures fault { IfErr result (λ e. IsCrowdedFault span.start (end_of span) points.now e) }
+    ensures fault { IfErr result (λ e. IsCrowdedFault work.now.span.start (end_of work.now.span) work.now.points.now e) }
 {
-    if threads < 2 || points.len() < SHARED_POINTS || span.height == 0 {
-        return build_alone(alloc, span, points, version, first, steps);
+    let span = work.span;
+    if threads < 2 || work.points.len() < SHARED_POINTS || span.height == 0 {
+        return build_alone(alloc, work, steps);
     }
-    let part = build_part(
-        rt, alloc, span, 0, FAN_OUT, points, version, first, threads, steps,
-    )?;
+    let all = PartWork {
+        span,
+        from: 0,
+        to: FAN_OUT,
+        points: work.points,
+        numbering: work.numbering,
+    };
+    let part = build_part(rt, alloc, &all, threads, steps)?;
     let mut nodes = part.nodes;
-    let root = push_inner(alloc, span, version, first, part.slots, &mut nodes, steps)?;
+    let root = push_inner(alloc, span, work.numbering, part.slots, &mut nodes, steps)?;
     Ok(Built { root, nodes })
 }
 
-/// Builds the subtree for `points` by the calling thread.
+/// Builds the subtree for the points of `work` by the calling thread.
 fn build_alone(
     alloc: Global,
-    span: Span,
-    points: &[Point],
-    version: u64,
-    first: u64,
+    work: &Work<'_>,
     steps: &mut Steps<Forked>,
 ) -> Result<Built, TreeFault>
-    requires { IsWork span points.now first }
-    ensures built { IfOk result (λ r. IsBuilt span version first points.now (linked r.root) r.nodes.items) }
+    requires { CanBuildAll work.now }
+    ensures built { IfOk result (λ r. IsBuiltFor work.now (linked r.root) r.nodes.items) }
     ensures counted { IfOk result (λ r. CountsAll steps.old steps.new r.nodes.items) }
-    ensures fault { IfErr result (λ e. IsCrowdedFault span.start (end_of span) points.now e) }
+    ensures fault { IfErr result (λ e. IsCrowdedFault work.now.span.start (end_of work.now.span) work.now.points.now e) }
 {
     prove!(steps.count() <= u64::MAX);
     let mut nodes = Vec::new(alloc);
-    let root = build(alloc, span, points, version, first, &mut nodes, steps)?;
+    let root = build(
+        alloc,
+        work.span,
+        work.points,
+        work.numbering,
+        &mut nodes,
+        steps,
+    )?;
     Ok(Built { root, nodes })
 }
 
-/// Builds the slots of a span from one up to, and without, another, and their children, for the points in them.
+/// Builds some slots of a span, and their children.
 #[cycle(shared)]
 fn build_part<R: Threads + Sync>(
     rt: &R,
     alloc: Global,
-    span: Span,
-    from: u8,
-    to: u8,
-    points: &[Point],
-    version: u64,
-    first: u64,
+    work: &PartWork<'_>,
     threads: usize,
     steps: &mut Steps<Forked>,
 ) -> Result<Part, TreeFault>
-    requires { IsPartWork span from to points.now first }
-    ensures part { IfOk result (λ r. IsBuiltPart span from to version first points.now r.slots r.nodes.items) }
+    requires { CanBuildPart work.now }
+    ensures part { IfOk result (λ r. IsPartFor work.now r.slots r.nodes.items) }
     ensures counted { IfOk result (λ r. CountsAll steps.old steps.new r.nodes.items) }
-    ensures fault { IfErr result (λ e. IsPartFault span from to points.now e) }
+    ensures fault { IfErr result (λ e. IsFaultFor work.now e) }
 {
+    let span = work.span;
+    let from = work.from;
+    let to = work.to;
     if to - from == 1 {
-        return build_one(
-            rt, alloc, span, from, points, version, first, threads, steps,
-        );
+        let all = Work {
+            span,
+            points: work.points,
+            numbering: work.numbering,
+        };
+        return build_one(rt, alloc, &all, from, threads, steps);
     }
-    let mid = middle(span, from, to, points);
-    let (front, back) = parted(points, span.slot(mid).start);
-    let (low, high) = build_two(
-        rt, alloc, span, from, mid, to, front, back, version, first, threads, steps,
-    )?;
+    let mid = middle(span, from, to, work.points);
+    let (front, back) = parted(work.points, span.slot(mid).start);
+    let halves = Halves {
+        span,
+        from,
+        mid,
+        to,
+        front,
+        back,
+        numbering: work.numbering,
+    };
+    let (low, high) = build_two(rt, alloc, &halves, threads, steps)?;
     Ok(joined(mid, to, low, high)?)
 }
 
-/// Builds one slot of a span and its child.
+/// Builds one slot of a span and its child. The points of `work` all lie in the slot.
 #[cycle(shared)]
 fn build_one<R: Threads + Sync>(
     rt: &R,
     alloc: Global,
-    span: Span,
+    work: &Work<'_>,
     i: u8,
-    points: &[Point],
-    version: u64,
-    first: u64,
     threads: usize,
     steps: &mut Steps<Forked>,
 ) -> Result<Part, TreeFault>
-    requires { IsPartWork span i (i + 1) points.now first }
-    ensures part { IfOk result (λ r. IsBuiltPart span i (i + 1) version first points.now r.slots r.nodes.items) }
+    requires { IsPartWork work.now.span i (i + 1) work.now.points.now work.now.numbering.first }
+    ensures part { IfOk result (λ r. IsBuiltPart work.now.span i (i + 1) work.now.numbering.version work.now.numbering.first
+        work.now.points.now r.slots r.nodes.items) }
     ensures counted { IfOk result (λ r. CountsAll steps.old steps.new r.nodes.items) }
-    ensures fault { IfErr result (λ e. IsPartFault span i (i + 1) points.now e) }
+    ensures fault { IfErr result (λ e. IsPartFault work.now.span i (i + 1) work.now.points.now e) }
 {
-    let part = span.slot(i);
-    let built = build_shared(rt, alloc, part, points, version, first, threads, steps)?;
+    let numbering = work.numbering;
+    let version = numbering.version;
+    let part = work.span.slot(i);
+    let inside = Work {
+        span: part,
+        points: work.points,
+        numbering,
+    };
+    let built = build_shared(rt, alloc, &inside, threads, steps)?;
     let slot = Slot {
         agg: agg_of_child(built.root.seen()),
         version,
@@ -184,38 +203,43 @@ fn build_one<R: Threads + Sync>(
 fn build_two<R: Threads + Sync>(
     rt: &R,
     alloc: Global,
-    span: Span,
-    from: u8,
-    mid: u8,
-    to: u8,
-    front: &[Point],
-    back: &[Point],
-    version: u64,
-    first: u64,
+    halves: &Halves<'_>,
     threads: usize,
     steps: &mut Steps<Forked>,
 ) -> Result<(Part, Part), TreeFault>
-    requires front { IsPartWork span from mid front.now first }
-    requires back { IsPartWork span mid to back.now first }
-    requires room { first + 11 * (length front.now + length back.now) ≤ 2 ^ 62 }
-    ensures front { IfOk result (λ r. IsBuiltPart span from mid version first front.now r.0.slots r.0.nodes.items) }
-    ensures back { IfOk result (λ r.
-        IsBuiltPart span mid to version (first + length r.0.nodes.items) back.now r.1.slots r.1.nodes.items) }
+    requires front { CanBuildFront halves.now }
+    requires back { CanBuildBack halves.now }
+    requires room { halves.now.numbering.first + 11 * (length halves.now.front.now + length halves.now.back.now) ≤ 2 ^ 62 }
+    ensures front { IfOk result (λ r. IsFrontFor halves.now r.0.slots r.0.nodes.items) }
+    ensures back { IfOk result (λ r. IsBackFor halves.now (length r.0.nodes.items) r.1.slots r.1.nodes.items) }
     ensures counted { IfOk result (λ r. CountsAll steps.old steps.new (r.0.nodes.items ++ r.1.nodes.items)) }
-    ensures fault { IfErr result (λ e. IsFaultOfTwo span from mid to front.now back.now e) }
+    ensures fault { IfErr result (λ e. IsFaultOfHalves halves.now e) }
 {
-    if threads >= 2 && front.len() >= HALF_POINTS && back.len() >= HALF_POINTS {
-        return build_at_once(
-            rt, alloc, span, from, mid, to, front, back, version, first, threads, steps,
-        );
+    // the proof reads here that the height is at most 10
+    let span = halves.span;
+    let _height = span.height;
+    if threads >= 2 && halves.front.len() >= HALF_POINTS && halves.back.len() >= HALF_POINTS {
+        return build_at_once(rt, alloc, halves, threads, steps);
     }
-    let low = build_part(
-        rt, alloc, span, from, mid, front, version, first, threads, steps,
-    )?;
-    let second = first + low.nodes.len() as u64;
-    let high = build_part(
-        rt, alloc, span, mid, to, back, version, second, threads, steps,
-    )?;
+    let before = PartWork {
+        span,
+        from: halves.from,
+        to: halves.mid,
+        points: halves.front,
+        numbering: halves.numbering,
+    };
+    let low = build_part(rt, alloc, &before, threads, steps)?;
+    let after = PartWork {
+        span,
+        from: halves.mid,
+        to: halves.to,
+        points: halves.back,
+        numbering: Numbering {
+            version: halves.numbering.version,
+            first: halves.numbering.first + low.nodes.len() as u64,
+        },
+    };
+    let high = build_part(rt, alloc, &after, threads, steps)?;
     Ok((low, high))
 }
 
@@ -224,42 +248,53 @@ fn build_two<R: Threads + Sync>(
 fn build_at_once<R: Threads + Sync>(
     rt: &R,
     alloc: Global,
-    span: Span,
-    from: u8,
-    mid: u8,
-    to: u8,
-    front: &[Point],
-    back: &[Point],
-    version: u64,
-    first: u64,
+    halves: &Halves<'_>,
     threads: usize,
     steps: &mut Steps<Forked>,
 ) -> Result<(Part, Part), TreeFault>
-    requires front { IsPartWork span from mid front.now first }
-    requires back { IsPartWork span mid to back.now first }
-    requires room { first + 11 * (length front.now + length back.now) ≤ 2 ^ 62 }
-    requires many { (2 ≤ threads) × (252 < length front.now) }
-    ensures front { IfOk result (λ r. IsBuiltPart span from mid version first front.now r.0.slots r.0.nodes.items) }
-    ensures back { IfOk result (λ r.
-        IsBuiltPart span mid to version (first + length r.0.nodes.items) back.now r.1.slots r.1.nodes.items) }
+    requires front { CanBuildFront halves.now }
+    requires back { CanBuildBack halves.now }
+    requires room { halves.now.numbering.first + 11 * (length halves.now.front.now + length halves.now.back.now) ≤ 2 ^ 62 }
+    requires many { (2 ≤ threads) × (252 < length halves.now.front.now) }
+    ensures front { IfOk result (λ r. IsFrontFor halves.now r.0.slots r.0.nodes.items) }
+    ensures back { IfOk result (λ r. IsBackFor halves.now (length r.0.nodes.items) r.1.slots r.1.nodes.items) }
     ensures counted { IfOk result (λ r. CountsAll steps.old steps.new (r.0.nodes.items ++ r.1.nodes.items)) }
-    ensures fault { IfErr result (λ e. IsFaultOfTwo span from mid to front.now back.now e) }
+    ensures fault { IfErr result (λ e. IsFaultOfHalves halves.now e) }
 {
-    let second = first + count_slots(span, from, mid, front);
-    let mine = share_of(front.len(), back.len(), threads);
+    let span = halves.span;
+    let _height = span.height;
+    let before = PartWork {
+        span,
+        from: halves.from,
+        to: halves.mid,
+        points: halves.front,
+        numbering: halves.numbering,
+    };
+    let count = count_slots(before.span, before.from, before.to, before.points);
+    let after = PartWork {
+        span,
+        from: halves.mid,
+        to: halves.to,
+        points: halves.back,
+        numbering: Numbering {
+            version: halves.numbering.version,
+            first: halves.numbering.first + count,
+        },
+    };
+    let mine = share_of(before.points.len(), after.points.len(), threads);
     let others = threads - mine;
     let build_front = || -> (Result<Part, TreeFault>, Fork)
-        requires { IsSync R.row × IsPartWork span from mid front.now first }
-        ensures part { IfOk result.0 (λ r. IsBuiltPart span from mid version first front.entry.now r.slots r.nodes.items) }
+        requires { IsSync R.row × CanBuildPart before }
+        ensures part { IfOk result.0 (λ r. IsPartFor before.entry r.slots r.nodes.items) }
         ensures counted { IfOk result.0 (λ r. CountsAll 0 result.1.steps r.nodes.items) }
-        ensures fault { IfErr result.0 (λ e. IsPartFault span from mid front.entry.now e) }
-    { build_forked(rt, alloc, span, from, mid, front, version, first, mine) };
+        ensures fault { IfErr result.0 (λ e. IsFaultFor before.entry e) }
+    { build_forked(rt, alloc, &before, mine) };
     let build_back = || -> (Result<Part, TreeFault>, Fork)
-        requires { IsSync R.row × IsPartWork span mid to back.now second }
-        ensures part { IfOk result.0 (λ r. IsBuiltPart span mid to version second back.entry.now r.slots r.nodes.items) }
+        requires { IsSync R.row × CanBuildPart after }
+        ensures part { IfOk result.0 (λ r. IsPartFor after.entry r.slots r.nodes.items) }
         ensures counted { IfOk result.0 (λ r. CountsAll 0 result.1.steps r.nodes.items) }
-        ensures fault { IfErr result.0 (λ e. IsPartFault span mid to back.entry.now e) }
-    { build_forked(rt, alloc, span, mid, to, back, version, second, others) };
+        ensures fault { IfErr result.0 (λ e. IsFaultFor after.entry e) }
+    { build_forked(rt, alloc, &after, others) };
     let ((a, one), (b, other)) = join(rt, build_front, build_back);
     steps.join(one);
     steps.join(other);
@@ -273,24 +308,17 @@ fn build_at_once<R: Threads + Sync>(
 fn build_forked<R: Threads + Sync>(
     rt: &R,
     alloc: Global,
-    span: Span,
-    from: u8,
-    to: u8,
-    points: &[Point],
-    version: u64,
-    first: u64,
+    work: &PartWork<'_>,
     threads: usize,
 ) -> (Result<Part, TreeFault>, Fork)
-    requires { IsPartWork span from to points.now first }
-    ensures part { IfOk result.0 (λ r. IsBuiltPart span from to version first points.now r.slots r.nodes.items) }
+    requires { CanBuildPart work.now }
+    ensures part { IfOk result.0 (λ r. IsPartFor work.now r.slots r.nodes.items) }
     ensures counted { IfOk result.0 (λ r. CountsAll 0 result.1.steps r.nodes.items) }
-    ensures fault { IfErr result.0 (λ e. IsPartFault span from to points.now e) }
+    ensures fault { IfErr result.0 (λ e. IsFaultFor work.now e) }
 {
     let mut fork = Fork::new();
     let counter = &mut fork.steps;
-    let part = build_part(
-        rt, alloc, span, from, to, points, version, first, threads, counter,
-    );
+    let part = build_part(rt, alloc, work, threads, counter);
     (part, fork)
 }
 
@@ -342,47 +370,4 @@ fn share_of(front: usize, back: usize, threads: usize) -> usize
     }
     let share = front.saturating_add(quota / 2) / quota;
     share.clamp(1, threads - 1)
-}
-
-/// How many nodes `build` makes for `points`, if it does not fail.
-#[cycle(count)]
-fn count_nodes(span: Span, points: &[Point]) -> u64
-    requires order { IsInOrder points.now }
-    requires inside { within span.start (end_of span) points.now ≡ points.now }
-    requires room { 11 * length points.now ≤ 2 ^ 62 }
-    ensures count { (version : ℕ) → AtEachFresh span version points.now (λ above h c. above (bag (c ▷ h)) ≡ true
-        → result ≡ length (new_nodes span.height span.start above (c ▷ h) version)) }
-    ensures few { result ≤ (span.height + 1) * length points.now }
-{
-    if points.is_empty() {
-        return 0;
-    }
-    if points.len() <= LEAF_POINTS || span.height == 0 {
-        return 1;
-    }
-    1 + count_slots(span, 0, FAN_OUT, points)
-}
-
-/// How many nodes are made for the points in the slots of a span from one up to, and without, another.
-#[cycle(count)]
-fn count_slots(span: Span, from: u8, to: u8, points: &[Point]) -> u64
-    requires height { 1 ≤ span.height }
-    requires place { (from ≤ to) × (to ≤ 64) }
-    requires order { IsInOrder points.now }
-    requires inside { within (slot_from span from) (slot_from span to) points.now ≡ points.now }
-    requires room { 11 * length points.now ≤ 2 ^ 62 }
-    ensures count { (version : ℕ) → AtEachPart span from to version points.now (λ below h c.
-        length (concat_first to (slot_nodes below span.start (c ▷ h) version))
-        ≡ length (concat_first from (slot_nodes below span.start (c ▷ h) version)) + result) }
-    ensures few { result ≤ span.height * length points.now }
-{
-    let mut count = 0;
-    let mut rest = points;
-    for i in from..to {
-        let part = span.slot(i);
-        let (here, after) = parted(rest, part.end());
-        count += count_nodes(part, here);
-        rest = after;
-    }
-    count
 }

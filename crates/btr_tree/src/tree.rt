@@ -12,13 +12,15 @@ ghost use Rattle.btr_tree.specs.Applied.{IsCommitApplied};
 
 use crate::aggregate::agg_of_child;
 use crate::apply::apply_slot;
+use crate::commit::{Numbering, OldSlot, SpanCommit, TreeCommit};
 use crate::fault::TreeFault;
 use crate::new_node::NewNode;
 use crate::node::{Child, Link, Slot};
 use crate::root::root_span;
 use crate::shared::{SHARED_POINTS, build_counted};
 use crate::steps::Steps;
-use btr_base::{Agg, Bag, MAX_POINTS, ROOT_HEIGHT, Ranges, Span};
+use crate::work::Work;
+use btr_base::{Agg, MAX_POINTS, ROOT_HEIGHT, Span};
 use std::alloc::{AllocError, Global};
 use std::marker::{Model, Sync};
 use std::thread::Threads;
@@ -135,7 +137,7 @@ impl Tree {
         (self.root.seen(), self.agg)
     }
 
-    /// Applies a commit: removes the points whose time `cut` covers, and then adds the points of `added`. This tree stays as
+    /// Applies a commit: removes the points whose time its `cut` covers, and then adds the points of its `added`. This tree stays as
     /// it is. The new tree shares each node whose span the commit does not touch. The cost is the nodes on the way to each
     /// added point and to each end of a range of the cut, and one merge a leaf.
     ///
@@ -153,16 +155,15 @@ impl Tree {
     pub fn apply<L>(
         &self,
         alloc: Global,
-        cut: &Ranges,
-        added: &Bag,
-        version: u64,
-        first: u64,
+        commit: &TreeCommit<'_>,
         steps: &mut Steps<L>,
     ) -> Result<Applied, TreeFault>
-        requires added { AreInDomain added.now }
-        requires first { (1 ≤ first) × (first ≤ 2 ^ 33) }
-        ensures applied { IfOk result (IsCommitApplied self.now version cut.now added.now first steps.old steps.new) }
-        ensures fault { IfErr result (λ e. AfterCommit self.now version cut.now added.now (λ h c. IsTreeFault (bag (c ▷ h)) e)) }
+        requires added { AreInDomain commit.now.added.now }
+        requires first { (1 ≤ commit.now.first) × (commit.now.first ≤ 2 ^ 33) }
+        ensures applied { IfOk result (IsCommitApplied self.now commit.now.version commit.now.cut.now commit.now.added.now
+            commit.now.first steps.old steps.new) }
+        ensures fault { IfErr result (λ e. AfterCommit self.now commit.now.version commit.now.cut.now commit.now.added.now (λ h c.
+            IsTreeFault (bag (c ▷ h)) e)) }
     {
         prove!(steps.count() <= u64::MAX);
         let mut nodes = Vec::new(alloc);
@@ -172,18 +173,19 @@ impl Tree {
             version: 0,
             child: 0,
         };
-        let (slot, root) = apply_slot(
-            alloc,
-            root_span(),
-            whole,
-            link,
-            cut.as_slice(),
-            added.as_slice(),
-            version,
-            first,
-            &mut nodes,
-            steps,
-        )?;
+        let was = OldSlot {
+            slot: whole,
+            child: link,
+        };
+        let part = SpanCommit {
+            cut: commit.cut.as_slice(),
+            added: commit.added.as_slice(),
+            numbering: Numbering {
+                version: commit.version,
+                first: commit.first,
+            },
+        };
+        let (slot, root) = apply_slot(alloc, root_span(), &was, part, &mut nodes, steps)?;
         let agg = slot.agg;
         if agg.count > MAX_POINTS {
             return Err(TreeFault::TooManyPoints { count: agg.count });
@@ -205,29 +207,36 @@ impl Tree {
         &self,
         rt: &R,
         alloc: Global,
-        cut: &Ranges,
-        added: &Bag,
-        version: u64,
-        first: u64,
+        commit: &TreeCommit<'_>,
         threads: usize,
         steps: &mut Steps<L>,
     ) -> Result<Applied, TreeFault>
-        requires added { AreInDomain added.now }
-        requires first { (1 ≤ first) × (first ≤ 2 ^ 33) }
-        ensures applied { IfOk result (IsCommitApplied self.now version cut.now added.now first steps.old steps.new) }
-        ensures fault { IfErr result (λ e. AfterCommit self.now version cut.now added.now (λ h c. IsTreeFault (bag (c ▷ h)) e)) }
+        requires added { AreInDomain commit.now.added.now }
+        requires first { (1 ≤ commit.now.first) × (commit.now.first ≤ 2 ^ 33) }
+        ensures applied { IfOk result (IsCommitApplied self.now commit.now.version commit.now.cut.now commit.now.added.now
+            commit.now.first steps.old steps.new) }
+        ensures fault { IfErr result (λ e. AfterCommit self.now commit.now.version commit.now.cut.now commit.now.added.now (λ h c.
+            IsTreeFault (bag (c ▷ h)) e)) }
     {
-        let points = added.as_slice();
+        let points = commit.added.as_slice();
         let count = points.len();
         if threads < 2
             || count < SHARED_POINTS
             || count as u64 > MAX_POINTS
             || self.root.is_some()
         {
-            return self.apply(alloc, cut, added, version, first, steps);
+            return self.apply(alloc, commit, steps);
         }
         let span = root_span();
-        let built = build_counted(rt, alloc, span, points, version, first, threads, steps)?;
+        let work = Work {
+            span,
+            points,
+            numbering: Numbering {
+                version: commit.version,
+                first: commit.first,
+            },
+        };
+        let built = build_counted(rt, alloc, &work, threads, steps)?;
         let agg = agg_of_child(built.root.seen());
         Ok(Applied {
             tree: Tree {

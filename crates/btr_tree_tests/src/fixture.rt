@@ -1,7 +1,7 @@
 //! Tables of tests, and trees after commits.
 
 use btr_base::{Bag, Point, Range, Ranges, are_in_domain};
-use btr_tree::{Applied, Label, Steps, Tree};
+use btr_tree::{Applied, Label, Steps, Tree, TreeCommit};
 use std::alloc::{AllocError, Global};
 use std::test::Fail;
 
@@ -128,14 +128,13 @@ pub(crate) fn applied(
     if first < 1 || first > MOST_BLOCKS {
         return Err("a block that no commit begins with".into());
     }
-    match tree.apply(
-        alloc,
+    let commit = TreeCommit {
         cut,
         added,
         version,
         first,
-        &mut Steps::<Counts>::new(),
-    ) {
+    };
+    match tree.apply(alloc, &commit, &mut Steps::<Counts>::new()) {
         Ok(applied) => Ok(applied),
         Err(_) => Err("no commit".into()),
     }

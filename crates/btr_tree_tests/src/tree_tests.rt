@@ -9,7 +9,7 @@ ghost use Rattle.std.specs.Prelude.{◌≡◌, ◌-◌};
 use super::fixture::{Counts, bag_of_runs};
 use btr_base::{Bag, END, FIRST, Point, Range, Ranges, are_in_domain};
 use btr_tree::{
-    Applied, Child, NewNode, NewSlots, Node, Slot, Slots, Steps, Tree, TreeFault, visit,
+    Applied, Child, NewNode, NewSlots, Node, Slot, Slots, Steps, Tree, TreeCommit, TreeFault, visit,
 };
 use std::alloc::{AllocError, Global};
 use std::marker::Sync;
@@ -416,8 +416,14 @@ fn applied_to(
     if !are_in_domain(added.as_slice()) {
         return Err("a time outside the domain".into());
     }
+    let commit = TreeCommit {
+        cut,
+        added,
+        version,
+        first: 4,
+    };
     let mut steps = Steps::<Counts>::new();
-    let applied = tree.apply(alloc, cut, added, version, 4, &mut steps);
+    let applied = tree.apply(alloc, &commit, &mut steps);
     if let Ok(applied) = &applied {
         if steps.count() != applied.nodes.len() as u64 {
             return Err("another number of steps".into());
@@ -693,7 +699,13 @@ fn is_shared_alike<R: Threads + Sync>(rt: &R, alloc: Global, added: &Bag) -> Res
         }
         let mut steps = Steps::<Counts>::new();
         let empty = Tree::empty();
-        let shared = empty.apply_shared(rt, alloc, &none, added, 3, 4, threads, &mut steps);
+        let commit = TreeCommit {
+            cut: &none,
+            added,
+            version: 3,
+            first: 4,
+        };
+        let shared = empty.apply_shared(rt, alloc, &commit, threads, &mut steps);
         let Ok(shared) = shared else {
             return Err("no commit by threads".into());
         };

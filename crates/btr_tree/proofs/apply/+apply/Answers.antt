@@ -52,46 +52,49 @@ left-many span below h x cut added each high slots children many =
 
 -- ---- an inner node
 
-pub apply_inner-build-requires-clause-order : goal.apply_inner-build-requires-clause-order
-apply_inner-build-requires-clause-order g t c =
-    let st = c.requires.some in
-    in-order (outside (points_of c.args.span.height c.args.span.start (bag st.2.commits)) c.args.cut.now ++ c.args.added.now) c.deref.result.now (c.deref.ensures.value ∙ c.in_ok-all.ensures st.0 st.2.commits st.1 st.2.holds st.2.each)
-
-pub apply_inner-build-requires-clause-inside : goal.apply_inner-build-requires-clause-inside
-apply_inner-build-requires-clause-inside g t c =
+pub apply_inner-build-requires : goal.apply_inner-build-requires
+apply_inner-build-requires g t c =
     let st = c.requires.some in
     let span = c.args.span in
-    let change = own-change span.height span.start c.args.version c.args.cut.now c.args.added.now c.requires.inside in
-    let mine = own c.args.version c.args.cut.now c.args.added.now in
-    parted-inside span.start (end_of span) (bag (mine ▷ st.2.commits)) c.deref.result.now (c.deref.ensures.value ∙ c.in_ok-all.ensures st.0 st.2.commits st.1 st.2.holds st.2.each ∙ sym (change-after span.height span.start st.2.commits mine c.args.cut.now c.args.added.now c.args.version change))
+    let change = own-change span.height span.start c.args.commit.numbering.version c.args.commit.cut.now c.args.commit.added.now c.requires.commit.inside in
+    let mine = own c.args.commit.numbering.version c.args.commit.cut.now c.args.commit.added.now in
+    let is = c.deref.ensures.value ∙ c.in_ok-all.ensures st.0 st.2.commits st.1 st.2.holds st.2.each in
+    let first = c.requires.commit.first in
+    record {
+      points = record {
+        order = in-order (outside (points_of span.height span.start (bag st.2.commits)) c.args.commit.cut.now ++ c.args.commit.added.now) c.deref.result.now is;
+        inside = parted-inside span.start (end_of span) (bag (mine ▷ st.2.commits)) c.deref.result.now (is ∙ sym (change-after span.height span.start st.2.commits mine c.args.commit.cut.now c.args.commit.added.now c.args.commit.numbering.version change));
+        first = (first.0, omega arith);
+      };
+    }
 
 pub apply_inner-returns-then-branch-clause-child : goal.apply_inner-returns-then-branch-clause-child
 apply_inner-returns-then-branch-clause-child g t c =
     let span = c.args.span in
     IfOk-weaker c.build.result _ _ (λ p made below h commit applied above touched.
-    let change = applied-change below span commit h c.args.cut.now c.args.added.now c.args.version c.args.slots.now applied in
-    let same : c.deref.result.now ≡ points_of span.height span.start (bag (commit ▷ h)) = c.deref.ensures.value ∙ c.in_ok-all.ensures below h applied.height applied.all applied.each ∙ sym (change-after span.height span.start h commit c.args.cut.now c.args.added.now c.args.version change) in
-    let count = change-count span.height span.start h commit c.args.cut.now c.args.added.now c.args.version _ change refl in
+    let change = applied-change below span commit h c.args.commit.cut.now c.args.commit.added.now c.args.commit.numbering.version c.args.slots.now applied in
+    let same : c.deref.result.now ≡ points_of span.height span.start (bag (commit ▷ h)) = c.deref.ensures.value ∙ c.in_ok-all.ensures below h applied.height applied.all applied.each ∙ sym (change-after span.height span.start h commit c.args.commit.cut.now c.args.commit.added.now c.args.commit.numbering.version change) in
+    let count = change-count span.height span.start h commit c.args.commit.cut.now c.args.commit.added.now c.args.commit.numbering.version _ change refl in
     let few = c.in_ok-is_few.ensures.few c.if-branch.true below h applied.height applied.all applied.each in
     let long = ap (length {A = Point}) same in
-    made above h commit (touched-fresh span.height span.start above h commit c.args.version c.deref.result.now change.number same touched (λ many. absurd (omega arith)))) c.build.ensures.child
+    made above h commit (touched-fresh span.height span.start above h commit c.args.commit.numbering.version c.deref.result.now change.number same touched (λ many. absurd (omega arith)))) c.build.ensures.child
 
 pub apply_inner-returns-then-branch-clause-fault : goal.apply_inner-returns-then-branch-clause-fault
 apply_inner-returns-then-branch-clause-fault g t c =
     let span = c.args.span in
     err-weaker c.build.result _ _ (λ e fault below h commit applied.
-    let change = applied-change below span commit h c.args.cut.now c.args.added.now c.args.version c.args.slots.now applied in
-    let same : c.deref.result.now ≡ points_of span.height span.start (bag (commit ▷ h)) = c.deref.ensures.value ∙ c.in_ok-all.ensures below h applied.height applied.all applied.each ∙ sym (change-after span.height span.start h commit c.args.cut.now c.args.added.now c.args.version change) in
+    let change = applied-change below span commit h c.args.commit.cut.now c.args.commit.added.now c.args.commit.numbering.version c.args.slots.now applied in
+    let same : c.deref.result.now ≡ points_of span.height span.start (bag (commit ▷ h)) = c.deref.ensures.value ∙ c.in_ok-all.ensures below h applied.height applied.all applied.each ∙ sym (change-after span.height span.start h commit c.args.commit.cut.now c.args.commit.added.now c.args.commit.numbering.version change) in
     subst (λ x. IsCrowdedFault span.start (end_of span) x e) same fault) c.build.ensures.fault
 
 pub apply_inner-returns-clause-child : goal.apply_inner-returns-clause-child
 apply_inner-returns-clause-child g t c below h commit applied above touched =
     let span = c.args.span in
-    let change = applied-change below span commit h c.args.cut.now c.args.added.now c.args.version c.args.slots.now applied in
-    let count = change-count span.height span.start h commit c.args.cut.now c.args.added.now c.args.version _ change refl in
-    let many = left-many span below h c.args.slots.now c.args.cut.now c.args.added.now (c.in_ok-is_few.ensures.many c.if-branch.false) applied.height applied.all applied.each applied.many in
+    let change = applied-change below span commit h c.args.commit.cut.now c.args.commit.added.now c.args.commit.numbering.version c.args.slots.now applied in
+    let count = change-count span.height span.start h commit c.args.commit.cut.now c.args.commit.added.now c.args.commit.numbering.version _ change refl in
+    let many = left-many span below h c.args.slots.now c.args.commit.cut.now c.args.commit.added.now (c.in_ok-is_few.ensures.many c.if-branch.false) applied.height applied.all applied.each applied.many in
     let made = c.in_ok-new_slots.ensures.slots below h commit applied in
-    inner-child_on span.height below span.start above h commit c.args.version c.in_ok-new_slots.new_slots (linked c.in_ok-push_inner.field-0) applied.height change.number touched (omega arith) made.0 made.1 c.in_ok-push_inner.ensures.child
+    inner-child_on span.height below span.start above h commit c.args.commit.numbering.version c.in_ok-new_slots.new_slots (linked c.in_ok-push_inner.field-0) applied.height change.number touched (omega arith) made.0 made.1 c.in_ok-push_inner.ensures.child
 
 -- ---- a child
 
@@ -102,19 +105,23 @@ apply_child-changed-requires-clause-points g t c =
     let leaf = leaf_data-is c.args.span.height c.args.span.start st.above st.commits c.in-Some.node.now.value c.in-Leaf.version c.in-Leaf.points (sym c.deref.ensures ∙ c.in-Leaf.is) node in
     subst IsInOrder (sym (c.deref-in-Leaf.ensures.value ∙ leaf.same)) (points-in_order c.args.span.height c.args.span.start st.commits)
 
-pub apply_child-build-requires-in-Leaf-clause-order : goal.apply_child-build-requires-in-Leaf-clause-order
-apply_child-build-requires-in-Leaf-clause-order g t c =
-    in-order (outside c.deref-in-Leaf.result.now c.args.cut.now ++ c.args.added.now) c.deref-in-Leaf-2.result.now (c.deref-in-Leaf-2.ensures.value ∙ c.in_ok-all-in-Leaf.ensures)
-
-pub apply_child-build-requires-in-Leaf-clause-inside : goal.apply_child-build-requires-in-Leaf-clause-inside
-apply_child-build-requires-in-Leaf-clause-inside g t c =
+pub apply_child-build-requires-in-Leaf : goal.apply_child-build-requires-in-Leaf
+apply_child-build-requires-in-Leaf g t c =
     let st = c.requires.some in
     let span = c.args.span in
     let node = child-is span.height span.start st.above st.commits c.args.child c.in-Some.node c.in-Some.is st.holds in
     let leaf = leaf_data-is span.height span.start st.above st.commits c.in-Some.node.now.value c.in-Leaf.version c.in-Leaf.points (sym c.deref.ensures ∙ c.in-Leaf.is) node in
-    let change = own-change span.height span.start c.args.version c.args.cut.now c.args.added.now c.requires.inside in
-    let mine = own c.args.version c.args.cut.now c.args.added.now in
-    parted-inside span.start (end_of span) (bag (mine ▷ st.commits)) c.deref-in-Leaf-2.result.now (c.deref-in-Leaf-2.ensures.value ∙ c.in_ok-all-in-Leaf.ensures ∙ ap (λ x. sort (outside x c.args.cut.now ++ c.args.added.now)) (c.deref-in-Leaf.ensures.value ∙ leaf.same) ∙ sym (change-after span.height span.start st.commits mine c.args.cut.now c.args.added.now c.args.version change))
+    let change = own-change span.height span.start c.args.commit.numbering.version c.args.commit.cut.now c.args.commit.added.now c.requires.commit.inside in
+    let mine = own c.args.commit.numbering.version c.args.commit.cut.now c.args.commit.added.now in
+    let is = c.deref-in-Leaf-2.ensures.value ∙ c.in_ok-all-in-Leaf.ensures in
+    let first = c.requires.commit.first in
+    record {
+      points = record {
+        order = in-order (outside c.deref-in-Leaf.result.now c.args.commit.cut.now ++ c.args.commit.added.now) c.deref-in-Leaf-2.result.now is;
+        inside = parted-inside span.start (end_of span) (bag (mine ▷ st.commits)) c.deref-in-Leaf-2.result.now (is ∙ ap (λ x. sort (outside x c.args.commit.cut.now ++ c.args.commit.added.now)) (c.deref-in-Leaf.ensures.value ∙ leaf.same) ∙ sym (change-after span.height span.start st.commits mine c.args.commit.cut.now c.args.commit.added.now c.args.commit.numbering.version change));
+        first = (first.0, omega arith);
+      };
+    }
 
 pub apply_child-apply_inner-requires : goal.apply_child-apply_inner-requires
 apply_child-apply_inner-requires g t c κs outlives =
@@ -135,10 +142,10 @@ apply_child-apply_inner-requires g t c κs outlives =
               commits = st.commits;
               holds = body.inner.all;
               each = body.each;
-              few = subst (λ k. length (points_of k span.start (bag st.commits)) + length c.args.added.now < 2 ^ 64) high st.few;
+              few = subst (λ k. length (points_of k span.start (bag st.commits)) + length c.args.commit.added.now < 2 ^ 64) high st.few;
             },
           ),
-          (c.requires.cut, (c.requires.order, (c.requires.inside, c.requires.first))),
+          c.requires.commit,
         ),
       ),
     )
@@ -148,16 +155,16 @@ apply_child-returns-in-None-clause-child g t c =
     let span = c.args.span in
     IfOk-weaker c.build.result _ _ (λ p made above h commit holds change touched.
     let none = none-is span.height span.start above h c.args.child c.in-None.is holds in
-    let same : c.args.added.now ≡ points_of span.height span.start (bag (commit ▷ h)) = sym (change-after span.height span.start h commit c.args.cut.now c.args.added.now c.args.version change ∙ ap (λ x. sort (outside x c.args.cut.now ++ c.args.added.now)) none ∙ sort-of_order c.args.added.now c.requires.order) in
+    let same : c.args.commit.added.now ≡ points_of span.height span.start (bag (commit ▷ h)) = sym (change-after span.height span.start h commit c.args.commit.cut.now c.args.commit.added.now c.args.commit.numbering.version change ∙ ap (λ x. sort (outside x c.args.commit.cut.now ++ c.args.commit.added.now)) none ∙ sort-of_order c.args.commit.added.now c.requires.commit.order) in
     let empty = ap (length {A = Point}) none in
-    made above h commit (touched-fresh span.height span.start above h commit c.args.version c.args.added.now change.number same touched (λ _. omega arith))) c.build.ensures.child
+    made above h commit (touched-fresh span.height span.start above h commit c.args.commit.numbering.version c.args.commit.added.now change.number same touched (λ _. omega arith))) c.build.ensures.child
 
 pub apply_child-returns-in-None-clause-fault : goal.apply_child-returns-in-None-clause-fault
 apply_child-returns-in-None-clause-fault g t c =
     let span = c.args.span in
     err-weaker c.build.result _ _ (λ e fault above h commit holds change.
     let none = none-is span.height span.start above h c.args.child c.in-None.is holds in
-    let same : c.args.added.now ≡ points_of span.height span.start (bag (commit ▷ h)) = sym (change-after span.height span.start h commit c.args.cut.now c.args.added.now c.args.version change ∙ ap (λ x. sort (outside x c.args.cut.now ++ c.args.added.now)) none ∙ sort-of_order c.args.added.now c.requires.order) in
+    let same : c.args.commit.added.now ≡ points_of span.height span.start (bag (commit ▷ h)) = sym (change-after span.height span.start h commit c.args.commit.cut.now c.args.commit.added.now c.args.commit.numbering.version change ∙ ap (λ x. sort (outside x c.args.commit.cut.now ++ c.args.commit.added.now)) none ∙ sort-of_order c.args.commit.added.now c.requires.commit.order) in
     subst (λ x. IsCrowdedFault span.start (end_of span) x e) same fault) c.build.ensures.fault
 
 pub apply_child-returns-in_ok-all-in-Leaf-clause-child : goal.apply_child-returns-in_ok-all-in-Leaf-clause-child
@@ -166,8 +173,8 @@ apply_child-returns-in_ok-all-in-Leaf-clause-child g t c =
     IfOk-weaker c.build-in-Leaf.result _ _ (λ p made above h commit holds change touched.
     let node = child-is span.height span.start above h c.args.child c.in-Some.node c.in-Some.is holds in
     let leaf = leaf_data-is span.height span.start above h c.in-Some.node.now.value c.in-Leaf.version c.in-Leaf.points (sym c.deref.ensures ∙ c.in-Leaf.is) node in
-    let same : c.deref-in-Leaf-2.result.now ≡ points_of span.height span.start (bag (commit ▷ h)) = c.deref-in-Leaf-2.ensures.value ∙ c.in_ok-all-in-Leaf.ensures ∙ ap (λ x. sort (outside x c.args.cut.now ++ c.args.added.now)) (c.deref-in-Leaf.ensures.value ∙ leaf.same) ∙ sym (change-after span.height span.start h commit c.args.cut.now c.args.added.now c.args.version change) in
-    made above h commit (touched-fresh span.height span.start above h commit c.args.version c.deref-in-Leaf-2.result.now change.number same touched (λ _. subst (λ x. length x ≤ LEAF_POINTS) leaf.same leaf.few))) c.build-in-Leaf.ensures.child
+    let same : c.deref-in-Leaf-2.result.now ≡ points_of span.height span.start (bag (commit ▷ h)) = c.deref-in-Leaf-2.ensures.value ∙ c.in_ok-all-in-Leaf.ensures ∙ ap (λ x. sort (outside x c.args.commit.cut.now ++ c.args.commit.added.now)) (c.deref-in-Leaf.ensures.value ∙ leaf.same) ∙ sym (change-after span.height span.start h commit c.args.commit.cut.now c.args.commit.added.now c.args.commit.numbering.version change) in
+    made above h commit (touched-fresh span.height span.start above h commit c.args.commit.numbering.version c.deref-in-Leaf-2.result.now change.number same touched (λ _. subst (λ x. length x ≤ LEAF_POINTS) leaf.same leaf.few))) c.build-in-Leaf.ensures.child
 
 pub apply_child-returns-in_ok-all-in-Leaf-clause-fault : goal.apply_child-returns-in_ok-all-in-Leaf-clause-fault
 apply_child-returns-in_ok-all-in-Leaf-clause-fault g t c =
@@ -175,7 +182,7 @@ apply_child-returns-in_ok-all-in-Leaf-clause-fault g t c =
     err-weaker c.build-in-Leaf.result _ _ (λ e fault above h commit holds change.
     let node = child-is span.height span.start above h c.args.child c.in-Some.node c.in-Some.is holds in
     let leaf = leaf_data-is span.height span.start above h c.in-Some.node.now.value c.in-Leaf.version c.in-Leaf.points (sym c.deref.ensures ∙ c.in-Leaf.is) node in
-    let same : c.deref-in-Leaf-2.result.now ≡ points_of span.height span.start (bag (commit ▷ h)) = c.deref-in-Leaf-2.ensures.value ∙ c.in_ok-all-in-Leaf.ensures ∙ ap (λ x. sort (outside x c.args.cut.now ++ c.args.added.now)) (c.deref-in-Leaf.ensures.value ∙ leaf.same) ∙ sym (change-after span.height span.start h commit c.args.cut.now c.args.added.now c.args.version change) in
+    let same : c.deref-in-Leaf-2.result.now ≡ points_of span.height span.start (bag (commit ▷ h)) = c.deref-in-Leaf-2.ensures.value ∙ c.in_ok-all-in-Leaf.ensures ∙ ap (λ x. sort (outside x c.args.commit.cut.now ++ c.args.commit.added.now)) (c.deref-in-Leaf.ensures.value ∙ leaf.same) ∙ sym (change-after span.height span.start h commit c.args.commit.cut.now c.args.commit.added.now c.args.commit.numbering.version change) in
     subst (λ x. IsCrowdedFault span.start (end_of span) x e) same fault) c.build-in-Leaf.ensures.fault
 
 body-applied : (span : SpanValue) (above : List Point → Bool) (h : Past) (commit : Commit) (cut : List RangeValue) (added : List Point) (v w : ℕ) (x : Slots) (body : IsBody span.height span.start above h w x) → IsChange span.height span.start commit cut added v → IsApplied body.below span h commit cut added v x
@@ -194,7 +201,7 @@ apply_child-returns-in-Inner-clause-child g t c =
     IfOk-weaker c.apply_inner.result _ _ (λ p made above h commit holds change touched.
     let node = child-is span.height span.start above h c.args.child c.in-Some.node c.in-Some.is holds in
     let body = inner_data-is span.height span.start above h c.in-Some.node.now.value c.in-Inner.version c.in-Inner.slots (sym c.deref.ensures ∙ c.in-Inner.is) node in
-    made body.below h commit (body-applied span above h commit c.args.cut.now c.args.added.now c.args.version c.in-Inner.version _ body change) above touched) c.apply_inner.ensures.child
+    made body.below h commit (body-applied span above h commit c.args.commit.cut.now c.args.commit.added.now c.args.commit.numbering.version c.in-Inner.version _ body change) above touched) c.apply_inner.ensures.child
 
 pub apply_child-returns-in-Inner-clause-fault : goal.apply_child-returns-in-Inner-clause-fault
 apply_child-returns-in-Inner-clause-fault g t c =
@@ -202,7 +209,7 @@ apply_child-returns-in-Inner-clause-fault g t c =
     err-weaker c.apply_inner.result _ _ (λ e fault above h commit holds change.
     let node = child-is span.height span.start above h c.args.child c.in-Some.node c.in-Some.is holds in
     let body = inner_data-is span.height span.start above h c.in-Some.node.now.value c.in-Inner.version c.in-Inner.slots (sym c.deref.ensures ∙ c.in-Inner.is) node in
-    fault body.below h commit (body-applied span above h commit c.args.cut.now c.args.added.now c.args.version c.in-Inner.version _ body change)) c.apply_inner.ensures.fault
+    fault body.below h commit (body-applied span above h commit c.args.commit.cut.now c.args.commit.added.now c.args.commit.numbering.version c.in-Inner.version _ body change)) c.apply_inner.ensures.fault
 
 -- ---- a slot
 
@@ -211,49 +218,42 @@ apply_slot-returns-then-branch-clause-child g t c was h commit w holds counted c
     let span = c.args.span in
     let begin = ap (λ p. p.start) c.span.view_is in
     let end = c.end.ensures.end in
-    let alike = here-alike span.start (end_of span) c.args.cut.now c.ranges_from.result.now c.ranges_before-here.result.now (λ u low. c.ranges_from.ensures.times u (omega (arith, ints))) (λ u high. c.ranges_before-here.ensures.times u (omega (arith, ints))) in
-    let here = change-here span.height span.start commit c.args.cut.now c.ranges_before-here.result.now c.args.added.now c.args.version change alike in
-    let same = is-untouched c.in_ok-is_untouched.field-0 (touches commit span.height span.start (bag h)) c.if-branch.true (c.in_ok-is_untouched.ensures c.args.version was h commit holds here counted) in
-    child-same span.height span.start was (commit ▷ h) (node_of c.args.child) (linked c.in_ok-share.field-0) c.in_ok-share.ensures (child-kept span.height span.start was h commit (node_of c.args.child) w same holds)
-
-pub apply_slot-returns-then-branch-clause-agg : goal.apply_slot-returns-then-branch-clause-agg
-apply_slot-returns-then-branch-clause-agg g t c was h commit w holds counted change =
-    let span = c.args.span in
-    let begin = ap (λ p. p.start) c.span.view_is in
-    let end = c.end.ensures.end in
-    let alike = here-alike span.start (end_of span) c.args.cut.now c.ranges_from.result.now c.ranges_before-here.result.now (λ u low. c.ranges_from.ensures.times u (omega (arith, ints))) (λ u high. c.ranges_before-here.ensures.times u (omega (arith, ints))) in
-    let here = change-here span.height span.start commit c.args.cut.now c.ranges_before-here.result.now c.args.added.now c.args.version change alike in
-    let same = is-untouched c.in_ok-is_untouched.field-0 (touches commit span.height span.start (bag h)) c.if-branch.true (c.in_ok-is_untouched.ensures c.args.version was h commit holds here counted) in
-    counted ∙ ap agg (sym (points-untouched span.height span.start commit h same))
+    let alike = here-alike span.start (end_of span) c.args.commit.cut.now c.ranges_from.result.now c.ranges_before-here.result.now (λ u low. c.ranges_from.ensures.times u (omega (arith, ints))) (λ u high. c.ranges_before-here.ensures.times u (omega (arith, ints))) in
+    let here = change-here span.height span.start commit c.args.commit.cut.now c.ranges_before-here.result.now c.args.commit.added.now c.args.commit.numbering.version change alike in
+    let same = is-untouched c.in_ok-is_untouched.field-0 (touches commit span.height span.start (bag h)) c.if-branch.true (c.in_ok-is_untouched.ensures was h commit holds here counted) in
+    child-same span.height span.start was (commit ▷ h) (node_of c.args.was.now.child) (linked c.in_ok-share.field-0) c.in_ok-share.ensures (child-kept span.height span.start was h commit (node_of c.args.was.now.child) w same holds)
 
 pub apply_slot-returns-then-branch-clause-slot : goal.apply_slot-returns-then-branch-clause-slot
-apply_slot-returns-then-branch-clause-slot g t c was h commit w holds counted change is =
+apply_slot-returns-then-branch-clause-slot g t c was h commit w holds counted change =
     let span = c.args.span in
     let begin = ap (λ p. p.start) c.span.view_is in
     let end = c.end.ensures.end in
-    let alike = here-alike span.start (end_of span) c.args.cut.now c.ranges_from.result.now c.ranges_before-here.result.now (λ u low. c.ranges_from.ensures.times u (omega (arith, ints))) (λ u high. c.ranges_before-here.ensures.times u (omega (arith, ints))) in
-    let here = change-here span.height span.start commit c.args.cut.now c.ranges_before-here.result.now c.args.added.now c.args.version change alike in
-    let same = is-untouched c.in_ok-is_untouched.field-0 (touches commit span.height span.start (bag h)) c.if-branch.true (c.in_ok-is_untouched.ensures c.args.version was h commit holds here counted) in
-    is ∙ slot-same _ _ _ _ (ap agg (sym (points-untouched span.height span.start commit h same))) (sym (last_change-kept was span.height span.start h commit same w))
+    let alike = here-alike span.start (end_of span) c.args.commit.cut.now c.ranges_from.result.now c.ranges_before-here.result.now (λ u low. c.ranges_from.ensures.times u (omega (arith, ints))) (λ u high. c.ranges_before-here.ensures.times u (omega (arith, ints))) in
+    let here = change-here span.height span.start commit c.args.commit.cut.now c.ranges_before-here.result.now c.args.commit.added.now c.args.commit.numbering.version change alike in
+    let same = is-untouched c.in_ok-is_untouched.field-0 (touches commit span.height span.start (bag h)) c.if-branch.true (c.in_ok-is_untouched.ensures was h commit holds here counted) in
+    record {
+      agg = counted ∙ ap agg (sym (points-untouched span.height span.start commit h same));
+      is = λ is. is ∙ slot-same _ _ _ _ (ap agg (sym (points-untouched span.height span.start commit h same))) (sym (last_change-kept was span.height span.start h commit same w));
+    }
 
 pub apply_slot-returns-in_err-new_child-clause-fault : goal.apply_slot-returns-in_err-new_child-clause-fault
 apply_slot-returns-in_err-new_child-clause-fault g t c =
     let span = c.args.span in
     let begin = ap (λ p. p.start) c.span.view_is in
     let end = c.end.ensures.end in
-    let alike = here-alike span.start (end_of span) c.args.cut.now c.ranges_from.result.now c.ranges_before-here.result.now (λ u low. c.ranges_from.ensures.times u (omega (arith, ints))) (λ u high. c.ranges_before-here.ensures.times u (omega (arith, ints))) in
+    let alike = here-alike span.start (end_of span) c.args.commit.cut.now c.ranges_from.result.now c.ranges_before-here.result.now (λ u low. c.ranges_from.ensures.times u (omega (arith, ints))) (λ u high. c.ranges_before-here.ensures.times u (omega (arith, ints))) in
     let p = err_from_is_err_and c.from_residual-in_err-new_child.result c.from_residual-in_err-new_child.ensures.1 in
-    rw (p.1, p.2) (λ was h commit w holds counted change. c.in_err-new_child.ensures.fault was h commit holds (change-here span.height span.start commit c.args.cut.now c.ranges_before-here.result.now c.args.added.now c.args.version change alike))
+    rw (p.1, p.2) (λ was h commit w holds counted change. c.in_err-new_child.ensures.fault was h commit holds (change-here span.height span.start commit c.args.commit.cut.now c.ranges_before-here.result.now c.args.commit.added.now c.args.commit.numbering.version change alike))
 
 pub apply_slot-agg_of_child-agg-requires : goal.apply_slot-agg_of_child-agg-requires
 apply_slot-agg_of_child-agg-requires g t c =
     let st = c.requires.some in
     let span = c.args.span in
-    let mine = own c.args.version c.ranges_before-here.result.now c.args.added.now in
-    let change = own-change span.height span.start c.args.version c.ranges_before-here.result.now c.args.added.now c.requires.inside in
-    let touched = is-touched c.in_ok-is_untouched.field-0 (touches mine span.height span.start (bag st.commits)) c.if-branch.false (c.in_ok-is_untouched.ensures c.args.version st.above st.commits mine st.holds change st.counted) in
+    let mine = own c.args.commit.numbering.version c.ranges_before-here.result.now c.args.commit.added.now in
+    let change = own-change span.height span.start c.args.commit.numbering.version c.ranges_before-here.result.now c.args.commit.added.now c.requires.commit.inside in
+    let touched = is-touched c.in_ok-is_untouched.field-0 (touches mine span.height span.start (bag st.commits)) c.if-branch.false (c.in_ok-is_untouched.ensures st.above st.commits mine st.holds change st.counted) in
     let fewer = after-fewer span.height span.start st.commits mine in
-    let inside = ap (length {A = Point}) c.requires.inside in
+    let inside = ap (length {A = Point}) c.requires.commit.inside in
     let few = st.few in
     subst IsCounted (sym c.seen.ensures) (child-counted span.height span.start st.above (mine ▷ st.commits) (linked c.in_ok-new_child.new_child) (omega arith) (c.in_ok-new_child.ensures.child st.above st.commits mine st.holds change touched))
 
@@ -262,24 +262,24 @@ apply_slot-returns-clause-child g t c was h commit w holds counted change =
     let span = c.args.span in
     let begin = ap (λ p. p.start) c.span.view_is in
     let end = c.end.ensures.end in
-    let alike = here-alike span.start (end_of span) c.args.cut.now c.ranges_from.result.now c.ranges_before-here.result.now (λ u low. c.ranges_from.ensures.times u (omega (arith, ints))) (λ u high. c.ranges_before-here.ensures.times u (omega (arith, ints))) in
-    let here = change-here span.height span.start commit c.args.cut.now c.ranges_before-here.result.now c.args.added.now c.args.version change alike in
-    let touched = is-touched c.in_ok-is_untouched.field-0 (touches commit span.height span.start (bag h)) c.if-branch.false (c.in_ok-is_untouched.ensures c.args.version was h commit holds here counted) in
+    let alike = here-alike span.start (end_of span) c.args.commit.cut.now c.ranges_from.result.now c.ranges_before-here.result.now (λ u low. c.ranges_from.ensures.times u (omega (arith, ints))) (λ u high. c.ranges_before-here.ensures.times u (omega (arith, ints))) in
+    let here = change-here span.height span.start commit c.args.commit.cut.now c.ranges_before-here.result.now c.args.commit.added.now c.args.commit.numbering.version change alike in
+    let touched = is-touched c.in_ok-is_untouched.field-0 (touches commit span.height span.start (bag h)) c.if-branch.false (c.in_ok-is_untouched.ensures was h commit holds here counted) in
     c.in_ok-new_child.ensures.child was h commit holds here touched
 
-pub apply_slot-returns-clause-agg : goal.apply_slot-returns-clause-agg
-apply_slot-returns-clause-agg g t c was h commit w holds counted change =
-    c.agg_of_child-agg.ensures c.args.span.height c.args.span.start was (commit ▷ h) (child-same c.args.span.height c.args.span.start was (commit ▷ h) (linked c.in_ok-new_child.new_child) (node_of c.seen.result) c.seen.ensures (apply_slot-returns-clause-child g t c was h commit w holds counted change))
-
 pub apply_slot-returns-clause-slot : goal.apply_slot-returns-clause-slot
-apply_slot-returns-clause-slot g t c was h commit w holds counted change is =
+apply_slot-returns-clause-slot g t c was h commit w holds counted change =
     let span = c.args.span in
     let begin = ap (λ p. p.start) c.span.view_is in
     let end = c.end.ensures.end in
-    let alike = here-alike span.start (end_of span) c.args.cut.now c.ranges_from.result.now c.ranges_before-here.result.now (λ u low. c.ranges_from.ensures.times u (omega (arith, ints))) (λ u high. c.ranges_before-here.ensures.times u (omega (arith, ints))) in
-    let here = change-here span.height span.start commit c.args.cut.now c.ranges_before-here.result.now c.args.added.now c.args.version change alike in
-    let touched = is-touched c.in_ok-is_untouched.field-0 (touches commit span.height span.start (bag h)) c.if-branch.false (c.in_ok-is_untouched.ensures c.args.version was h commit holds here counted) in
-    slot-same _ _ _ _ (apply_slot-returns-clause-agg g t c was h commit w holds counted change) (last_change-touched was span.height span.start h commit c.args.version change.number touched)
+    let alike = here-alike span.start (end_of span) c.args.commit.cut.now c.ranges_from.result.now c.ranges_before-here.result.now (λ u low. c.ranges_from.ensures.times u (omega (arith, ints))) (λ u high. c.ranges_before-here.ensures.times u (omega (arith, ints))) in
+    let here = change-here span.height span.start commit c.args.commit.cut.now c.ranges_before-here.result.now c.args.commit.added.now c.args.commit.numbering.version change alike in
+    let touched = is-touched c.in_ok-is_untouched.field-0 (touches commit span.height span.start (bag h)) c.if-branch.false (c.in_ok-is_untouched.ensures was h commit holds here counted) in
+    let joined = c.agg_of_child-agg.ensures span.height span.start was (commit ▷ h) (child-same span.height span.start was (commit ▷ h) (linked c.in_ok-new_child.new_child) (node_of c.seen.result) c.seen.ensures (c.in_ok-new_child.ensures.child was h commit holds here touched)) in
+    record {
+      agg = joined;
+      is = λ is. slot-same _ _ _ _ joined (last_change-touched was span.height span.start h commit c.args.commit.numbering.version change.number touched);
+    }
 
 -- ---- the slots
 
@@ -292,14 +292,27 @@ apply_slots-apply_slot-requires g t c κs outlives =
     let i = c.loop-i.i in
     let part = c.slot-part.result in
     let end = c.end.ensures.end in
-    let at = parted-at span part below i c.args.added.now c.loop-i.rest.now c.parted.result.0.now c.parted.result.1.now _ high c.loop-i-test.true c.slot-part.ensures c.end.ensures.span (omega (arith, ints)) (c.loop-i.invariant.rest below high) c.parted.ensures.before c.parted.ensures.from in
+    let at = parted-at span part below i c.args.commit.added.now c.loop-i.rest.now c.parted.result.0.now c.parted.result.1.now _ high c.loop-i-test.true c.slot-part.ensures c.end.ensures.span (omega (arith, ints)) (c.loop-i.invariant.rest below high) c.parted.ensures.before c.parted.ensures.from in
     let known = slot-at span below st.2.commits i part c.slot.result (node_of c.child.result) c.args.slots.now high st.2.holds st.2.each c.loop-i-test.true c.slot-part.ensures c.slot.ensures c.child.ensures in
     let fewer = slot-few below span.start st.2.commits i part c.loop-i-test.true at.is in
-    let less : length c.parted.result.0.now ≤ length c.args.added.now = subst (λ x. length x ≤ length c.args.added.now) (sym at.has) (length-filter (is_within part.start (end_of part)) c.args.added.now) in
+    let less : length c.parted.result.0.now ≤ length c.args.commit.added.now = subst (λ x. length x ≤ length c.args.commit.added.now) (sym at.has) (length-filter (is_within part.start (end_of part)) c.args.commit.added.now) in
     let few = st.2.few in
     let down : part.height ≡ below = ap (λ u. u.height) at.is in
-    let d = c.decreases in
-    (omega arith, (outlives, (record { above = is_inner (suc below) span.start; commits = st.2.commits; holds = known.holds; counted = known.counted; few = omega arith }, (c.requires.cut, (subst IsInOrder (sym c.parted.ensures.before) (filter-in_order _ c.loop-i.rest.now c.loop-i.invariant.order), (parted-inside part.start (end_of part) c.args.added.now c.parted.result.0.now at.has, c.requires.first))))))
+    let d = c.decreases in (
+      omega arith,
+      (
+        outlives,
+        (
+          record { above = is_inner (suc below) span.start; commits = st.2.commits; holds = known.holds; counted = known.counted; few = omega arith },
+          record {
+            cut = c.requires.commit.cut;
+            order = subst IsInOrder (sym c.parted.ensures.before) (filter-in_order _ c.loop-i.rest.now c.loop-i.invariant.order);
+            inside = parted-inside part.start (end_of part) c.args.commit.added.now c.parted.result.0.now at.has;
+            first = c.requires.commit.first;
+          },
+        ),
+      ),
+    )
 
 pub apply_slots-returns-in_err-slot-clause-fault : goal.apply_slots-returns-in_err-slot-clause-fault
 apply_slots-returns-in_err-slot-clause-fault g t c =
@@ -310,8 +323,8 @@ apply_slots-returns-in_err-slot-clause-fault g t c =
     let end = c.end.ensures.end in
     let p = err_from_is_err_and c.from_residual-in_err-slot.result c.from_residual-in_err-slot.ensures.1 in
     rw (p.1, p.2) (λ below h commit applied.
-    let at = parted-at span part below i c.args.added.now c.loop-i.rest.now here c.parted.result.1.now _ applied.height c.loop-i-test.true c.slot-part.ensures c.end.ensures.span (omega (arith, ints)) (c.loop-i.invariant.rest below applied.height) c.parted.ensures.before c.parted.ensures.from in
-    let step = step-at span part below i h commit c.slot.result (node_of c.child.result) c.args.cut.now c.args.added.now here c.parted.result.1.now c.args.version c.args.slots.now applied at c.loop-i-test.true c.slot-part.ensures c.slot.ensures c.child.ensures in
+    let at = parted-at span part below i c.args.commit.added.now c.loop-i.rest.now here c.parted.result.1.now _ applied.height c.loop-i-test.true c.slot-part.ensures c.end.ensures.span (omega (arith, ints)) (c.loop-i.invariant.rest below applied.height) c.parted.ensures.before c.parted.ensures.from in
+    let step = step-at span part below i h commit c.slot.result (node_of c.child.result) c.args.commit.cut.now c.args.commit.added.now here c.parted.result.1.now c.args.commit.numbering.version c.args.slots.now applied at c.loop-i-test.true c.slot-part.ensures c.slot.ensures c.child.ensures in
     let fault = c.in_err-slot.ensures.fault (is_inner (suc below) span.start) h commit step.was step.holds (ap (λ (x : Slot). x.agg) step.slot_is) step.change in
     let after = parted-of span part below i (bag (commit ▷ h)) applied.height c.loop-i-test.true c.slot-part.ensures c.end.ensures.span in
     subst (λ k. IsCrowdedFault span.start (end_of span) (points_of k span.start (bag (commit ▷ h))) c.in_err-slot.field-0.0) (sym applied.height) (crowding-part span part below i (points_of (suc below) span.start (bag (commit ▷ h))) (points_of part.height part.start (bag (commit ▷ h))) _ c.in_err-slot.field-0.0 after (c.loop-i.invariant.room below h commit applied) fault))
@@ -324,33 +337,33 @@ apply_slots-loop-i-preserved g t c =
     let here = c.parted.result.0.now in
     let behind = c.parted.result.1.now in
     let end = c.end.ensures.end in
-    let at = λ (below : ℕ) (high : span.height ≡ suc below). parted-at span part below i c.args.added.now c.loop-i.rest.now here behind _ high c.loop-i-test.true c.slot-part.ensures c.end.ensures.span (omega (arith, ints)) (c.loop-i.invariant.rest below high) c.parted.ensures.before c.parted.ensures.from in
+    let at = λ (below : ℕ) (high : span.height ≡ suc below). parted-at span part below i c.args.commit.added.now c.loop-i.rest.now here behind _ high c.loop-i-test.true c.slot-part.ensures c.end.ensures.span (omega (arith, ints)) (c.loop-i.invariant.rest below high) c.parted.ensures.before c.parted.ensures.from in
     record {
       rest = λ below high. (at below high).leaves;
       order = subst IsInOrder (sym c.parted.ensures.from) (filter-in_order _ c.loop-i.rest.now c.loop-i.invariant.order);
       slots = λ below h commit applied.
           let parted = at below applied.height in
-          let step = step-at span part below i h commit c.slot.result (node_of c.child.result) c.args.cut.now c.args.added.now here behind c.args.version c.args.slots.now applied parted c.loop-i-test.true c.slot-part.ensures c.slot.ensures c.child.ensures in
+          let step = step-at span part below i h commit c.slot.result (node_of c.child.result) c.args.commit.cut.now c.args.commit.added.now here behind c.args.commit.numbering.version c.args.slots.now applied parted c.loop-i-test.true c.slot-part.ensures c.slot.ensures c.child.ensures in
           let before = c.loop-i.invariant.slots below h commit applied in
-          let slot = subst (λ (u : SpanValue). c.in_ok-slot.slot ≡ slot_at (is_inner (suc below) span.start) u.height u.start (commit ▷ h)) parted.is (c.in_ok-slot.ensures.slot (is_inner (suc below) span.start) h commit step.was step.holds (ap (λ (x : Slot). x.agg) step.slot_is) step.change step.slot_is) in
+          let slot = subst (λ (u : SpanValue). c.in_ok-slot.slot ≡ slot_at (is_inner (suc below) span.start) u.height u.start (commit ▷ h)) parted.is ((c.in_ok-slot.ensures.slot (is_inner (suc below) span.start) h commit step.was step.holds (ap (λ (x : Slot). x.agg) step.slot_is) step.change).is step.slot_is) in
           let child = subst (λ (u : SpanValue). IsChild u.height u.start (is_inner (suc below) span.start) (commit ▷ h) (linked c.in_ok-slot.child)) parted.is (c.in_ok-slot.ensures.child (is_inner (suc below) span.start) h commit step.was step.holds (ap (λ (x : Slot). x.agg) step.slot_is) step.change) in
           first-put below span.start (commit ▷ h) i c.loop-i.new_slots c.put.new.self c.in_ok-slot.slot (linked c.in_ok-slot.child) c.in_ok-put.ensures before slot child;
       filled = c.in_ok-put.ensures.filled;
       base = c.in_ok-put.ensures.base ∙ c.loop-i.invariant.base;
       nodes = λ below h commit applied many some before.
           let parted = at below applied.height in
-          let step = step-at span part below i h commit c.slot.result (node_of c.child.result) c.args.cut.now c.args.added.now here behind c.args.version c.args.slots.now applied parted c.loop-i-test.true c.slot-part.ensures c.slot.ensures c.child.ensures in
+          let step = step-at span part below i h commit c.slot.result (node_of c.child.result) c.args.commit.cut.now c.args.commit.added.now here behind c.args.commit.numbering.version c.args.slots.now applied parted c.loop-i-test.true c.slot-part.ensures c.slot.ensures c.child.ensures in
           let inner = many-inner (suc below) span.start (bag (commit ▷ h)) many in
           let reported = c.in_ok-slot.ensures.nodes (is_inner (suc below) span.start) h commit step.was step.holds (ap (λ (x : Slot). x.agg) step.slot_is) step.change inner some before in
-          let f = λ (j : ℕ). new_nodes below (slot_start below span.start j) (is_inner (suc below) span.start) (commit ▷ h) c.args.version in
-          reported-more (bare_all c.args.nodes.now.items) (bare_all c.loop-i.nodes.items) (bare_all c.apply_slot.new.nodes.items) (concat_first i f) (f i) (concat_first (i + 1) f) (c.loop-i.invariant.nodes below h commit applied many some before) (reported ∙ ap (λ (u : SpanValue). bare_all c.loop-i.nodes.items ++ new_nodes u.height u.start (is_inner (suc below) span.start) (commit ▷ h) c.args.version) parted.is) (first-next i f);
+          let f = λ (j : ℕ). new_nodes below (slot_start below span.start j) (is_inner (suc below) span.start) (commit ▷ h) c.args.commit.numbering.version in
+          reported-more (bare_all c.args.nodes.now.items) (bare_all c.loop-i.nodes.items) (bare_all c.apply_slot.new.nodes.items) (concat_first i f) (f i) (concat_first (i + 1) f) (c.loop-i.invariant.nodes below h commit applied many some before) (reported ∙ ap (λ (u : SpanValue). bare_all c.loop-i.nodes.items ++ new_nodes u.height u.start (is_inner (suc below) span.start) (commit ▷ h) c.args.commit.numbering.version) parted.is) (first-next i f);
       counted = counts-more c.args.steps.now c.loop-i.steps c.apply_slot.new.steps c.args.nodes.now.items c.loop-i.nodes.items c.apply_slot.new.nodes.items c.loop-i.invariant.counted c.in_ok-slot.ensures.counted;
       stored = λ store below high low.
           let part_is = (at below high).is in
-          laid-put store c.args.first c.loop-i.steps c.apply_slot.new.steps c.loop-i.nodes.items c.apply_slot.new.nodes.items below span.start i c.loop-i.new_slots c.put.new.self c.in_ok-slot.slot (linked c.in_ok-slot.child) c.in_ok-slot.ensures.counted c.in_ok-put.ensures (c.loop-i.invariant.stored store below high low) (laid-part store c.args.first c.apply_slot.new.nodes.items part below span.start i (linked c.in_ok-slot.child) part_is (c.in_ok-slot.ensures.stored store (below-part store c.args.first part below span.start i c.args.slots.now (node_of c.child.result) part_is c.loop-i-test.true c.child.ensures low)));
+          laid-put store c.args.commit.numbering.first c.loop-i.steps c.apply_slot.new.steps c.loop-i.nodes.items c.apply_slot.new.nodes.items below span.start i c.loop-i.new_slots c.put.new.self c.in_ok-slot.slot (linked c.in_ok-slot.child) c.in_ok-slot.ensures.counted c.in_ok-put.ensures (c.loop-i.invariant.stored store below high low) (laid-part store c.args.commit.numbering.first c.apply_slot.new.nodes.items part below span.start i (linked c.in_ok-slot.child) part_is (c.in_ok-slot.ensures.stored store (below-part store c.args.commit.numbering.first part below span.start i c.args.slots.now (node_of c.child.result) part_is c.loop-i-test.true c.child.ensures low)));
       room = λ below h commit applied.
           let parted = at below applied.height in
-          let step = step-at span part below i h commit c.slot.result (node_of c.child.result) c.args.cut.now c.args.added.now here behind c.args.version c.args.slots.now applied parted c.loop-i-test.true c.slot-part.ensures c.slot.ensures c.child.ensures in
+          let step = step-at span part below i h commit c.slot.result (node_of c.child.result) c.args.commit.cut.now c.args.commit.added.now here behind c.args.commit.numbering.version c.args.slots.now applied parted c.loop-i-test.true c.slot-part.ensures c.slot.ensures c.child.ensures in
           let child = c.in_ok-slot.ensures.child (is_inner (suc below) span.start) h commit step.was step.holds (ap (λ (x : Slot). x.agg) step.slot_is) step.change in
           let room = child-room part.height part.start (is_inner (suc below) span.start) (commit ▷ h) (linked c.in_ok-slot.child) c.end.ensures.span child in
           let after = parted-of span part below i (bag (commit ▷ h)) applied.height c.loop-i-test.true c.slot-part.ensures c.end.ensures.span in
@@ -372,11 +385,11 @@ apply_slots-loop-i-preserved-then-is_empty-2 g t c =
     let end = c.end.ensures.end in
     let slot_was = slot_in c.args.slots.now i in
     let child_was = child_in c.args.slots.now i in
-    let no_cut = empty-is c.args.cut.now (sym c.is_empty.ensures ∙ c.if-is_empty.true) in
+    let no_cut = empty-is c.args.commit.cut.now (sym c.is_empty.ensures ∙ c.if-is_empty.true) in
     let none = empty-is here (sym c.is_empty-then-is_empty.ensures ∙ c.if-is_empty-2.true) in
-    let at = λ (below : ℕ) (high : span.height ≡ suc below). parted-at span part below i c.args.added.now c.loop-i.rest.now here behind _ high c.loop-i-test.true c.slot-part.ensures c.end.ensures.span (omega (arith, ints)) (c.loop-i.invariant.rest below high) c.parted.ensures.before c.parted.ensures.from in
-    let step = λ (below : ℕ) (h : Past) (commit : Commit) (applied : IsApplied below span h commit c.args.cut.now c.args.added.now c.args.version c.args.slots.now). step-at span part below i h commit slot_was child_was c.args.cut.now c.args.added.now here behind c.args.version c.args.slots.now applied (at below applied.height) c.loop-i-test.true c.slot-part.ensures refl refl in
-    let same = λ (below : ℕ) (h : Past) (commit : Commit) (applied : IsApplied below span h commit c.args.cut.now c.args.added.now c.args.version c.args.slots.now). untouched-nothing part.height part.start h commit c.args.cut.now here c.args.version (step below h commit applied).change no_cut none in
+    let at = λ (below : ℕ) (high : span.height ≡ suc below). parted-at span part below i c.args.commit.added.now c.loop-i.rest.now here behind _ high c.loop-i-test.true c.slot-part.ensures c.end.ensures.span (omega (arith, ints)) (c.loop-i.invariant.rest below high) c.parted.ensures.before c.parted.ensures.from in
+    let step = λ (below : ℕ) (h : Past) (commit : Commit) (applied : IsApplied below span h commit c.args.commit.cut.now c.args.commit.added.now c.args.commit.numbering.version c.args.slots.now). step-at span part below i h commit slot_was child_was c.args.commit.cut.now c.args.commit.added.now here behind c.args.commit.numbering.version c.args.slots.now applied (at below applied.height) c.loop-i-test.true c.slot-part.ensures refl refl in
+    let same = λ (below : ℕ) (h : Past) (commit : Commit) (applied : IsApplied below span h commit c.args.commit.cut.now c.args.commit.added.now c.args.commit.numbering.version c.args.slots.now). untouched-nothing part.height part.start h commit c.args.commit.cut.now here c.args.commit.numbering.version (step below h commit applied).change no_cut none in
     record {
       rest = λ below high. (at below high).leaves;
       order = subst IsInOrder (sym c.parted.ensures.from) (filter-in_order _ c.loop-i.rest.now c.loop-i.invariant.order);
@@ -391,12 +404,12 @@ apply_slots-loop-i-preserved-then-is_empty-2 g t c =
       nodes = λ below h commit applied many some before.
           let was = step below h commit applied in
           let kept = same below h commit applied in
-          let f = λ (j : ℕ). new_nodes below (slot_start below span.start j) (is_inner (suc below) span.start) (commit ▷ h) c.args.version in
-          let no_node : f i ≡ [] = subst (λ (u : SpanValue). new_nodes u.height u.start (is_inner (suc below) span.start) (commit ▷ h) c.args.version ≡ []) (at below applied.height).is (new_nodes-kept part.height part.start (is_inner (suc below) span.start) h commit c.args.version was.was kept some before) in
+          let f = λ (j : ℕ). new_nodes below (slot_start below span.start j) (is_inner (suc below) span.start) (commit ▷ h) c.args.commit.numbering.version in
+          let no_node : f i ≡ [] = subst (λ (u : SpanValue). new_nodes u.height u.start (is_inner (suc below) span.start) (commit ▷ h) c.args.commit.numbering.version ≡ []) (at below applied.height).is (new_nodes-kept part.height part.start (is_inner (suc below) span.start) h commit c.args.commit.numbering.version was.was kept some before) in
           reported-more (bare_all c.args.nodes.now.items) (bare_all c.loop-i.nodes.items) (bare_all c.loop-i.nodes.items) (concat_first i f) (f i) (concat_first (i + 1) f) (c.loop-i.invariant.nodes below h commit applied many some before) (sym (ap (λ x. bare_all c.loop-i.nodes.items ++ x) no_node ∙ append-nil (bare_all c.loop-i.nodes.items))) (first-next i f);
       counted = c.loop-i.invariant.counted;
       stored = λ store below high low.
-          laid-put store c.args.first c.loop-i.steps c.loop-i.steps c.loop-i.nodes.items c.loop-i.nodes.items below span.start i c.loop-i.new_slots c.put_from.new.self slot_was child_was (counts-none c.loop-i.steps c.loop-i.nodes.items) c.in_ok-put_from.ensures (c.loop-i.invariant.stored store below high low) (laid-below store c.args.first c.loop-i.nodes.items below (slot_start below span.start i) child_was (low i c.loop-i-test.true));
+          laid-put store c.args.commit.numbering.first c.loop-i.steps c.loop-i.steps c.loop-i.nodes.items c.loop-i.nodes.items below span.start i c.loop-i.new_slots c.put_from.new.self slot_was child_was (counts-none c.loop-i.steps c.loop-i.nodes.items) c.in_ok-put_from.ensures (c.loop-i.invariant.stored store below high low) (laid-below store c.args.commit.numbering.first c.loop-i.nodes.items below (slot_start below span.start i) child_was (low i c.loop-i-test.true));
       room = λ below h commit applied.
           let was = step below h commit applied in
           let kept = same below h commit applied in
@@ -417,51 +430,51 @@ apply_slot-returns-then-branch-clause-nodes g t c was h commit w holds counted c
     let span = c.args.span in
     let begin = ap (λ p. p.start) c.span.view_is in
     let end = c.end.ensures.end in
-    let alike = here-alike span.start (end_of span) c.args.cut.now c.ranges_from.result.now c.ranges_before-here.result.now (λ u low. c.ranges_from.ensures.times u (omega (arith, ints))) (λ u high. c.ranges_before-here.ensures.times u (omega (arith, ints))) in
-    let here = change-here span.height span.start commit c.args.cut.now c.ranges_before-here.result.now c.args.added.now c.args.version change alike in
-    let same = is-untouched c.in_ok-is_untouched.field-0 (touches commit span.height span.start (bag h)) c.if-branch.true (c.in_ok-is_untouched.ensures c.args.version was h commit holds here counted) in
-    sym (ap (λ x. bare_all c.args.nodes.now.items ++ x) (new_nodes-kept span.height span.start was h commit c.args.version w same some before) ∙ append-nil (bare_all c.args.nodes.now.items))
+    let alike = here-alike span.start (end_of span) c.args.commit.cut.now c.ranges_from.result.now c.ranges_before-here.result.now (λ u low. c.ranges_from.ensures.times u (omega (arith, ints))) (λ u high. c.ranges_before-here.ensures.times u (omega (arith, ints))) in
+    let here = change-here span.height span.start commit c.args.commit.cut.now c.ranges_before-here.result.now c.args.commit.added.now c.args.commit.numbering.version change alike in
+    let same = is-untouched c.in_ok-is_untouched.field-0 (touches commit span.height span.start (bag h)) c.if-branch.true (c.in_ok-is_untouched.ensures was h commit holds here counted) in
+    sym (ap (λ x. bare_all c.args.nodes.now.items ++ x) (new_nodes-kept span.height span.start was h commit c.args.commit.numbering.version w same some before) ∙ append-nil (bare_all c.args.nodes.now.items))
 
 pub apply_slot-returns-clause-nodes : goal.apply_slot-returns-clause-nodes
 apply_slot-returns-clause-nodes g t c was h commit w holds counted change now some before =
     let span = c.args.span in
     let begin = ap (λ p. p.start) c.span.view_is in
     let end = c.end.ensures.end in
-    let alike = here-alike span.start (end_of span) c.args.cut.now c.ranges_from.result.now c.ranges_before-here.result.now (λ u low. c.ranges_from.ensures.times u (omega (arith, ints))) (λ u high. c.ranges_before-here.ensures.times u (omega (arith, ints))) in
-    let here = change-here span.height span.start commit c.args.cut.now c.ranges_before-here.result.now c.args.added.now c.args.version change alike in
-    let touched = is-touched c.in_ok-is_untouched.field-0 (touches commit span.height span.start (bag h)) c.if-branch.false (c.in_ok-is_untouched.ensures c.args.version was h commit holds here counted) in
+    let alike = here-alike span.start (end_of span) c.args.commit.cut.now c.ranges_from.result.now c.ranges_before-here.result.now (λ u low. c.ranges_from.ensures.times u (omega (arith, ints))) (λ u high. c.ranges_before-here.ensures.times u (omega (arith, ints))) in
+    let here = change-here span.height span.start commit c.args.commit.cut.now c.ranges_before-here.result.now c.args.commit.added.now c.args.commit.numbering.version change alike in
+    let touched = is-touched c.in_ok-is_untouched.field-0 (touches commit span.height span.start (bag h)) c.if-branch.false (c.in_ok-is_untouched.ensures was h commit holds here counted) in
     c.in_ok-new_child.ensures.nodes was h commit holds here touched now some before
 
 pub apply_inner-returns-then-branch-clause-nodes : goal.apply_inner-returns-then-branch-clause-nodes
 apply_inner-returns-then-branch-clause-nodes g t c =
     let span = c.args.span in
     on_ok_weaker c.build.result (λ reported below h commit applied above touched w some before.
-    let change = applied-change below span commit h c.args.cut.now c.args.added.now c.args.version c.args.slots.now applied in
-    let same : c.deref.result.now ≡ points_of span.height span.start (bag (commit ▷ h)) = c.deref.ensures.value ∙ c.in_ok-all.ensures below h applied.height applied.all applied.each ∙ sym (change-after span.height span.start h commit c.args.cut.now c.args.added.now c.args.version change) in
-    let count = change-count span.height span.start h commit c.args.cut.now c.args.added.now c.args.version _ change refl in
+    let change = applied-change below span commit h c.args.commit.cut.now c.args.commit.added.now c.args.commit.numbering.version c.args.slots.now applied in
+    let same : c.deref.result.now ≡ points_of span.height span.start (bag (commit ▷ h)) = c.deref.ensures.value ∙ c.in_ok-all.ensures below h applied.height applied.all applied.each ∙ sym (change-after span.height span.start h commit c.args.commit.cut.now c.args.commit.added.now c.args.commit.numbering.version change) in
+    let count = change-count span.height span.start h commit c.args.commit.cut.now c.args.commit.added.now c.args.commit.numbering.version _ change refl in
     let few = c.in_ok-is_few.ensures.few c.if-branch.true below h applied.height applied.all applied.each in
     let long = ap (length {A = Point}) same in
-    reported above h commit (touched-fresh span.height span.start above h commit c.args.version c.deref.result.now change.number same touched (λ many. absurd (omega arith))) w) c.build.ensures.nodes
+    reported above h commit (touched-fresh span.height span.start above h commit c.args.commit.numbering.version c.deref.result.now change.number same touched (λ many. absurd (omega arith))) w) c.build.ensures.nodes
 
 pub apply_inner-returns-clause-nodes : goal.apply_inner-returns-clause-nodes
 apply_inner-returns-clause-nodes g t c below h commit applied above touched w some before =
     let span = c.args.span in
-    let change = applied-change below span commit h c.args.cut.now c.args.added.now c.args.version c.args.slots.now applied in
-    let count = change-count span.height span.start h commit c.args.cut.now c.args.added.now c.args.version _ change refl in
-    let over = left-many span below h c.args.slots.now c.args.cut.now c.args.added.now (c.in_ok-is_few.ensures.many c.if-branch.false) applied.height applied.all applied.each applied.many in
+    let change = applied-change below span commit h c.args.commit.cut.now c.args.commit.added.now c.args.commit.numbering.version c.args.slots.now applied in
+    let count = change-count span.height span.start h commit c.args.commit.cut.now c.args.commit.added.now c.args.commit.numbering.version _ change refl in
+    let over = left-many span below h c.args.slots.now c.args.commit.cut.now c.args.commit.added.now (c.in_ok-is_few.ensures.many c.if-branch.false) applied.height applied.all applied.each applied.many in
     let many : LEAF_POINTS < length (points_of span.height span.start (bag (commit ▷ h))) = omega arith in
     let made = c.in_ok-new_slots.ensures.slots below h commit applied in
     let reported = c.in_ok-new_slots.ensures.nodes below h commit applied (subst (λ k. LEAF_POINTS < length (points_of k span.start (bag (commit ▷ h)))) applied.height many) some before in
-    reported-more (bare_all c.args.nodes.now.items) (bare_all c.apply_slots.new.nodes.items) (bare_all c.push_inner.new.nodes.items) _ _ (new_nodes span.height span.start above (commit ▷ h) c.args.version) reported (bare-push c.apply_slots.new.nodes.items c.push_inner.new.nodes.items _ c.in_ok-push_inner.ensures.nodes) (new_nodes-inner_at span.height below span.start above (commit ▷ h) c.args.version c.in_ok-new_slots.new_slots applied.height w (last_change-touched (is_node above span.height span.start) span.height span.start h commit c.args.version change.number touched) many made.0)
+    reported-more (bare_all c.args.nodes.now.items) (bare_all c.apply_slots.new.nodes.items) (bare_all c.push_inner.new.nodes.items) _ _ (new_nodes span.height span.start above (commit ▷ h) c.args.commit.numbering.version) reported (bare-push c.apply_slots.new.nodes.items c.push_inner.new.nodes.items _ c.in_ok-push_inner.ensures.nodes) (new_nodes-inner_at span.height below span.start above (commit ▷ h) c.args.commit.numbering.version c.in_ok-new_slots.new_slots applied.height w (last_change-touched (is_node above span.height span.start) span.height span.start h commit c.args.commit.numbering.version change.number touched) many made.0)
 
 pub apply_child-returns-in-None-clause-nodes : goal.apply_child-returns-in-None-clause-nodes
 apply_child-returns-in-None-clause-nodes g t c =
     let span = c.args.span in
     on_ok_weaker c.build.result (λ reported above h commit holds change touched w some before.
     let none = none-is span.height span.start above h c.args.child c.in-None.is holds in
-    let same : c.args.added.now ≡ points_of span.height span.start (bag (commit ▷ h)) = sym (change-after span.height span.start h commit c.args.cut.now c.args.added.now c.args.version change ∙ ap (λ x. sort (outside x c.args.cut.now ++ c.args.added.now)) none ∙ sort-of_order c.args.added.now c.requires.order) in
+    let same : c.args.commit.added.now ≡ points_of span.height span.start (bag (commit ▷ h)) = sym (change-after span.height span.start h commit c.args.commit.cut.now c.args.commit.added.now c.args.commit.numbering.version change ∙ ap (λ x. sort (outside x c.args.commit.cut.now ++ c.args.commit.added.now)) none ∙ sort-of_order c.args.commit.added.now c.requires.commit.order) in
     let empty = ap (length {A = Point}) none in
-    reported above h commit (touched-fresh span.height span.start above h commit c.args.version c.args.added.now change.number same touched (λ _. omega arith)) w) c.build.ensures.nodes
+    reported above h commit (touched-fresh span.height span.start above h commit c.args.commit.numbering.version c.args.commit.added.now change.number same touched (λ _. omega arith)) w) c.build.ensures.nodes
 
 pub apply_child-returns-in_ok-all-in-Leaf-clause-nodes : goal.apply_child-returns-in_ok-all-in-Leaf-clause-nodes
 apply_child-returns-in_ok-all-in-Leaf-clause-nodes g t c =
@@ -469,8 +482,8 @@ apply_child-returns-in_ok-all-in-Leaf-clause-nodes g t c =
     on_ok_weaker c.build-in-Leaf.result (λ reported above h commit holds change touched w some before.
     let node = child-is span.height span.start above h c.args.child c.in-Some.node c.in-Some.is holds in
     let leaf = leaf_data-is span.height span.start above h c.in-Some.node.now.value c.in-Leaf.version c.in-Leaf.points (sym c.deref.ensures ∙ c.in-Leaf.is) node in
-    let same : c.deref-in-Leaf-2.result.now ≡ points_of span.height span.start (bag (commit ▷ h)) = c.deref-in-Leaf-2.ensures.value ∙ c.in_ok-all-in-Leaf.ensures ∙ ap (λ x. sort (outside x c.args.cut.now ++ c.args.added.now)) (c.deref-in-Leaf.ensures.value ∙ leaf.same) ∙ sym (change-after span.height span.start h commit c.args.cut.now c.args.added.now c.args.version change) in
-    reported above h commit (touched-fresh span.height span.start above h commit c.args.version c.deref-in-Leaf-2.result.now change.number same touched (λ _. subst (λ x. length x ≤ LEAF_POINTS) leaf.same leaf.few)) w) c.build-in-Leaf.ensures.nodes
+    let same : c.deref-in-Leaf-2.result.now ≡ points_of span.height span.start (bag (commit ▷ h)) = c.deref-in-Leaf-2.ensures.value ∙ c.in_ok-all-in-Leaf.ensures ∙ ap (λ x. sort (outside x c.args.commit.cut.now ++ c.args.commit.added.now)) (c.deref-in-Leaf.ensures.value ∙ leaf.same) ∙ sym (change-after span.height span.start h commit c.args.commit.cut.now c.args.commit.added.now c.args.commit.numbering.version change) in
+    reported above h commit (touched-fresh span.height span.start above h commit c.args.commit.numbering.version c.deref-in-Leaf-2.result.now change.number same touched (λ _. subst (λ x. length x ≤ LEAF_POINTS) leaf.same leaf.few)) w) c.build-in-Leaf.ensures.nodes
 
 pub apply_child-returns-in-Inner-clause-nodes : goal.apply_child-returns-in-Inner-clause-nodes
 apply_child-returns-in-Inner-clause-nodes g t c =
@@ -478,13 +491,13 @@ apply_child-returns-in-Inner-clause-nodes g t c =
     on_ok_weaker c.apply_inner.result (λ reported above h commit holds change touched w some before.
     let node = child-is span.height span.start above h c.args.child c.in-Some.node c.in-Some.is holds in
     let body = inner_data-is span.height span.start above h c.in-Some.node.now.value c.in-Inner.version c.in-Inner.slots (sym c.deref.ensures ∙ c.in-Inner.is) node in
-    reported body.below h commit (body-applied span above h commit c.args.cut.now c.args.added.now c.args.version c.in-Inner.version _ body change) above touched w some before) c.apply_inner.ensures.nodes
+    reported body.below h commit (body-applied span above h commit c.args.commit.cut.now c.args.commit.added.now c.args.commit.numbering.version c.in-Inner.version _ body change) above touched w some before) c.apply_inner.ensures.nodes
 
 pub apply_slots-returns-clause-nodes : goal.apply_slots-returns-clause-nodes
 apply_slots-returns-clause-nodes g t c below h commit applied many some before =
     let done : c.loop-i.i ≡ 64 = omega arith in
     c.loop-i.invariant.nodes below h commit applied many some before
-    ∙ ap (λ n. bare_all c.args.nodes.now.items ++ concat_first n (λ j. new_nodes below (slot_start below c.args.span.start j) (is_inner (suc below) c.args.span.start) (commit ▷ h) c.args.version)) done
+    ∙ ap (λ n. bare_all c.args.nodes.now.items ++ concat_first n (λ j. new_nodes below (slot_start below c.args.span.start j) (is_inner (suc below) c.args.span.start) (commit ▷ h) c.args.commit.numbering.version)) done
 
 -- ---- how many nodes there are
 
@@ -495,7 +508,7 @@ apply_slots-returns-clause-counted g t c = c.loop-i.invariant.counted
 
 pub apply_slot-returns-then-branch-clause-stored : goal.apply_slot-returns-then-branch-clause-stored
 apply_slot-returns-then-branch-clause-stored g t c store low =
-    subst (IsLaid store c.args.first c.args.nodes.now.items c.args.span.height c.args.span.start) (sym c.in_ok-share.ensures) (laid-below store c.args.first c.args.nodes.now.items c.args.span.height c.args.span.start (node_of c.args.child) low)
+    subst (IsLaid store c.args.commit.numbering.first c.args.nodes.now.items c.args.span.height c.args.span.start) (sym c.in_ok-share.ensures) (laid-below store c.args.commit.numbering.first c.args.nodes.now.items c.args.span.height c.args.span.start (node_of c.args.was.now.child) low)
 
 pub apply_child-returns-in-None-clause-stored : goal.apply_child-returns-in-None-clause-stored
 apply_child-returns-in-None-clause-stored g t c =
@@ -511,7 +524,7 @@ apply_child-returns-in-Inner-clause-stored g t c =
     let span = c.args.span in
     let node = child-is span.height span.start st.above st.commits c.args.child c.in-Some.node c.in-Some.is st.holds in
     let body = inner_data-is span.height span.start st.above st.commits c.in-Some.node.now.value c.in-Inner.version c.in-Inner.slots (sym c.deref.ensures ∙ c.in-Inner.is) node in
-    IfOk-weaker c.apply_inner.result _ _ (λ p made store low. made store body.below body.height (below-children store c.args.first span.height body.below span.start (node_of c.args.child) c.in-Some.node.now.value c.in-Inner.block c.in-Inner.version c.in-Inner.slots body.height (ap (option_map (λ b. b.now.value)) c.in-Some.is) (sym c.deref.ensures ∙ c.in-Inner.is) low)) c.apply_inner.ensures.stored
+    IfOk-weaker c.apply_inner.result _ _ (λ p made store low. made store body.below body.height (below-children store c.args.commit.numbering.first span.height body.below span.start (node_of c.args.child) c.in-Some.node.now.value c.in-Inner.block c.in-Inner.version c.in-Inner.slots body.height (ap (option_map (λ b. b.now.value)) c.in-Some.is) (sym c.deref.ensures ∙ c.in-Inner.is) low)) c.apply_inner.ensures.stored
 
 pub apply_inner-returns-then-branch-clause-stored : goal.apply_inner-returns-then-branch-clause-stored
 apply_inner-returns-then-branch-clause-stored g t c =
@@ -519,9 +532,9 @@ apply_inner-returns-then-branch-clause-stored g t c =
 
 pub apply_inner-returns-clause-stored : goal.apply_inner-returns-clause-stored
 apply_inner-returns-clause-stored g t c store below high low =
-    laid-inner store c.args.first c.apply_slots.new.nodes.items c.push_inner.new.nodes.items c.args.span below c.args.version c.in_ok-new_slots.new_slots (linked c.in_ok-push_inner.field-0) c.requires.first.0 high c.in_ok-push_inner.ensures.child c.in_ok-push_inner.ensures.block c.in_ok-push_inner.ensures.nodes (c.in_ok-new_slots.ensures.stored store below high low)
+    laid-inner store c.args.commit.numbering.first c.apply_slots.new.nodes.items c.push_inner.new.nodes.items c.args.span below c.args.commit.numbering.version c.in_ok-new_slots.new_slots (linked c.in_ok-push_inner.field-0) c.requires.commit.first.0 high c.in_ok-push_inner.ensures.child c.in_ok-push_inner.ensures.block c.in_ok-push_inner.ensures.nodes (c.in_ok-new_slots.ensures.stored store below high low)
 
 pub apply_slots-returns-clause-stored : goal.apply_slots-returns-clause-stored
 apply_slots-returns-clause-stored g t c store below high low =
     let done : c.loop-i.i ≡ 64 = omega arith in
-    laid-all store c.args.first c.loop-i.i c.loop-i.nodes.items below c.args.span.start c.loop-i.new_slots done (c.loop-i.invariant.stored store below high low)
+    laid-all store c.args.commit.numbering.first c.loop-i.i c.loop-i.nodes.items below c.args.span.start c.loop-i.new_slots done (c.loop-i.invariant.stored store below high low)

@@ -11,8 +11,8 @@ empty-is [] e = refl
 empty-is (x ∷ xs) e = absurd (grind (arith, nat_tests))
 
 pub returns : goal.returns
-returns c version was h commit holds change counted =
+returns c was h commit holds change counted =
     let here = points_of c.args.span.height c.args.span.start (bag h) in
     let count : c.agg.inside.count ≡ length here = ap (λ u. u.count) c.agg.view_is ∙ ap (λ u. u.count) counted ∙ agg-count here in
-    let none = empty-is c.args.added.now (sym c.is_empty.ensures ∙ c.if-not-is_empty.false) in
-    untouched-kept c.args.span.height c.args.span.start h commit c.args.cut.now c.args.added.now version c.in_ok-left.left c.agg.inside.count change none (c.in_ok-left.ensures was h holds count) count
+    let none = empty-is c.args.commit.added.now (sym c.is_empty.ensures ∙ c.if-not-is_empty.false) in
+    untouched-kept c.args.span.height c.args.span.start h commit c.args.commit.cut.now c.args.commit.added.now c.args.commit.numbering.version c.in_ok-left.left c.agg.inside.count change none (c.in_ok-left.ensures was h holds count) count

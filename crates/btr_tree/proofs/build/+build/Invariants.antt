@@ -17,10 +17,10 @@ abbrev pub invariant-build_slots-loop-i : goal.invariant-build_slots-loop-i
 invariant-build_slots-loop-i g l = record {
   rest : (below : ℕ) → l.span.height ≡ suc below → l.rest ≡ within (slot_start below l.span.start l.i) (end_of l.span) l.points;
   order : IsInOrder l.rest;
-  slots : (below : ℕ) (h : Past) (c : Commit) → IsSplit below l.span h c l.version l.points → HasFirst below l.span.start (c ▷ h) l.i l.slots;
+  slots : (below : ℕ) (h : Past) (c : Commit) → IsSplit below l.span h c l.numbering.version l.points → HasFirst below l.span.start (c ▷ h) l.i l.slots;
   filled : IsFilled l.i l.slots;
-  nodes : (below : ℕ) (h : Past) (c : Commit) → IsSplit below l.span h c l.version l.points → LEAF_POINTS < length l.points → bare_all l.nodes.items ≡ bare_all l.fn.nodes.items ++ concat_first l.i (λ i. new_nodes below (slot_start below l.span.start i) (is_inner (suc below) l.span.start) (c ▷ h) l.version);
-  stored : (store : Store) (below : ℕ) → l.span.height ≡ suc below → AreLaid l.i store l.first l.nodes.items below l.span.start l.slots;
+  nodes : (below : ℕ) (h : Past) (c : Commit) → IsSplit below l.span h c l.numbering.version l.points → LEAF_POINTS < length l.points → bare_all l.nodes.items ≡ bare_all l.fn.nodes.items ++ concat_first l.i (λ i. new_nodes below (slot_start below l.span.start i) (is_inner (suc below) l.span.start) (c ▷ h) l.numbering.version);
+  stored : (store : Store) (below : ℕ) → l.span.height ≡ suc below → AreLaid l.i store l.numbering.first l.nodes.items below l.span.start l.slots;
   counted : CountsNodes l.fn.steps l.steps l.fn.nodes.items l.nodes.items;
   room : (below : ℕ) → l.span.height ≡ suc below → HasNoCrowdedSpan l.span.start (slot_start below l.span.start l.i) l.points;
 }

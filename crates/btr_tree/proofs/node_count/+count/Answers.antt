@@ -16,8 +16,8 @@ use Rattle.btr_tree.proofs.UntouchedNodeLemmas.{many-inner}
 use Rattle.btr_tree.proofs.SlotSplitLemmas.{parted-at, parted-inside}
 use Rattle.btr_tree.proofs.NodeLemmas.{slot-part}
 use Rattle.btr_tree.proofs.SharedLemmas.{slot_from-first, slot_from-last, part-tail, part-same, count-one, count-inner, first-length, few-more, fewer, whole-split}
-use Rattle.btr_tree.proofs.shared.+count.Goals as goal
-use Rattle.btr_tree.proofs.shared.+count.Goals.{count_nodes-then-points-le-LEAF_POINTS-via-then-points-le-LEAF_POINTS, count_nodes-then-points-le-LEAF_POINTS-via-else-points-le-LEAF_POINTS+then-span-eq0}
+use Rattle.btr_tree.proofs.node_count.+count.Goals as goal
+use Rattle.btr_tree.proofs.node_count.+count.Goals.{count_nodes-then-points-le-LEAF_POINTS-via-then-points-le-LEAF_POINTS, count_nodes-then-points-le-LEAF_POINTS-via-else-points-le-LEAF_POINTS+then-span-eq0}
 
 some-points : {X : Type 0} (xs : List X) → (length xs == 0) ≡ false → 0 < length xs
 some-points [] e = cc

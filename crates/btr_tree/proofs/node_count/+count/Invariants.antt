@@ -5,7 +5,7 @@ use Rattle.btr_tree.specs.Change.{end_of}
 use Rattle.btr_tree.specs.NewNodes.{concat_first}
 use Rattle.btr_tree.specs.Shape.{slot_start}
 use Rattle.btr_tree.specs.Shared.{slot_nodes, AtEachPart}
-use Rattle.btr_tree.proofs.shared.+count.Given as goal
+use Rattle.btr_tree.proofs.node_count.+count.Given as goal
 
 abbrev pub decreases-count_nodes : goal.decreases-count_nodes
 decreases-count_nodes l = 2 * l.span.height + 1
