@@ -2,9 +2,9 @@
 use Rattle.std.specs.Prelude.{◌≡◌, ℕ, [], ◌∷◌, ◌++◌, length, map}
 use Rattle.std.proofs.Common.{sym, ◌∙◌, ap, subst, arith, length-append}
 use Rattle.btr_hist.specs.declared.entry.Entry.{Entry}
-use Rattle.btr_engine.specs.declared.board.Receipt.{Receipt}
-use Rattle.btr_engine.specs.Board.{IsBoardOf}
-use Rattle.btr_engine.specs.Stage.{IsReceipt}
+use Rattle.btr_streams.specs.declared.board.Receipt.{Receipt}
+use Rattle.btr_streams.specs.Board.{IsBoardOf}
+use Rattle.btr_streams.specs.Stage.{IsReceipt}
 use Rattle.btr_open.specs.Seen.{Seen, with_seen}
 use Rattle.btr_verify.specs.declared.verifying.Made.{Made}
 use Rattle.btr_check.specs.declared.checker.Checker.{Checker}

@@ -15,7 +15,7 @@ use Rattle.btr_tree.specs.Nodes.{points_of, above_root, up_to}
 use Rattle.btr_tree.proofs.LeadsLemmas.{leads-along}
 use Rattle.btr_tree.proofs.RootLemmas.{root-points}
 use Rattle.btr_node.specs.declared.page.NodePage.{NodePage}
-use Rattle.btr_pages.specs.Pages.{Pages, node_of_stream, nodes_in, MayBeRoot}
+use Rattle.btr_pages.specs.Pages.{Pages, node_of_stream, nodes_in, MayBeRoot, Stand}
 use Rattle.btr_hist.specs.declared.entry.Entry.{Entry}
 use Rattle.btr_hist.specs.declared.entry.Entry.TheVariants.{Create, Define, Commit, Distillate}
 use Rattle.btr_hist.specs.History.{change_of, commits, latest, bag}
@@ -24,10 +24,10 @@ use Rattle.btr_hist.proofs.HistoryLemmas.{take_commits-append, latest-append}
 use Rattle.btr_hist.proofs.OutputLemmas.{follows-sound}
 use Rattle.btr_hist.proofs.VersionLemmas.{latest-push}
 use Rattle.btr_roll.specs.Roll.{RollStreamValue}
-use Rattle.btr_engine.specs.Past.{with_commits, commits_to}
-use Rattle.btr_engine.specs.Roots.{Stand, LeadsToLatest, IsRootOf}
-use Rattle.btr_engine.specs.Stage.{change}
-use Rattle.btr_engine.proofs.BoardTrees.{made_by, bag-commits_to, before-with_commits, before-nothing, up_to-commits_to}
+use Rattle.btr_streams.specs.Past.{with_commits, commits_to}
+use Rattle.btr_engine.specs.Roots.{LeadsToLatest, IsRootOf}
+use Rattle.btr_streams.specs.Stage.{change}
+use Rattle.btr_streams.proofs.BoardTrees.{made_by, bag-commits_to, before-with_commits, before-nothing, up_to-commits_to}
 use Rattle.btr_stored.specs.Judged.{IsRising}
 use Rattle.btr_stored.specs.FirstWrong.{IsFirstWrongIn}
 use Rattle.btr_stored.proofs.FirstWrongLemmas.{wrong-leads_not, one-wrong_in}

@@ -15,7 +15,7 @@ use Rattle.btr_hist.proofs.HistoryLemmas.{legal-none, legal-push, legal-follows}
 use Rattle.btr_roll.specs.Roll.{RollStreamValue, roll_bytes}
 use Rattle.btr_engine.specs.Body.{Prefix, prefix_to, no_extents, with_extent, body_of, IsBodyOf, IsCheckpointOf, LeadTo}
 use Rattle.btr_engine.specs.Mark.{body_of_roll}
-use Rattle.btr_engine.specs.Rolling.{roll_of}
+use Rattle.btr_streams.specs.Rolling.{roll_of}
 use Rattle.btr_engine.specs.Roots.{IsRootOf}
 use Rattle.btr_engine.specs.Holds.{IsMarked}
 use Rattle.btr_engine.proofs.BodyLemmas.{LeadTo-split, LeadTo-gate}

@@ -17,7 +17,7 @@ use Rattle.btr_hist.specs.History.{latest}
 use Rattle.btr_hist.specs.Legal.{Follows}
 use Rattle.btr_hist.proofs.HistoryLemmas.{legal-follows}
 use Rattle.btr_engine.specs.Body.{first_page}
-use Rattle.btr_engine.specs.Rolling.{roll_of}
+use Rattle.btr_streams.specs.Rolling.{roll_of}
 use Rattle.btr_open.specs.Reached.{Reached, beginning, with_entry, pages_with, passed}
 use Rattle.btr_open.specs.RootTest.{MayLead}
 use Rattle.btr_open.specs.Below.{StandBelow, IsStoredPage}

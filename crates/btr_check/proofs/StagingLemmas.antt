@@ -20,7 +20,7 @@ use Rattle.btr_hist.specs.Machine.{receipt}
 use Rattle.btr_hist.proofs.AcceptedLemmas.{change-accepted}
 use Rattle.btr_hist.proofs.HistoryLemmas.{follows-last, streams-append, latest-append}
 use Rattle.btr_hist.proofs.VersionLemmas.{latest-push}
-use Rattle.btr_engine.specs.Board.{HasVersion}
+use Rattle.btr_streams.specs.Board.{HasVersion}
 use Rattle.btr_open.proofs.ListLemmas.{is-there}
 use Rattle.btr_open.proofs.RootLemmas.{its-change}
 use Rattle.btr_verify.specs.declared.verifying.Made.{Made}

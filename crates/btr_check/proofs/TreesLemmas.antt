@@ -9,7 +9,7 @@ use Rattle.btr_base.specs.declared.limits.TheConstants.{FIRST}
 use Rattle.btr_tree.specs.History.{Past, nothing}
 use Rattle.btr_tree.specs.Leads.{Leads}
 use Rattle.btr_tree.specs.Nodes.{above_root}
-use Rattle.btr_pages.specs.Pages.{Pages, nodes_in, HasRootPage}
+use Rattle.btr_pages.specs.Pages.{Pages, nodes_in, HasRootPage, Stand}
 use Rattle.btr_pages.specs.Known.{NodesValue, AreKnown}
 use Rattle.btr_hist.specs.declared.entry.Entry.{Entry}
 use Rattle.btr_hist.specs.declared.entry.Entry.TheVariants.{Create, Define, Commit, Distillate}
@@ -18,11 +18,11 @@ use Rattle.btr_hist.specs.Legal.{Follows}
 use Rattle.btr_hist.specs.Machine.{receipt}
 use Rattle.btr_hist.proofs.HistoryLemmas.{follows-prefix, take_commits-append}
 use Rattle.btr_hist.proofs.VersionLemmas.{latest-push}
-use Rattle.btr_engine.specs.declared.snapshot.Snapshot.{Snapshot}
-use Rattle.btr_engine.specs.Board.{HasVersion}
-use Rattle.btr_engine.specs.Past.{with_commits, commits_to}
-use Rattle.btr_engine.specs.Roots.{Stand, IsRootOf}
-use Rattle.btr_engine.specs.Snapshot.{IsSnapshotOf}
+use Rattle.btr_streams.specs.declared.snapshot.Snapshot.{Snapshot}
+use Rattle.btr_streams.specs.Board.{HasVersion}
+use Rattle.btr_streams.specs.Past.{with_commits, commits_to}
+use Rattle.btr_engine.specs.Roots.{IsRootOf}
+use Rattle.btr_streams.specs.Snapshot.{IsSnapshotOf}
 use Rattle.btr_stored.specs.FirstWrong.{IsFirstWrongIn}
 use Rattle.btr_open.specs.Reached.{Reached}
 use Rattle.btr_open.specs.Seen.{Seen}

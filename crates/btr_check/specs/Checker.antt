@@ -3,7 +3,7 @@ use Rattle.std.specs.Prelude.{◌≡◌, ℕ, List, length, map, take, get_or, s
 use Rattle.std.specs.Option.{option_map}
 use Rattle.btr_hist.specs.declared.entry.Entry.{Entry}
 use Rattle.btr_hist.specs.Machine.{receipt}
-use Rattle.btr_engine.specs.Board.{IsBoardOf}
+use Rattle.btr_streams.specs.Board.{IsBoardOf}
 use Rattle.btr_open.specs.Seen.{Seen}
 use Rattle.btr_verify.specs.declared.verifying.Made.{Made}
 use Rattle.btr_check.specs.declared.checker.Checker.{Checker}

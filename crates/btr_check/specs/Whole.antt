@@ -9,7 +9,7 @@ use Rattle.btr_pages.specs.Pages.{Pages, nodes_in}
 use Rattle.btr_hist.specs.declared.entry.Entry.{Entry}
 use Rattle.btr_hist.specs.declared.entry.Entry.TheVariants.{Create, Define, Commit, Distillate}
 use Rattle.btr_hist.specs.History.{latest}
-use Rattle.btr_engine.specs.Past.{commits_to}
+use Rattle.btr_streams.specs.Past.{commits_to}
 use Rattle.btr_engine.specs.Roots.{IsRootOf}
 use Rattle.btr_stored.specs.FirstWrong.{IsFirstWrongIn}
 use Rattle.btr_open.specs.Reached.{Reached}

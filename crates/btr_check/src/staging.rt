@@ -3,10 +3,10 @@ ghost use Rattle.std.specs.Prelude.{◌≡◌, ◌↔◌, ◌<◌, ◌+◌, ◌-
 ghost use Rattle.btr_hist.specs.declared.entry.Entry.{Entry as EntrySpec};
 ghost use Rattle.btr_hist.specs.History.{bag};
 ghost use Rattle.btr_hist.specs.Legal.{rejection};
-ghost use Rattle.btr_engine.specs.Board.{IsBoardOf, HasVersion};
-ghost use Rattle.btr_engine.specs.Stage.{IsReceipt};
+ghost use Rattle.btr_streams.specs.Board.{IsBoardOf, HasVersion};
+ghost use Rattle.btr_streams.specs.Stage.{IsReceipt, IsStagedEntry};
 ghost use Rattle.btr_check.specs.Rule.{FitsPoints};
-ghost use Rattle.btr_check.specs.Staging.{IsStagedEntry, IsStagedIfAllowed};
+ghost use Rattle.btr_check.specs.Staging.{IsStagedIfAllowed};
 
 use btr_engine::{Alone, Board, PushFault, Receipt, Staged};
 use btr_hist::Entry;

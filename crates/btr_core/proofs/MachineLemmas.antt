@@ -19,9 +19,9 @@ use Rattle.btr_hist.specs.Machine as model
 use Rattle.btr_hist.specs.Machine.{Event as events}
 use Rattle.btr_hist.proofs.HistoryLemmas.{legal-push, legal-follows, allowed-of_offered}
 use Rattle.btr_hist.proofs.LandingLemmas.{IsFront, StandsFor, Stands, front-itself, front-trans, legal-front, committed-front, landing-legal, landing-front}
-use Rattle.btr_engine.specs.declared.snapshot.Snapshot.{Snapshot}
-use Rattle.btr_engine.specs.Board.{IsBoardOf}
-use Rattle.btr_engine.specs.Snapshot.{IsSnapshotOf}
+use Rattle.btr_streams.specs.declared.snapshot.Snapshot.{Snapshot}
+use Rattle.btr_streams.specs.Board.{IsBoardOf}
+use Rattle.btr_streams.specs.Snapshot.{IsSnapshotOf}
 use Rattle.btr_distil.specs.Plan.{PlanValue}
 use Rattle.btr_plan.specs.Plan.{IsPlanOf, landing_of}
 use Rattle.btr_plan.specs.Next.{IsNextPlan}

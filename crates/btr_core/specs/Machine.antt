@@ -6,9 +6,9 @@ use Rattle.btr_hist.specs.declared.entry.Entry.{Entry}
 use Rattle.btr_hist.specs.Legal.{Legal}
 use Rattle.btr_hist.specs.Machine.{Landing}
 use Rattle.btr_hist.specs.Machine as model
-use Rattle.btr_engine.specs.declared.snapshot.Snapshot.{Snapshot}
-use Rattle.btr_engine.specs.Board.{IsBoardOf}
-use Rattle.btr_engine.specs.Snapshot.{IsSnapshotOf}
+use Rattle.btr_streams.specs.declared.snapshot.Snapshot.{Snapshot}
+use Rattle.btr_streams.specs.Board.{IsBoardOf}
+use Rattle.btr_streams.specs.Snapshot.{IsSnapshotOf}
 use Rattle.btr_distil.specs.Plan.{PlanValue}
 use Rattle.btr_plan.specs.Plan.{IsPlanOf, landing_of}
 use Rattle.btr_core.specs.declared.machine.Machine.{Machine}

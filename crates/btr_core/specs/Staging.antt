@@ -2,7 +2,7 @@
 use Rattle.std.specs.Prelude.{◌≡◌, List}
 use Rattle.btr_hist.specs.declared.entry.Entry.{Entry}
 use Rattle.btr_hist.specs.Machine as model
-use Rattle.btr_engine.specs.Board.{IsBoardOf}
+use Rattle.btr_streams.specs.Board.{IsBoardOf}
 use Rattle.btr_core.specs.declared.event.Reply.TheVariants.{Accepted}
 use Rattle.btr_core.specs.declared.staging.Outcome.{Outcome}
 use Rattle.btr_core.specs.declared.staging.Outcome.TheVariants.{Staged, Refused}

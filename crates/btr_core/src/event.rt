@@ -1,7 +1,7 @@
 //! The events of actors, and the replies to them.
 
-use btr_engine::Receipt;
 use btr_hist::{Answer, Entry, Query, Rejection};
+use btr_streams::Receipt;
 
 /// Something that an actor does.
 #[derive(Drop)]

@@ -9,9 +9,9 @@ ghost use Rattle.btr_core.specs.Machine.{IsMachineOf, IsAsBefore};
 use crate::event::{Event, Reply, What};
 use crate::staging::{finish, stage, stage_plan};
 use btr_distil::Plan;
-use btr_engine::{Board, Snapshot};
 use btr_hist::{Entry, Query, Rejection};
 use btr_plan::{Next, next_plan};
+use btr_streams::{Board, Snapshot};
 use std::alloc::{AllocError, Global};
 use std::collections::BTreeMap;
 

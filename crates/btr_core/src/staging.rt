@@ -3,19 +3,19 @@ ghost use Rattle.std.specs.Prelude.{◌≡◌, List, IfOk};
 ghost use Rattle.btr_hist.specs.declared.entry.Entry.{Entry as EntrySpec};
 ghost use Rattle.btr_hist.specs.Legal.{rejection, Legal};
 ghost use Rattle.btr_hist.specs.Machine.{Reply as ModelReply, committed, commit_reply};
-ghost use Rattle.btr_engine.specs.Board.{IsBoardOf};
+ghost use Rattle.btr_streams.specs.Board.{IsBoardOf};
 ghost use Rattle.btr_plan.specs.Plan.{IsPlanOf, reply_to, landed_after};
 ghost use Rattle.btr_core.specs.Events.{reply_of};
 ghost use Rattle.btr_core.specs.Staging.{Makes};
 
 use crate::event::Reply;
 use btr_distil::Plan;
-use btr_engine::{Alone, Board, PushFault, Staged};
 use btr_hist::Entry;
+use btr_streams::{Alone, Board, PushFault, Staged};
 use std::alloc::{AllocError, Global};
 
-/// The gate that each entry is staged for: the first one of a log. Nothing is written here, so the nodes are dropped.
-const GATE: u64 = 4;
+/// The block that the first node of each entry is staged for. Nothing is written here, so the nodes are dropped.
+const FIRST_NODE: u64 = 5;
 
 /// What becomes of an entry that is committed or landed. The board is as it was until the entry is accepted.
 #[derive(Drop)]
@@ -36,7 +36,7 @@ pub(crate) fn stage(alloc: Global, board: &Board, entry: &Entry) -> Result<Outco
         // no memory holds a board of this many entries
         return Err(AllocError);
     }
-    match board.stage(&Alone, alloc, entry, GATE) {
+    match board.stage(&Alone, alloc, entry, FIRST_NODE) {
         Ok(staged) => Ok(Outcome::Staged(staged)),
         Err(PushFault::Rejected(why)) => Ok(Outcome::Refused(Reply::Rejected(why))),
         Err(PushFault::Want) => Err(AllocError),

@@ -20,9 +20,10 @@ use Rattle.btr_node.specs.declared.page.NodePage.{NodePage}
 use Rattle.btr_pages.specs.Pages.{Pages, ArePages}
 use Rattle.btr_pages.proofs.PageOfLemmas.{HasPlaces}
 use Rattle.btr_engine.specs.Body.{body_of, Prefix, prefix_to, first_page, pages_after, IsBodyOf, commits_before, nodes_of, need_of}
-use Rattle.btr_engine.specs.Board.{Kept, Versions}
+use Rattle.btr_streams.specs.Board.{Kept, Versions}
 use Rattle.btr_engine.specs.Roots.{IsRootOf}
-use Rattle.btr_engine.specs.Stored.{AreStored, HaveRoots}
+use Rattle.btr_engine.specs.Stored.{AreStored}
+use Rattle.btr_streams.specs.Rolling.{HaveRoots}
 use Rattle.btr_engine.specs.Travel.{HoldsNow}
 use Rattle.btr_engine.specs.Step.{IsBeforeOrAfter}
 use Rattle.btr_engine.proofs.BodyLemmas.{need-body_of}

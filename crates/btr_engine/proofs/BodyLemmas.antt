@@ -20,7 +20,7 @@ use Rattle.btr_hist.specs.declared.entry.Entry.{Entry}
 use Rattle.btr_entry.specs.Grammar.{spelling, IsSpelled}
 use Rattle.btr_roll.specs.Roll.{roll_bytes}
 use Rattle.btr_entry.proofs.SpellingLemmas.{length-spelling, same_entry}
-use Rattle.btr_engine.specs.Rolling.{roll_of}
+use Rattle.btr_streams.specs.Rolling.{roll_of}
 use Rattle.btr_engine.specs.Body.{padding, body_of, Prefix, pages_after, with_extent, IsBodyOf}
 use Rattle.btr_engine.specs.Body.{checkpoint_body, IsCheckpointOf, with_checkpoint, RootRule, LeadTo}
 

@@ -10,7 +10,7 @@ use Rattle.btr_log.specs.Log as log
 use Rattle.btr_hist.specs.declared.entry.Entry.{Entry}
 use Rattle.btr_engine.specs.declared.engine.Engine.{Engine}
 use Rattle.btr_engine.specs.Holds.{HoldsHistory}
-use Rattle.btr_engine.specs.Board.{IsBoardOf}
+use Rattle.btr_streams.specs.Board.{IsBoardOf}
 use Rattle.btr_engine.specs.Engine.{log_of, device, board_of, is_stopped, entries_at_open, synced_of, IsAtRest, IsDurable, EngineLeaves, KeepsOpening}
 use Rattle.btr_engine.specs.Step.{IsBeforeOrAfter}
 use Rattle.btr_engine.proofs.EngineLemmas.{holds_in}

@@ -17,8 +17,9 @@ use Rattle.btr_hist.proofs.HistoryLemmas.{follows-push}
 use Rattle.btr_node.specs.declared.page.NodePage.{NodePage}
 use Rattle.btr_engine.specs.Body.{Prefix, prefix_to, no_extents, pages_after, IsBodyOf, IsCheckpointOf, RootRule, LeadTo, LeadToHistory, need_of}
 use Rattle.btr_engine.specs.Roots.{IsRootOf}
-use Rattle.btr_engine.specs.Board.{Versions}
-use Rattle.btr_engine.specs.Stored.{AreStored, HaveRoots}
+use Rattle.btr_streams.specs.Board.{Versions}
+use Rattle.btr_engine.specs.Stored.{AreStored}
+use Rattle.btr_streams.specs.Rolling.{HaveRoots}
 use Rattle.btr_engine.proofs.BodyLemmas.{LeadTo-push, LeadTo-mark, LeadTo-roots}
 use Rattle.btr_engine.specs.Holds.{StartsAt, HoldsHistoryTo}
 use Rattle.btr_engine.specs.Step.{IsBeforeOrAfter}

@@ -30,20 +30,22 @@ use Rattle.btr_roll.specs.Roll.{roll_bytes}
 use Rattle.btr_engine.specs.declared.engine.Engine.{Engine}
 use Rattle.btr_engine.specs.declared.step.StepFault.{StepFault}
 use Rattle.btr_engine.specs.declared.step.StepFault.TheVariants.{DeviceFull, DeviceFault}
-use Rattle.btr_engine.specs.Board.{Versions, Kept, IsBoardOf}
-use Rattle.btr_engine.specs.Rolling.{roll_of, rolled}
+use Rattle.btr_streams.specs.Board.{Versions, Kept, IsBoardOf}
+use Rattle.btr_streams.specs.Rolling.{roll_of, rolled}
 use Rattle.btr_engine.specs.Body.{prefix_to, no_extents, IsCheckpointOf, LeadTo}
 use Rattle.btr_engine.specs.Roots.{IsRootOf}
 use Rattle.btr_engine.specs.Holds.{HoldsHistoryTo, HoldsHistory}
-use Rattle.btr_engine.specs.Stored.{tree_at, AreStored, HaveRoots}
+use Rattle.btr_engine.specs.Stored.{AreStored}
+use Rattle.btr_streams.specs.Board.{tree_at}
+use Rattle.btr_streams.specs.Rolling.{HaveRoots}
 use Rattle.btr_engine.specs.Engine.{log_of, device, board_of, is_home, blocks_of, entries_of, tail_of, room_of, super_of, is_stopped, synced_of, entries_at_open, IsAtRest, IsDurable, EngineLeaves, KeepsOpening}
-use Rattle.btr_engine.specs.Mark.{body_of_roll, run_of_board, need_of_board, next_super, IsNamed, CountsMark, StopsByMark, CheckpointCause}
+use Rattle.btr_engine.specs.Mark.{body_of_roll, run_of_board, need_of_board, next_super, IsNamed, CountsMark, StopsByMark, CheckpointCause, Marks}
 use Rattle.btr_engine.proofs.RollBody.{need-body_of_roll, brings-roll, body-of-history}
 use Rattle.btr_engine.proofs.EngineLemmas.{holds_in, take_whole}
 use Rattle.btr_engine.proofs.HoldsLemmas.{HoldsTrees, IsChosen-along, held, starts-last, holds_as_before, holds_under, holds_marked}
 use Rattle.btr_engine.proofs.Stepping.{same_at_home}
-use Rattle.btr_engine.proofs.RollingLemmas.{rolled-is}
-use Rattle.btr_engine.proofs.StreamsLemmas.{has-streams}
+use Rattle.btr_streams.proofs.RollingLemmas.{rolled-is}
+use Rattle.btr_streams.proofs.StreamsLemmas.{has-streams}
 
 -- ---- stored trees, below a later gate
 
@@ -330,6 +332,24 @@ nothing_leaves {D} {disk} h engine only_now rest =
     begins disk.calls disk.images_since (device engine) (λ c. HoldsHistory (disk.size (device engine)) c h) (λ c now. holds_in h engine rest c (rest.only.each c (only_now c now)))
 
 -- An append that fails made no call of the device, or the device failed.
+-- a checkpoint that changed nothing
+pub marks_nothing : {D : Type 0} {disk : Ghosts D} (engine : Engine D disk) (fault : StepFault) → is_home engine ≡ true → CheckpointCause engine engine fault → (disk.is_observable → (c : Image) → disk.images_since (device engine) (disk.calls (device engine)) c → disk.images_now (device engine) c) → Marks engine engine (Err fault)
+marks_nothing engine fault home cause only_now = record {
+  home = home;
+  cause = cause;
+  marked = tt;
+  kept = record {
+    blocks = refl;
+    entries = refl;
+    synced = refl;
+    device_kept = record { same_size = refl; more_calls = omega arith; more_faults = omega arith };
+  };
+  at_rest = λ seen h rest. tt;
+  named = λ seen h rest. tt;
+  moments = λ seen h rest. nothing_leaves h engine (only_now seen) rest;
+  durable = λ seen h more calls entries rests so_far. so_far;
+}
+
 pub fault_leaves : {D : Type 0} {disk : Ghosts D} (h : List Entry) (old : Engine D disk) (run : List ℕ) (bytes : run ≡ run_of_board (board_of old)) (after : Log D disk) (fault : AppendFault) → IsFalse (is_stopped old) → AnswersFull old run bytes (Err fault) → append.AppendCause (log_of old) after run fault → ((c : Image) → disk.images_since (device old) (disk.calls (device old)) c → disk.images_now (device old) c) → (rest : IsAtRest h old) → log.LogLeaves (log_of old) after (append.IsMoment (disk.contents (device old)) (tail_of old) rest.holds.bodies (append.body_in_run run)) → log.LogLeaves (log_of old) after (λ c. HoldsHistory (disk.size (device old)) c h)
 fault_leaves {D} {disk} h old run bytes after (Full n room) runs answers_full cause only_now rest leaves =
     subst (λ l. log.LogLeaves (log_of old) l (λ c. HoldsHistory (disk.size (device old)) c h)) (sym cause.4) (nothing_leaves h old only_now rest)

@@ -11,9 +11,9 @@ use Rattle.btr_tree.proofs.NewNodeCountLemmas.{new_nodes-bound}
 use Rattle.btr_hist.specs.declared.entry.Entry.{Entry}
 use Rattle.btr_hist.specs.declared.entry.Entry.TheVariants.{Create, Define, Commit, Distillate}
 use Rattle.btr_hist.specs.History.{commits}
-use Rattle.btr_engine.specs.Past.{with_commits}
+use Rattle.btr_streams.specs.Past.{with_commits}
 use Rattle.btr_engine.specs.Body.{node_blocks, need_of, needs_after, needs_of, most_nodes, most_need_of}
-use Rattle.btr_engine.proofs.BoardTrees.{made_by, with_commits-push, before-with_commits, before-nothing}
+use Rattle.btr_streams.proofs.BoardTrees.{made_by, with_commits-push, before-with_commits, before-nothing}
 
 -- The blocks of some entries, and then of others.
 pub needs_after-append : (before a b : List Entry) → needs_after before (a ++ b) ≡ needs_after before a + needs_after (before ++ a) b

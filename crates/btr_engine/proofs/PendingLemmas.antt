@@ -17,15 +17,16 @@ use Rattle.btr_hist.specs.declared.entry.Entry.TheVariants.{Create, Define, Comm
 use Rattle.btr_hist.specs.History.{commits, latest}
 use Rattle.btr_entry.specs.Grammar.{IsSpelled, ValuesFit}
 use Rattle.btr_entry.proofs.SpellingLemmas.{length-spelling}
-use Rattle.btr_engine.specs.declared.board.Staged.{Staged}
+use Rattle.btr_streams.specs.declared.board.Staged.{Staged}
 use Rattle.btr_engine.specs.declared.travel.Ready.{Ready}
 use Rattle.btr_engine.specs.Body.{node_blocks, body_of, prefix_to, first_page, pages_after, commits_before, nodes_of, need_of}
-use Rattle.btr_engine.specs.Board.{Kept, IsBoardOf}
+use Rattle.btr_streams.specs.Board.{Kept, IsBoardOf}
 use Rattle.btr_engine.specs.Roots.{LeadsToLatest, IsRootOf}
-use Rattle.btr_engine.specs.Stored.{AreStored, HaveRoots}
-use Rattle.btr_engine.specs.Stage.{IsReceipt, MakesVersion, WritesCommit, WritesStream, WritesEntry, change}
-use Rattle.btr_engine.specs.Travel.{run_of, written_pages, IsMade, IsStaged}
-use Rattle.btr_engine.proofs.BoardStreamLemmas.{commit-makes, distillate-makes}
+use Rattle.btr_engine.specs.Stored.{AreStored}
+use Rattle.btr_streams.specs.Rolling.{HaveRoots}
+use Rattle.btr_streams.specs.Stage.{IsReceipt, MakesVersion, WritesCommit, WritesStream, change}
+use Rattle.btr_engine.specs.Travel.{WritesAfter, run_of, written_pages, IsMade, IsStaged}
+use Rattle.btr_streams.proofs.BoardStreamLemmas.{commit-makes, distillate-makes}
 use Rattle.btr_engine.proofs.BodyLemmas.{FitsBody}
 use Rattle.btr_engine.proofs.NeedLemmas.{few_nodes}
 use Rattle.btr_engine.proofs.Written.{nodes-counted, reported, root-leads, stored-next, stored-new, pages-places}
@@ -58,7 +59,7 @@ need_of_ready e r some few made =
 
 module _ (h : List Entry) (b : Kept) (of : IsBoardOf h b) (tail : ℕ) where
   -- There are as many nodes as the entry has node blocks.
-  nodes-needed : (e : Entry) (s : Staged) → WritesEntry b e tail s → length s.nodes.items ≡ nodes_of (commits_before h e) e
+  nodes-needed : (e : Entry) (s : Staged) → WritesAfter b e tail s → length s.nodes.items ≡ nodes_of (commits_before h e) e
   nodes-needed (Create id) s w = ap (length {A = NewNodeValue}) w.none
   nodes-needed (Define id spec) s w = ap (length {A = NewNodeValue}) w.none
   nodes-needed (Commit stream cut added) s w =
@@ -123,7 +124,7 @@ module _ (h : List Entry) (b : Kept) (of : IsBoardOf h b) (tail : ℕ) where
           have = have;
         }
 
-    pub writes-rightly : (e : Entry) (s : Staged) → WritesEntry b e tail s → IsReceipt h e s.receipt → IsSpelled e → HaveRoots (roots ++ s.root ∷ []) s.next.streams → WritesRightly roots pages e s
+    pub writes-rightly : (e : Entry) (s : Staged) → WritesAfter b e tail s → IsReceipt h e s.receipt → IsSpelled e → HaveRoots (roots ++ s.root ∷ []) s.next.streams → WritesRightly roots pages e s
     writes-rightly (Create id) s w receipt spelled have = rightly-stream (Create id) s id _ w refl (λ known none_such. none_such) have
     writes-rightly (Define id spec) s w receipt spelled have = rightly-stream (Define id spec) s id _ w refl (λ known none_such. none_such) have
     writes-rightly (Commit stream cut added) s w receipt spelled have =

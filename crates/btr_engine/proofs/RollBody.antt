@@ -12,7 +12,7 @@ use Rattle.btr_log.proofs.AppendLemmas.{body_in_run-append, IsAppendRun-from}
 use Rattle.btr_log.specs.Extents.{IsBody, need}
 use Rattle.btr_hist.specs.declared.entry.Entry.{Entry}
 use Rattle.btr_roll.specs.Roll.{RollStreamValue, roll_bytes}
-use Rattle.btr_engine.specs.Rolling.{roll_of}
+use Rattle.btr_streams.specs.Rolling.{roll_of}
 use Rattle.btr_engine.specs.Body.{padding, checkpoint_body}
 use Rattle.btr_engine.specs.Mark.{body_of_roll}
 use Rattle.btr_engine.proofs.ExtentBytes.{zero_block}

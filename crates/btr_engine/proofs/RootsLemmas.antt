@@ -11,14 +11,15 @@ use Rattle.btr_hist.specs.declared.entry.Entry.{Entry}
 use Rattle.btr_hist.specs.declared.entry.Entry.TheVariants.{Create, Define, Commit, Distillate}
 use Rattle.btr_hist.specs.declared.kernel.Reads.{Reads}
 use Rattle.btr_hist.specs.declared.kernel.Spec.{Spec}
-use Rattle.btr_engine.specs.declared.board.Staged.{Staged}
-use Rattle.btr_engine.specs.Past.{stream_numbers}
-use Rattle.btr_engine.specs.Rolling.{root_at}
-use Rattle.btr_engine.specs.Board.{Versions, Kept, HasStreamsOf}
-use Rattle.btr_engine.specs.Stored.{HaveRoots}
-use Rattle.btr_engine.specs.Stage.{WritesEntry, ReadsEntry, AddsStream, with_version, new_stream}
-use Rattle.btr_engine.proofs.NumberingLemmas.{numbers-counted, number-between}
-use Rattle.btr_engine.proofs.StreamsLemmas.{stream-of}
+use Rattle.btr_streams.specs.declared.board.Staged.{Staged}
+use Rattle.btr_streams.specs.Past.{stream_numbers}
+use Rattle.btr_streams.specs.Rolling.{root_at}
+use Rattle.btr_streams.specs.Board.{Versions, Kept, HasStreamsOf}
+use Rattle.btr_streams.specs.Rolling.{HaveRoots}
+use Rattle.btr_streams.specs.Stage.{ReadsEntry, AddsStream, with_version, new_stream}
+use Rattle.btr_engine.specs.Travel.{WritesAfter}
+use Rattle.btr_streams.proofs.NumberingLemmas.{numbers-counted, number-between}
+use Rattle.btr_streams.proofs.StreamsLemmas.{stream-of}
 use Rattle.btr_engine.proofs.Written.{or-last}
 
 if-some : {X : Type 0} (o : Option X) (P : X → Type 0) → ((x : X) → o ≡ Some x → P x) → IfSome o P
@@ -109,7 +110,7 @@ module _ (h : List Entry) (b : Kept) (has : HasStreamsOf h b) (roots : List ℕ)
         ])
 
 -- The trees of the board with an entry more have the roots of the entries, if the new root is the one that the entry writes.
-pub roots-written : (h : List Entry) (b : Kept) (has : HasStreamsOf h b) (roots : List ℕ) (counted : length roots ≡ length h) (have : HaveRoots roots b.streams) (e : Entry) (tail : ℕ) (s : Staged) → WritesEntry b e tail s → HaveRoots (roots ++ s.root ∷ []) s.next.streams
+pub roots-written : (h : List Entry) (b : Kept) (has : HasStreamsOf h b) (roots : List ℕ) (counted : length roots ≡ length h) (have : HaveRoots roots b.streams) (e : Entry) (tail : ℕ) (s : Staged) → WritesAfter b e tail s → HaveRoots (roots ++ s.root ∷ []) s.next.streams
 roots-written h b has roots counted have (Create id) tail s w = roots-stream h b has roots counted have s.root s.next id None w.adds
 roots-written h b has roots counted have (Define id spec) tail s w = roots-stream h b has roots counted have s.root s.next id (Some spec) w.adds
 roots-written h b has roots counted have (Commit stream cut added) tail s w =

@@ -1,6 +1,6 @@
 -- What stays true of the numbers of an engine that gets its log back.
-use Rattle.std.specs.Prelude.{◌≡◌, ℕ, ◌+◌, ◌*◌, ◌≤◌, Bool, true, false, ◌||◌, List, Option, Some, None}
-use Rattle.std.proofs.Common.{refl, sym, ◌∙◌, ap, subst, arith}
+use Rattle.std.specs.Prelude.{◌≡◌, ℕ, ◌+◌, ◌*◌, ◌≤◌, Bool, true, false, List}
+use Rattle.std.proofs.Common.{sym, ◌∙◌, ap, subst, arith}
 use Rattle.btr_disk.specs.declared.disk.Disk.{Ghosts}
 use Rattle.btr_log.specs.declared.log.Log.{Log}
 use Rattle.btr_log.specs.Append as append
@@ -9,19 +9,18 @@ use Rattle.btr_log.specs.declared.append.AppendFault.{AppendFault}
 use Rattle.btr_log.specs.declared.append.AppendFault.TheVariants.{Full, Fault, Stopped}
 use Rattle.btr_super.specs.declared.superblock.Super.{Super}
 use Rattle.btr_engine.specs.declared.engine.Engine.{Engine}
-use Rattle.btr_engine.specs.declared.travel.Ready.{Ready}
+use Rattle.btr_engine.specs.declared.travel.Return.{Return}
+use Rattle.btr_engine.specs.declared.travel.Return.TheVariants.{Untouched, Written, Failed}
 use Rattle.btr_engine.specs.Engine.{log_of, board_of, super_of, synced_of, entries_at_open}
-use Rattle.btr_engine.specs.Travel.{run_of, Settles, settled_board, written_pages}
+use Rattle.btr_engine.specs.Travel.{run_of, Settles, settled_board, written_in, written_pages}
 use Rattle.btr_engine.proofs.Stepping.{needs_two}
 use Rattle.btr_engine.proofs.Written.{pages-places}
 
-or-false : (b : Bool) → (b || false) ≡ b
-or-false true = refl
-or-false false = refl
-
-or-true : (b : Bool) → (b || true) ≡ true
-or-true true = refl
-or-true false = refl
+-- Whether an engine is stopped that gets its log back so.
+abbrev pub stopped_after : Bool → Return → Bool
+stopped_after stopped Untouched = stopped
+stopped_after stopped (Written r) = stopped
+stopped_after stopped Failed = true
 
 module _ {D : Type 0} {disk : Ghosts D} where
   -- The numbers of an engine with this superblock, this log and this many entries, which was opened as the old one, and whether it is
@@ -38,15 +37,14 @@ module _ {D : Type 0} {disk : Ghosts D} where
     pub large : 8 ≤ log.log_blocks l
     pub same_blocks : s.blocks ≡ log.log_blocks l
 
-  pub goes : (old : Engine D disk) (l : Log D disk) (ready : Option Ready) (faulted : Bool) → Settles old l ready faulted → Goes old (super_of old) l (old.stopped || faulted) (settled_board (board_of old) ready).entries
-  goes old l (Some r) true is = absurd is
-  goes old l (Some r) false is =
+  pub goes : (old : Engine D disk) (l : Log D disk) (how : Return) → Settles old l how → Goes old (super_of old) l (stopped_after old.stopped how) (settled_board (board_of old) (written_in how)).entries
+  goes old l (Written r) is =
       let on = is.0.1 in
       let w = is.1 in
       let runs : old.stopped ≡ false = old.marked ∙ on.ready_for.runs in
       let two = needs_two r.staged.next.entries is.0.0 r.staged.root (written_pages r.staged) (run_of r) on.ready_for.made.bytes (pages-places r.staged.receipt.stream r.staged.nodes.items) in
       record {
-        marked = ap (λ b. b || false) runs ∙ sym w.appended.runs;
+        marked = runs ∙ sym w.appended.runs;
         counted = omega (arith, old.counted, on.next, w.appended.extents);
         ends = omega (arith, old.ends, two, w.appended.extents, w.appended.tail);
         began = omega (arith, old.began, on.next);
@@ -57,9 +55,9 @@ module _ {D : Type 0} {disk : Ghosts D} where
         large = omega (arith, old.large, w.kept.blocks);
         same_blocks = old.same_blocks ∙ sym w.kept.blocks;
       }
-  goes old l None false is =
-      subst (λ x. Goes old (super_of old) x (old.stopped || false) (board_of old).entries) (sym is) (record {
-        marked = or-false old.stopped ∙ old.marked;
+  goes old l Untouched is =
+      subst (λ x. Goes old (super_of old) x old.stopped (board_of old).entries) (sym is) (record {
+        marked = old.marked;
         counted = old.counted;
         ends = old.ends;
         began = old.began;
@@ -70,8 +68,8 @@ module _ {D : Type 0} {disk : Ghosts D} where
         large = old.large;
         same_blocks = old.same_blocks;
       })
-  goes old l None true is = record {
-    marked = or-true old.stopped ∙ sym is.stops.stopped;
+  goes old l Failed is = record {
+    marked = sym is.stops.stopped;
     counted = omega (arith, old.counted, is.stops.extents);
     ends = omega (arith, old.ends, is.stops.extents, is.stops.tail);
     began = old.began;

@@ -11,10 +11,10 @@ use Rattle.btr_pages.specs.Reported.{AreKept}
 use Rattle.btr_pages.proofs.ReportedLemmas.{kept-more}
 use Rattle.btr_hist.specs.declared.entry.Entry.{Entry}
 use Rattle.btr_hist.specs.declared.entry.Entry.TheVariants.{Create, Define, Commit, Distillate}
-use Rattle.btr_engine.specs.declared.board.Staged.{Staged}
-use Rattle.btr_engine.specs.Board.{Kept}
+use Rattle.btr_streams.specs.declared.board.Staged.{Staged}
+use Rattle.btr_streams.specs.Board.{Kept}
 use Rattle.btr_engine.specs.Stored.{AreStored}
-use Rattle.btr_engine.specs.Stage.{ReadsEntry}
+use Rattle.btr_streams.specs.Stage.{ReadsEntry}
 use Rattle.btr_engine.proofs.Written.{stored-stream, stored-version}
 
 -- The tree of the version that an entry makes is stored below a block. An entry that makes a stream has none.

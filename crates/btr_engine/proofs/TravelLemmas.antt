@@ -16,21 +16,21 @@ use Rattle.btr_hist.specs.History.{latest}
 use Rattle.btr_engine.specs.declared.engine.Engine.{Engine}
 use Rattle.btr_engine.specs.declared.place.Place.{Place}
 use Rattle.btr_engine.specs.declared.place.Place.TheVariants.{Home, Out}
-use Rattle.btr_engine.specs.declared.board.Receipt.{Receipt}
+use Rattle.btr_streams.specs.declared.board.Receipt.{Receipt}
 use Rattle.btr_engine.specs.declared.step.StepFault.{StepFault}
 use Rattle.btr_engine.specs.declared.step.StepFault.TheVariants.{Stopped, Rejected, Want, DeviceFull, DeviceFault}
 use Rattle.btr_engine.specs.declared.travel.Ready.{Ready}
 use Rattle.btr_engine.specs.Body.{need_of}
-use Rattle.btr_engine.specs.Board.{Kept, IsBoardOf}
+use Rattle.btr_streams.specs.Board.{Kept, IsBoardOf}
 use Rattle.btr_engine.specs.Place.{log_in, log_here}
 use Rattle.btr_engine.specs.Engine.{log_of, device, board_of, entries_of, tail_of, room_of, super_of, is_stopped, is_home, IsEngineOf, IsAtRest, IsDurable, KeepsOpening}
-use Rattle.btr_engine.specs.Stage.{IsReceipt}
+use Rattle.btr_streams.specs.Stage.{IsReceipt}
 use Rattle.btr_engine.specs.Step.{IsBeforeOrAfter, CanStep, StopsByFault, HasResult, StepCause, IsStep, in_flight_after}
-use Rattle.btr_engine.specs.Travel.{run_of, IsStaged, HoldsNow, IsReadyFor, IsReadyOn, IsWritten, HasFailed, IsLike, IsHomeAgain}
+use Rattle.btr_engine.specs.Travel.{run_of, IsStaged, HoldsNow, LeavesEntry, HoldsEntry, IsReadyFor, IsReadyOn, IsWritten, HasFailed, IsLike, IsHomeAgain}
 use Rattle.btr_engine.proofs.EngineLemmas.{durable_as}
 use Rattle.btr_engine.proofs.HoldsLemmas.{roots-held}
 use Rattle.btr_engine.proofs.Streams.{few_versions}
-use Rattle.btr_engine.proofs.StreamsLemmas.{has-streams}
+use Rattle.btr_streams.proofs.StreamsLemmas.{has-streams}
 use Rattle.btr_engine.proofs.RootsLemmas.{roots-written}
 use Rattle.btr_engine.proofs.Stepping.{no_moment}
 use Rattle.btr_engine.proofs.Appending.{needed, moments, holds_after}
@@ -171,17 +171,6 @@ module _ {D : Type 0} {disk : Ghosts D} where
       })
 
   -- ---- a step that writes
-
-  -- What `write` says of the log of an engine and of what was made ready, if the log is then this one: at each moment, and after it.
-  abbrev pub LeavesEntry : Log D disk → Log D disk → Entry → Ready → Type 0
-  LeavesEntry l after e r =
-      disk.is_observable → (h : List Entry) (b : Kept) (s : Super) → IsStaged h b (log.log_tail l) e r → HoldsNow h b s l
-      → log.LogLeaves l after (IsBeforeOrAfter (disk.size (log.log_device l)) h e)
-
-  abbrev pub HoldsEntry : Log D disk → Log D disk → Entry → Ready → Type 0
-  HoldsEntry l after e r =
-      disk.is_observable → (h : List Entry) (b : Kept) (s : Super) → IsStaged h b (log.log_tail l) e r → HoldsNow h b s l
-      → HoldsNow (h ++ e ∷ []) r.staged.next s after
 
   -- What was staged, whatever the history of the engine is.
   abbrev pub StagesOn : Engine D disk → Entry → Ready → Type 0

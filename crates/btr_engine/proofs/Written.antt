@@ -26,7 +26,7 @@ use Rattle.btr_tree.specs.Shape.{IsLeaf, ByKind, IsChild}
 use Rattle.btr_tree.specs.Stored.{IsBelow}
 use Rattle.btr_tree.proofs.LeadsLemmas.{stored-leads}
 use Rattle.btr_node.specs.declared.page.NodePage.{NodePage}
-use Rattle.btr_pages.specs.Pages.{Pages, with_pages, nodes_in, page_of, pages_of}
+use Rattle.btr_pages.specs.Pages.{Pages, with_pages, nodes_in, page_of, pages_of, Stand}
 use Rattle.btr_pages.specs.Reported.{AreKept, AreReported}
 use Rattle.btr_pages.proofs.PageOfLemmas.{HasPlaces, page_of-places, each-map}
 use Rattle.btr_pages.proofs.ReportedLemmas.{with-either, stored-along, kept-more, below-more, reported-pages}
@@ -36,16 +36,17 @@ use Rattle.btr_hist.specs.declared.kernel.Reads.{Reads}
 use Rattle.btr_hist.specs.declared.kernel.Spec.{Spec}
 use Rattle.btr_hist.specs.History.{ids, commits, latest}
 use Rattle.btr_entry.specs.Grammar.{ValuesFit}
-use Rattle.btr_engine.specs.Past.{with_commits, commits_to}
+use Rattle.btr_streams.specs.Past.{with_commits, commits_to}
 use Rattle.btr_engine.specs.Body.{node_blocks}
-use Rattle.btr_engine.specs.Board.{Versions, Kept, IsStreamOf, IsBoardOf}
-use Rattle.btr_engine.specs.Roots.{Stand, LeadsToLatest}
-use Rattle.btr_engine.specs.Stored.{tree_at, AreStored}
-use Rattle.btr_engine.specs.Stage.{MakesVersion, WritesCommit, AddsStream, with_version, new_stream}
-use Rattle.btr_engine.proofs.BoardTrees.{made_by, with_commits-push, before-commits_to}
-use Rattle.btr_engine.proofs.BoardStreamLemmas.{commits-more}
-use Rattle.btr_engine.proofs.BoardCommits.{last-tree}
-use Rattle.btr_engine.proofs.BoardNext.{kept-stream}
+use Rattle.btr_streams.specs.Board.{Versions, Kept, IsStreamOf, IsBoardOf}
+use Rattle.btr_engine.specs.Roots.{LeadsToLatest}
+use Rattle.btr_engine.specs.Stored.{AreStored}
+use Rattle.btr_streams.specs.Board.{tree_at}
+use Rattle.btr_streams.specs.Stage.{MakesVersion, WritesCommit, AddsStream, with_version, new_stream}
+use Rattle.btr_streams.proofs.BoardTrees.{made_by, with_commits-push, before-commits_to}
+use Rattle.btr_streams.proofs.BoardStreamLemmas.{commits-more}
+use Rattle.btr_streams.proofs.BoardCommits.{last-tree}
+use Rattle.btr_streams.proofs.BoardNext.{kept-stream}
 
 -- ---- the trees of a board
 

@@ -18,8 +18,8 @@ use Rattle.btr_hist.specs.declared.entry.Entry.TheVariants.{Create, Define, Comm
 use Rattle.btr_hist.specs.History.{commits}
 use Rattle.btr_entry.specs.Grammar.{spelling, IsSpelled}
 use Rattle.btr_roll.specs.Roll.{roll_bytes}
-use Rattle.btr_engine.specs.Rolling.{roll_of}
-use Rattle.btr_engine.specs.Past.{with_commits}
+use Rattle.btr_streams.specs.Rolling.{roll_of}
+use Rattle.btr_streams.specs.Past.{with_commits}
 
 -- ---- bodies
 

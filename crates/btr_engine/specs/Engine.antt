@@ -12,9 +12,10 @@ use Rattle.btr_log.specs.declared.log.Log.{Log}
 use Rattle.btr_super.specs.declared.superblock.Super.{Super}
 use Rattle.btr_hist.specs.declared.entry.Entry.{Entry}
 use Rattle.btr_engine.specs.declared.engine.Engine.{Engine}
-use Rattle.btr_engine.specs.Board.{Kept, IsBoardOf}
+use Rattle.btr_streams.specs.Board.{Kept, IsBoardOf}
 use Rattle.btr_engine.specs.Place.{log_in, has_log}
-use Rattle.btr_engine.specs.Stored.{AreStored, HaveRoots}
+use Rattle.btr_engine.specs.Stored.{AreStored}
+use Rattle.btr_streams.specs.Rolling.{HaveRoots}
 use Rattle.btr_engine.specs.Holds.{HoldsHistoryTo, HoldsHistory}
 
 module _ {D : Type 0} {disk : Ghosts D} where

@@ -1,6 +1,6 @@
 -- What a checkpoint promises: the bytes of its extent, the superblock that names it, and what the engine is then.
 use Rattle.std.specs.Prelude.{◌≡◌, ◌⊎◌, ℕ, ◌+◌, ◌-◌, ◌<◌, ◌≤◌, false, true, List, [], ◌∷◌, ◌++◌, length}
-use Rattle.std.specs.Prelude.{Result, Err}
+use Rattle.std.specs.Prelude.{Result, Err, IfErr, IfOk, OnOk}
 use Rattle.btr_disk.specs.declared.disk.Disk.{Ghosts}
 use Rattle.btr_disk.specs.Bytes.{Image}
 use Rattle.btr_disk.specs.Causes.{Rose, CountedTimes}
@@ -12,12 +12,13 @@ use Rattle.btr_roll.specs.Roll.{RollStreamValue, roll_bytes}
 use Rattle.btr_engine.specs.declared.engine.Engine.{Engine}
 use Rattle.btr_engine.specs.declared.step.StepFault.{StepFault}
 use Rattle.btr_engine.specs.declared.step.StepFault.TheVariants.{Stopped, Rejected, Want, DeviceFull, DeviceFault}
-use Rattle.btr_engine.specs.Board.{Kept}
-use Rattle.btr_engine.specs.Rolling.{rolled}
+use Rattle.btr_streams.specs.Board.{Kept}
+use Rattle.btr_streams.specs.Rolling.{rolled}
 use Rattle.btr_engine.specs.Body.{padding, prefix_to, no_extents, IsCheckpointOf, LeadTo}
 use Rattle.btr_engine.specs.Roots.{IsRootOf}
-use Rattle.btr_engine.specs.Holds.{HoldsHistoryTo}
-use Rattle.btr_engine.specs.Engine.{device, board_of, entries_of, tail_of, room_of, super_of, is_stopped}
+use Rattle.btr_engine.specs.Holds.{HoldsHistoryTo, HoldsHistory}
+use Rattle.btr_engine.specs.Engine.{device, board_of, entries_of, tail_of, blocks_of, room_of, super_of, is_stopped, is_home}
+use Rattle.btr_engine.specs.Engine.{IsAtRest, IsDurable, EngineLeaves, KeepsOpening}
 
 -- ---- the extent
 
@@ -97,3 +98,18 @@ module _ {D : Type 0} {disk : Ghosts D} where
       (is_stopped old ≡ false) × (need ≡ need_of_board (board_of old)) × (left ≡ room_of old) × (left < need) × (new ≡ old)
   CheckpointCause old new DeviceFault =
       (is_stopped old ≡ false) × (need_of_board (board_of old) ≤ room_of old) × StopsByMark old new
+
+  -- What a checkpoint did to the engine, which returned this. Its log is at home. Of an engine at rest of a history the device holds that
+  -- history at each moment, and after `Ok` the superblock names a checkpoint of the whole of it.
+  pub record Marks (old new : Engine D disk) (result : Result ℕ StepFault) : Type 0 where
+    pub home : is_home new ≡ true
+    pub cause : IfErr result (CheckpointCause old new)
+    pub marked : IfOk result (IsCheckpointed old new)
+    pub kept : KeepsOpening old new
+    pub at_rest : disk.is_observable → (h : List Entry) → IsAtRest h old → OnOk result (IsAtRest h new)
+    pub named : disk.is_observable → (h : List Entry) → IsAtRest h old → OnOk result ((c : Image) → disk.images_now (device new) c
+        → IsNamed (disk.size (device new)) c (blocks_of new) (tail_of new) h)
+    pub moments : disk.is_observable → (h : List Entry) → IsAtRest h old
+        → EngineLeaves old new (λ c. HoldsHistory (disk.size (device old)) c h)
+    pub durable : disk.is_observable → (h more : List Entry) (calls entries : ℕ)
+        → (is_stopped old ≡ false → IsAtRest h old) → IsDurable h calls entries old more → IsDurable h calls entries new more

@@ -1,6 +1,6 @@
 -- Why a step refuses an entry that was not staged.
-use Rattle.btr_engine.specs.declared.board.PushFault.{PushFault}
-use Rattle.btr_engine.specs.declared.board.PushFault.TheVariants.{Rejected, Want}
+use Rattle.btr_streams.specs.declared.board.PushFault.{PushFault}
+use Rattle.btr_streams.specs.declared.board.PushFault.TheVariants.{Rejected, Want}
 use Rattle.btr_engine.specs.declared.step.StepFault.{StepFault}
 use Rattle.btr_engine.specs.declared.step.StepFault.TheVariants as step
 

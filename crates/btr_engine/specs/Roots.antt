@@ -1,19 +1,14 @@
 -- To which nodes the root of an entry leads: those of the tree of its stream's latest version.
-use Rattle.std.specs.Prelude.{◌≡◌, ℕ, List, [], ◌∷◌, ◌++◌, Some}
+use Rattle.std.specs.Prelude.{◌≡◌, ℕ, List, [], ◌∷◌, ◌++◌}
 use Rattle.btr_base.specs.declared.limits.TheConstants.{FIRST}
 use Rattle.btr_tree.specs.Leads.{Leads}
-use Rattle.btr_tree.specs.NewNodes.{NewNodeValue}
 use Rattle.btr_tree.specs.Nodes.{above_root}
-use Rattle.btr_pages.specs.Pages.{Pages, nodes_in}
+use Rattle.btr_pages.specs.Pages.{Pages, Stand}
 use Rattle.btr_hist.specs.declared.entry.Entry.{Entry}
 use Rattle.btr_hist.specs.declared.entry.Entry.TheVariants.{Create, Define, Commit, Distillate}
 use Rattle.btr_hist.specs.History.{latest}
-use Rattle.btr_engine.specs.Past.{commits_to}
+use Rattle.btr_streams.specs.Past.{commits_to}
 use Rattle.btr_engine.specs.Body.{RootRule}
-
--- The page in a block is that of this node of the stream.
-abbrev pub Stand : Pages → ℕ → ℕ → NewNodeValue → Type 0
-Stand pages stream block node = nodes_in pages stream block ≡ Some node
 
 -- The block leads to the nodes of the tree of a stream's latest version, or it is 0 and that version has no point.
 abbrev pub LeadsToLatest : Pages → List Entry → ℕ → ℕ → Type 0

@@ -7,10 +7,10 @@ use Rattle.btr_disk.specs.Causes.{Rose, CountedTimes}
 use Rattle.btr_hist.specs.declared.entry.Entry.{Entry}
 use Rattle.btr_hist.specs.Legal.{rejection}
 use Rattle.btr_engine.specs.declared.engine.Engine.{Engine}
-use Rattle.btr_engine.specs.declared.board.Receipt.{Receipt}
+use Rattle.btr_streams.specs.declared.board.Receipt.{Receipt}
 use Rattle.btr_engine.specs.declared.step.StepFault.{StepFault}
 use Rattle.btr_engine.specs.declared.step.StepFault.TheVariants.{Stopped, Rejected, Want, DeviceFull, DeviceFault}
-use Rattle.btr_engine.specs.Stage.{MayLackMemory, IsReceipt}
+use Rattle.btr_streams.specs.Stage.{MayLackMemory, IsReceipt}
 use Rattle.btr_engine.specs.Body.{need_of}
 use Rattle.btr_engine.specs.Holds.{HoldsHistory}
 use Rattle.btr_engine.specs.Engine.{device, board_of, entries_of, tail_of, room_of, is_stopped, is_home}

@@ -7,25 +7,30 @@ use Rattle.btr_disk.specs.Images.{Only}
 use Rattle.btr_log.specs.declared.log.Log.{Log}
 use Rattle.btr_log.specs.Extents.{need}
 use Rattle.btr_log.specs.Head.{content_blocks}
-use Rattle.btr_log.specs.Log.{log_device, log_tail, log_blocks, log_room, is_log_stopped, KeepsBounds}
+use Rattle.btr_log.specs.Log.{log_device, log_tail, log_blocks, log_room, is_log_stopped, KeepsBounds, LogLeaves}
 use Rattle.btr_log.specs.Append.{body_in_run, IsAppended, LogStopsByFault}
 use Rattle.btr_super.specs.declared.superblock.Super.{Super}
 use Rattle.btr_hist.specs.declared.entry.Entry.{Entry}
+use Rattle.btr_hist.specs.declared.entry.Entry.TheVariants.{Create, Define, Commit, Distillate}
 use Rattle.btr_hist.specs.Legal.{rejection}
 use Rattle.btr_node.specs.declared.page.NodePage.{NodePage}
 use Rattle.btr_pages.specs.Pages.{pages_of}
-use Rattle.btr_entry.specs.Grammar.{spelling, IsSpelled}
+use Rattle.btr_entry.specs.Grammar.{spelling, IsSpelled, IsWithinBounds}
 use Rattle.btr_engine.specs.declared.engine.Engine.{Engine}
-use Rattle.btr_engine.specs.declared.board.Staged.{Staged}
-use Rattle.btr_engine.specs.declared.board.Receipt.{Receipt}
+use Rattle.btr_streams.specs.declared.board.Staged.{Staged}
+use Rattle.btr_streams.specs.declared.board.Receipt.{Receipt}
 use Rattle.btr_engine.specs.declared.travel.Ready.{Ready}
-use Rattle.btr_engine.specs.Body.{body_of}
+use Rattle.btr_engine.specs.declared.travel.Return.{Return}
+use Rattle.btr_engine.specs.declared.travel.Return.TheVariants.{Untouched, Written, Failed}
+use Rattle.btr_engine.specs.Body.{body_of, first_page}
 use Rattle.btr_engine.specs.Late.{late_bytes}
-use Rattle.btr_engine.specs.Board.{Kept, IsBoardOf}
-use Rattle.btr_engine.specs.Stored.{AreStored, HaveRoots}
+use Rattle.btr_streams.specs.Board.{Kept, IsBoardOf}
+use Rattle.btr_engine.specs.Stored.{AreStored}
+use Rattle.btr_streams.specs.Rolling.{HaveRoots}
 use Rattle.btr_engine.specs.Holds.{HoldsHistoryTo}
-use Rattle.btr_engine.specs.Stage.{IsReceipt, WritesEntry}
+use Rattle.btr_streams.specs.Stage.{IsReceipt, WritesEntry}
 use Rattle.btr_engine.specs.Place.{log_here}
+use Rattle.btr_engine.specs.Step.{IsBeforeOrAfter}
 use Rattle.btr_engine.specs.Engine.{log_of, board_of, entries_of, super_of, entries_at_open, is_home}
 
 -- ---- what is made ready
@@ -48,6 +53,21 @@ pub record IsMade (e : Entry) (r : Ready) : Type 0 where
   pub few : r.is_late ≡ true → length r.staged.nodes.items < 2 ^ 62
   pub numbered : r.staged.receipt.number ≡ r.staged.next.entries
 
+-- The block is that of the first node of an entry, if the gate before its extent is block `tail`. An entry that makes a stream has no
+-- node, and an entry that is out of bounds is refused.
+abbrev pub IsFirstNode : ℕ → Entry → ℕ → Type 0
+IsFirstNode tail (Create id) block = Unit {0}
+IsFirstNode tail (Define id spec) block = Unit {0}
+IsFirstNode tail (Commit stream cut added) block =
+    IsWithinBounds (Commit stream cut added) → block ≡ first_page tail (Commit stream cut added)
+IsFirstNode tail (Distillate stream cut added reads) block =
+    IsWithinBounds (Distillate stream cut added reads) → block ≡ first_page tail (Distillate stream cut added reads)
+
+-- The staged entry has what it makes of the board, and its nodes are for the blocks of its pages, if the gate before its extent is block
+-- `tail`.
+abbrev pub WritesAfter : Kept → Entry → ℕ → Staged → Type 0
+WritesAfter b e tail s = WritesEntry b e (first_page tail e) s
+
 -- What was made ready for this entry was staged on this board of the history, with the gate before its extent at block `tail`. The entry
 -- may follow the history. The next board is of the history with it, and the receipt is the entry's.
 pub record IsStaged (h : List Entry) (b : Kept) (tail : ℕ) (e : Entry) (r : Ready) : Type 0 where
@@ -55,7 +75,13 @@ pub record IsStaged (h : List Entry) (b : Kept) (tail : ℕ) (e : Entry) (r : Re
   pub allowed : rejection h e ≡ None
   pub of : IsBoardOf (h ++ e ∷ []) r.staged.next
   pub is_receipt : IsReceipt h e r.staged.receipt
-  pub writes : WritesEntry b e tail r.staged
+  pub writes : WritesAfter b e tail r.staged
+
+-- What was made ready and written to a log that comes back.
+abbrev pub written_in : Return → Option Ready
+written_in Untouched = None
+written_in (Written r) = Some r
+written_in Failed = None
 
 -- The board of an engine after it got this back, which was made ready, or nothing.
 abbrev pub settled_board : Kept → Option Ready → Kept
@@ -93,6 +119,19 @@ module _ {D : Type 0} {disk : Ghosts D} where
     pub kept : KeepsBounds old new
     pub stops : LogStopsByFault old new
 
+  -- A crash at any moment of the write of what was made ready leaves the history that the log held, or that with the entry. It is said of
+  -- each history, with the board and the superblock, that the log held.
+  abbrev pub LeavesEntry : Log D disk → Log D disk → Entry → Ready → Type 0
+  LeavesEntry l after e r =
+      disk.is_observable → (h : List Entry) (b : Kept) (s : Super) → IsStaged h b (log_tail l) e r → HoldsNow h b s l
+      → LogLeaves l after (IsBeforeOrAfter (disk.size (log_device l)) h e)
+
+  -- The log holds the history that it held, with the entry, and the board that was staged.
+  abbrev pub HoldsEntry : Log D disk → Log D disk → Entry → Ready → Type 0
+  HoldsEntry l after e r =
+      disk.is_observable → (h : List Entry) (b : Kept) (s : Super) → IsStaged h b (log_tail l) e r → HoldsNow h b s l
+      → HoldsNow (h ++ e ∷ []) r.staged.next s after
+
   -- ---- an engine
 
   -- The two engines differ at most in where the log is.
@@ -114,13 +153,12 @@ module _ {D : Type 0} {disk : Ghosts D} where
     pub out : is_home new ≡ false
     pub like : IsLike new old
 
-  -- What an engine may get back, whose log is out: the log with what was made ready, which was written; the log as it was taken; or the
+  -- What an engine may get back, whose log is out: the log as it was taken; the log with what was made ready, which was written; or the
   -- log with the device having failed in the write.
-  abbrev pub Settles : Engine D disk → Log D disk → Option Ready → Bool → Type 0
-  Settles engine l (Some r) true = ⊥
-  Settles engine l (Some r) false = ((e : Entry) × IsReadyOn engine e r) × IsWritten (log_of engine) l r
-  Settles engine l None false = l ≡ log_of engine
-  Settles engine l None true = HasFailed (log_of engine) l
+  abbrev pub Settles : Engine D disk → Log D disk → Return → Type 0
+  Settles engine l Untouched = l ≡ log_of engine
+  Settles engine l (Written r) = ((e : Entry) × IsReadyOn engine e r) × IsWritten (log_of engine) l r
+  Settles engine l Failed = HasFailed (log_of engine) l
 
   -- The log is at home again. The engine has the board that was staged, and the receipt is that of its entry; or it has the board that it
   -- had, and there is no receipt.

@@ -1,30 +1,24 @@
 //! The checkpoint: an extent with all streams and their versions, from which on the log is read.
-ghost use Rattle.std.specs.Prelude.{◌≡◌, ℕ, ◌+◌, ◌<◌, ◌≤◌, ◌^◌, List, false, true, IfErr, IfOk, OnOk, IsTrue};
+ghost use Rattle.std.specs.Prelude.{◌≡◌, ◌+◌, ◌<◌, ◌≤◌, ◌^◌, false, true, IfOk, IsTrue};
 ghost use Rattle.btr_log.specs.Append.{IsAppendRun};
-ghost use Rattle.btr_hist.specs.declared.entry.Entry.{Entry as EntrySpec};
-ghost use Rattle.btr_disk.specs.Bytes.{Image};
-ghost use Rattle.btr_engine.specs.Holds.{HoldsHistory};
-ghost use Rattle.btr_engine.specs.Engine.{device, board_of, tail_of, blocks_of, is_stopped, is_home};
-ghost use Rattle.btr_engine.specs.Engine.{IsAtRest, IsDurable, EngineLeaves, KeepsOpening};
-ghost use Rattle.btr_engine.specs.Mark.{run_of_board, next_super, IsNamed, MarksNothing, IsCheckpointed, CheckpointCause};
+ghost use Rattle.btr_engine.specs.Engine.{board_of, is_stopped, is_home};
+ghost use Rattle.btr_engine.specs.Mark.{run_of_board, next_super, MarksNothing, Marks};
 
-use crate::board::Board;
 use crate::engine::Engine;
 use crate::extent::encode_checkpoint;
 use crate::step::{StepFault, step_fault};
 use btr_disk::{Disk, NoBlocks, Parts};
+use btr_streams::Board;
 use btr_super::{FORMAT, Super, replace};
 use std::alloc::{AllocError, Global};
 
-impl Board {
-    /// Returns the body of a checkpoint of this board, followed by one block of zeros. An `Err` means out of memory.
-    fn checkpoint_run(&self, alloc: Global) -> Result<Parts, AllocError>
-        ensures bytes { IfOk result (λ p. p ≡ run_of_board self.now) }
-        ensures run { IfOk result (λ p. IsAppendRun p) }
-    {
-        let roll = self.roll(alloc)?;
-        encode_checkpoint(alloc, &roll, self.entries())
-    }
+/// Returns the body of a checkpoint of this board, followed by one block of zeros. An `Err` means out of memory.
+fn checkpoint_run(alloc: Global, board: &Board) -> Result<Parts, AllocError>
+    ensures bytes { IfOk result (λ p. p ≡ run_of_board board.now) }
+    ensures run { IfOk result (λ p. IsAppendRun p) }
+{
+    let roll = board.roll(alloc)?;
+    encode_checkpoint(alloc, &roll, board.entries())
 }
 
 impl<D: Disk> Engine<D> {
@@ -42,27 +36,15 @@ impl<D: Disk> Engine<D> {
     /// The caller passes an engine whose log is at home, and gets it so.
     pub fn checkpoint(&mut self, alloc: Global) -> Result<u64, StepFault>
         requires home { is_home self.old ≡ true }
-        ensures home { is_home self.new ≡ true }
         ensures stopped { IsTrue (is_stopped self.old) → MarksNothing self.old self.new result }
-        ensures cause { IfErr result (CheckpointCause self.old self.new) }
-        ensures marked { IfOk result (IsCheckpointed self.old self.new) }
-        ensures kept { KeepsOpening self.old self.new }
-        ensures at_rest { D.is_observable → (h : List EntrySpec) → IsAtRest h self.old → OnOk result (IsAtRest h self.new) }
-        ensures named { D.is_observable → (h : List EntrySpec) → IsAtRest h self.old → OnOk result ((c : Image)
-            → D.images_now (device self.new) c
-            → IsNamed (D.size (device self.new)) c (blocks_of self.new) (tail_of self.new) h) }
-        ensures moments { D.is_observable → (h : List EntrySpec) → IsAtRest h self.old
-            → EngineLeaves self.old self.new (λ c. HoldsHistory (D.size (device self.old)) c h) }
-        ensures durable { D.is_observable → (h more : List EntrySpec) (calls entries : ℕ)
-            → (is_stopped self.old ≡ false → IsAtRest h self.old) → IsDurable h calls entries self.old more
-            → IsDurable h calls entries self.new more }
+        ensures marks { Marks self.old self.new result }
     {
         if self.stopped {
             return Err(StepFault::Stopped {
                 entries: self.board.entries(),
             });
         }
-        let extent = self.board.checkpoint_run(alloc)?;
+        let extent = checkpoint_run(alloc, &self.board)?;
         self.mark(&extent)
     }
 
@@ -73,18 +55,7 @@ impl<D: Disk> Engine<D> {
         requires runs { is_stopped self.old ≡ false }
         requires bytes { extent.now ≡ run_of_board (board_of self.old) }
         requires run { IsAppendRun extent.now }
-        ensures home { is_home self.new ≡ true }
-        ensures cause { IfErr result (CheckpointCause self.old self.new) }
-        ensures marked { IfOk result (IsCheckpointed self.old self.new) }
-        ensures kept { KeepsOpening self.old self.new }
-        ensures at_rest { D.is_observable → (h : List EntrySpec) → IsAtRest h self.old → OnOk result (IsAtRest h self.new) }
-        ensures named { D.is_observable → (h : List EntrySpec) → IsAtRest h self.old → OnOk result ((c : Image)
-            → D.images_now (device self.new) c
-            → IsNamed (D.size (device self.new)) c (blocks_of self.new) (tail_of self.new) h) }
-        ensures moments { D.is_observable → (h : List EntrySpec) → IsAtRest h self.old
-            → EngineLeaves self.old self.new (λ c. HoldsHistory (D.size (device self.old)) c h) }
-        ensures durable { D.is_observable → (h more : List EntrySpec) (calls entries : ℕ) → IsAtRest h self.old
-            → IsDurable h calls entries self.old more → IsDurable h calls entries self.new more }
+        ensures { Marks self.old self.new result }
     {
         let Some(mut log) = self.place.take() else {
             unreachable!()

@@ -3,13 +3,12 @@ ghost use Rattle.std.specs.Prelude.{◌≡◌, ◌+◌, ◌*◌, ◌≤◌};
 ghost use Rattle.btr_log.specs.Log.{log_device as device_of, log_tail, log_blocks, extents_of, is_log_stopped, faults_at};
 ghost use Rattle.btr_engine.specs.Place.{log_in};
 
-use crate::board::Board;
 use crate::place::Place;
 use crate::remains::Remains;
-use crate::snapshot::Snapshot;
 use btr_disk::Disk;
 use btr_hist::Spec;
 use btr_log::Log;
+use btr_streams::{Board, Snapshot};
 use btr_super::Super;
 use std::alloc::AllocError;
 use std::snapshot::Snapshot as State;
@@ -51,9 +50,9 @@ impl<D: Disk> Engine<D> {
     ghost use Rattle.btr_log.specs.Log.{log_device as device_of, log_tail, log_blocks, extents_of, faults_at};
     ghost use Rattle.btr_hist.specs.declared.entry.Entry.{Entry as EntrySpec};
     ghost use Rattle.btr_hist.specs.History.{stream_of, spec_of};
-    ghost use Rattle.btr_engine.specs.Board.{latest_of};
-    ghost use Rattle.btr_engine.specs.Snapshot.{IsSnapshotOf};
-    ghost use Rattle.btr_engine.specs.Engine.{device, entries_of, is_stopped, faults_at_open, IsEngineOf, IsMadeOf, is_home};
+    ghost use Rattle.btr_streams.specs.Board.{latest_of};
+    ghost use Rattle.btr_streams.specs.Snapshot.{IsSnapshotOf};
+    ghost use Rattle.btr_engine.specs.Engine.{device, board_of, entries_of, is_stopped, faults_at_open, IsEngineOf, IsMadeOf, is_home};
 
     /// Returns the engine of a log, of a board with the log's entries, of the superblock that is chosen on the device, and of the
     /// device as the first sync of an opening left it. It is for openings: it does not call the device, nor compare the board or the
@@ -143,7 +142,8 @@ impl<D: Disk> Engine<D> {
     /// home. It takes constant time and no memory, and frees none.
     pub fn into_parts(self) -> (D, Remains)
         requires home { is_home self ≡ true }
-        ensures { result.0 ≡ device self }
+        ensures disk { result.0 ≡ device self }
+        ensures remains { result.1.board ≡ board_of self }
     {
         let Engine { place, board, .. } = self;
         match place {

@@ -11,6 +11,7 @@ ghost use Rattle.btr_roll.specs.Roll.{IsRollWithinBounds};
 ghost use Rattle.btr_engine.specs.Body.{padding, body_of, extent_bytes};
 ghost use Rattle.btr_engine.specs.Late.{late_bytes};
 ghost use Rattle.btr_engine.specs.Mark.{body_of_roll};
+ghost use Rattle.btr_engine.specs.Travel.{written_pages};
 
 use crate::maker::Maker;
 use btr_disk::{BLOCK, Parts};
@@ -19,6 +20,7 @@ use btr_hist::Entry;
 use btr_log::{HEAD_BYTES, Head, blocks_of_content};
 use btr_pages::append_page;
 use btr_roll::{Roll, encode_roll};
+use btr_streams::Staged;
 use btr_tree::NewNode;
 use std::alloc::{AllocError, Global};
 
@@ -41,31 +43,35 @@ pub(crate) struct Extent {
     pub(crate) is_late: bool,
 }
 
-/// Returns the body of the entry with this number, followed by one block of zeros. The body has this root, and the pages of these nodes of
-/// this stream. It takes time linear in the entry and the nodes, and memory for what it returns alone. If there are many nodes, it makes what
+/// Returns the body of an entry that was staged, followed by one block of zeros: with the number of its receipt, its root, and the pages of
+/// its nodes. It takes time linear in the entry and the nodes, and memory for what it returns alone. If there are many nodes, it makes what
 /// stands before the pages in the parts of `maker`, and leaves the pages and the block of zeros for later.
 pub(crate) fn encode_extent<M: Maker>(
     maker: &M,
     alloc: Global,
     entry: &Entry,
-    number: u64,
-    stream: u32,
-    root: u64,
-    nodes: &[NewNode],
+    staged: &Staged,
 ) -> Result<Extent, AllocError>
     requires able { M.can_make }
     requires bounds { IsWithinBounds entry.now }
-    requires number { 1 ≤ number }
-    ensures bytes { IfOk result (λ x. x.front ++ late_bytes x.is_late stream nodes.now
-        ≡ body_of number entry.now root (pages_of stream nodes.now) ++ zeros 4096) }
-    ensures few { IfOk result (λ x. x.is_late ≡ true → length nodes.now < 2 ^ 62) }
+    requires number { 1 ≤ staged.now.receipt.number }
+    ensures bytes { IfOk result (λ x. x.front ++ late_bytes x.is_late staged.now.receipt.stream staged.now.nodes.items
+        ≡ body_of staged.now.receipt.number entry.now staged.now.root (written_pages staged.now) ++ zeros 4096) }
+    ensures few { IfOk result (λ x. x.is_late ≡ true → length staged.now.nodes.items < 2 ^ 62) }
     ensures spelled { OnOk result (IsSpelled entry.now) }
-    ensures low { OnOk result (root < 2 ^ 64) }
-    ensures room { OnOk result (content_blocks (length (spelling entry.now)) + length nodes.now < 2 ^ 64) }
+    ensures low { OnOk result (staged.now.root < 2 ^ 64) }
+    ensures room { OnOk result (content_blocks (length (spelling entry.now)) + length staged.now.nodes.items < 2 ^ 64) }
 {
-    let head = Head::for_entry(number, spelling_length(entry), nodes.len() as u64, root);
+    let receipt = staged.receipt;
+    let nodes = &staged.nodes;
+    let head = Head::for_entry(
+        receipt.number,
+        spelling_length(entry),
+        nodes.len() as u64,
+        staged.root,
+    );
     if nodes.len() < least_nodes(maker) || nodes.len() > MOST_NODES {
-        let front = in_one_part(alloc, &head, entry, stream, nodes)?;
+        let front = in_one_part(alloc, &head, entry, receipt.stream, nodes)?;
         return Ok(Extent {
             front,
             is_late: false,

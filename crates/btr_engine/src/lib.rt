@@ -4,22 +4,16 @@
 //! It is four calls ([`Engine::take_log`], [`Engine::stage`], [`Ready::write`], [`Engine::settle`]), between which the log is out of the
 //! engine, and the engine can be asked.
 //! A checkpoint ([`Engine::checkpoint`]) leaves the history as it is, and adds what an opening needs of the entries before it.
-//! `specs/Holds.antt` says which history a device holds, byte by byte. The crate btr_open makes the engine of a device.
+//! `specs/Holds.antt` says which history a device holds, byte by byte. The history in memory is that of the crate btr_streams. The crate
+//! btr_open makes the engine of a device.
 #![tactic(auto)]
 
 // the bytes of an entry
 mod extent;
 mod extent_parts;
+mod first_node;
 mod late;
 mod maker;
-// the history in memory
-mod answering;
-mod board;
-mod first_node;
-mod restoring;
-mod rolling;
-mod snapshot;
-mod staging;
 // the engine
 mod checkpoint;
 mod engine;
@@ -28,11 +22,10 @@ mod remains;
 mod step;
 mod travel;
 
-pub use board::{Board, PushFault, Receipt, Staged};
+pub use btr_streams::{Alone, Board, Crew, PushFault, Receipt, Snapshot, Staged, TreeMaker};
 pub use engine::Engine;
 pub use late::LatePages;
-pub use maker::{Alone, Crew, Maker};
+pub use maker::Maker;
 pub use remains::Remains;
-pub use snapshot::Snapshot;
 pub use step::StepFault;
-pub use travel::Ready;
+pub use travel::{Ready, Return};

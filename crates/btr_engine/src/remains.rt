@@ -1,6 +1,6 @@
 //! What an engine leaves beside its device.
 
-use crate::board::Board;
+use btr_streams::Board;
 
 /// What an engine leaves beside its device: its history in memory. To drop it frees that memory, node by node, in time linear in the
 /// nodes of all versions. A program that ends may forget it instead, by `std::mem::forget`: then the memory is the system's to free.

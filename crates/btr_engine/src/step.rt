@@ -1,18 +1,16 @@
 //! The step: it adds one entry, which is durable before the step returns.
-ghost use Rattle.std.specs.Prelude.{◌≡◌, ℕ, ◌+◌, List, [], ◌∷◌, ◌++◌, false, true, IfErr, IfOk, OnOk, length};
+ghost use Rattle.std.specs.Prelude.{◌≡◌, ℕ, true};
 ghost use Rattle.btr_log.specs.declared.append.AppendFault.TheVariants.{Full, Fault, Stopped as AlreadyStopped};
-ghost use Rattle.btr_hist.specs.declared.entry.Entry.{Entry as EntrySpec};
 ghost use Rattle.btr_engine.specs.declared.step.StepFault.TheVariants.{Stopped, DeviceFull, DeviceFault};
-ghost use Rattle.btr_engine.specs.Engine.{device, is_stopped, is_home};
-ghost use Rattle.btr_engine.specs.Engine.{IsEngineOf, IsAtRest, IsDurable, EngineLeaves, KeepsOpening};
-ghost use Rattle.btr_engine.specs.Step.{history_after, in_flight_after, IsBeforeOrAfter, HasEffect, IsStepped, StepCause, IsStep};
+ghost use Rattle.btr_engine.specs.Engine.{is_home};
+ghost use Rattle.btr_engine.specs.Step.{IsStep};
 
-use crate::board::{PushFault, Receipt};
 use crate::engine::Engine;
-use crate::maker::Alone;
+use crate::travel::Return;
 use btr_disk::Disk;
 use btr_hist::{Entry, Rejection};
 use btr_log::AppendFault;
+use btr_streams::{Alone, PushFault, Receipt};
 use std::alloc::{AllocError, Global};
 
 /// Why an entry was not accepted. If several causes hold, the first in this order is returned. Only the rejections `Crowded` and
@@ -49,27 +47,6 @@ impl<D: Disk> Engine<D> {
     /// The caller passes an engine whose log is at home, and gets it so.
     pub fn step(&mut self, alloc: Global, entry: &Entry) -> Result<Receipt, StepFault>
         requires home { is_home self.old ≡ true }
-        ensures home { is_home self.new ≡ true }
-        ensures effect { HasEffect self.old self.new result }
-        ensures cause { (h : List EntrySpec) → IsEngineOf h self.old → IfErr result (StepCause h self.old self.new entry.now) }
-        ensures stepped { (h : List EntrySpec) → IsEngineOf h self.old → IfOk result (IsStepped h self.old self.new entry.now) }
-        ensures kept { KeepsOpening self.old self.new }
-        ensures at_rest { D.is_observable → (h : List EntrySpec) → IsAtRest h self.old
-            → OnOk result (IsAtRest (h ++ entry.now ∷ []) self.new) }
-        ensures moments { D.is_observable → (h : List EntrySpec) → IsAtRest h self.old
-            → EngineLeaves self.old self.new (IsBeforeOrAfter (D.size (device self.old)) h entry.now) }
-        ensures acknowledged { D.is_observable → (h : List EntrySpec) → IsAtRest h self.old
-            → OnOk result (IsDurable (h ++ entry.now ∷ []) (D.calls (device self.new)) (length h + 1) self.new []) }
-        ensures durable { D.is_observable → (h more : List EntrySpec) (calls entries : ℕ)
-            → (is_stopped self.old ≡ false → IsAtRest h self.old) → IsDurable h calls entries self.old more
-            → IsDurable (history_after result h entry.now) calls entries self.new (in_flight_after result more entry.now) }
-    {
-        self.taken_step(alloc, entry)
-    }
-
-    /// Takes the log out, stages the entry, writes it, and brings the log back.
-    fn taken_step(&mut self, alloc: Global, entry: &Entry) -> Result<Receipt, StepFault>
-        requires home { is_home self.old ≡ true }
         ensures { IsStep self.old self.new entry.now result }
     {
         let Some(log) = self.take_log() else {
@@ -78,16 +55,16 @@ impl<D: Disk> Engine<D> {
         let ready = match self.stage(&Alone, alloc, &log, entry) {
             Ok(ready) => ready,
             Err(fault) => {
-                self.settle(log, None, false);
+                self.settle(log, Return::Untouched);
                 return Err(fault);
             }
         };
         let (log, written) = ready.write(&Alone, log);
         if let Err(_) = written {
-            self.settle(log, None, true);
+            self.settle(log, Return::Failed);
             return Err(StepFault::DeviceFault);
         }
-        match self.settle(log, Some(ready), false) {
+        match self.settle(log, Return::Written(ready)) {
             Some(receipt) => Ok(receipt),
             None => unreachable!(),
         }

@@ -1,25 +1,22 @@
 //! The travel of the log: it is taken out of the engine, written beside it, and brought back.
-ghost use Rattle.std.specs.Prelude.{◌≡◌, ◌+◌, ◌/◌, ◌^◌, ◌<◌, List, [], ◌∷◌, ◌++◌, true, false, not, IfErr, IfOk, IsTrue, OnOk, Err, length};
+ghost use Rattle.std.specs.Prelude.{◌≡◌, ◌+◌, ◌/◌, ◌^◌, ◌<◌, List, true, false, not, IfErr, IfOk, IsTrue, OnOk, Err, length};
 ghost use Rattle.btr_hist.specs.declared.entry.Entry.{Entry as EntrySpec};
-ghost use Rattle.btr_super.specs.declared.superblock.Super.{Super as SuperSpec};
-ghost use Rattle.btr_log.specs.Log.{log_device, log_tail, LogLeaves};
 ghost use Rattle.btr_engine.specs.declared.step.StepFault.TheVariants.{Stopped};
-ghost use Rattle.btr_engine.specs.Board.{Kept};
 ghost use Rattle.btr_engine.specs.Engine.{log_of, board_of, entries_of, tail_of, is_stopped, is_home, IsEngineOf};
-ghost use Rattle.btr_engine.specs.Step.{IsBeforeOrAfter, HasResult, StepCause};
-ghost use Rattle.btr_engine.specs.Stage.{WritesEntry};
-ghost use Rattle.btr_engine.specs.Travel.{run_of, IsMade, IsStaged, HoldsNow, IsReadyFor, IsReadyOn, IsWritten, HasFailed};
-ghost use Rattle.btr_engine.specs.Travel.{IsTaken, Settles, IsHomeAgain};
+ghost use Rattle.btr_engine.specs.Step.{HasResult, StepCause};
+ghost use Rattle.btr_engine.specs.Travel.{run_of, IsMade, IsStaged, IsReadyFor, IsReadyOn, IsWritten, HasFailed};
+ghost use Rattle.btr_engine.specs.Travel.{HoldsEntry, LeavesEntry, IsTaken, Settles, IsHomeAgain, written_in};
 
-use crate::board::{Receipt, Staged};
 use crate::engine::Engine;
 use crate::extent::{Extent, encode_extent};
+use crate::first_node::first_node;
 use crate::late::{LateBlocks, LatePages};
 use crate::maker::Maker;
 use crate::step::StepFault;
 use btr_disk::{BLOCK, Disk, Failed, Parts};
 use btr_hist::Entry;
 use btr_log::Log;
+use btr_streams::{Receipt, Staged};
 use std::alloc::Global;
 
 /// An entry that may follow the history of an engine, with all that is needed to add it.
@@ -33,6 +30,19 @@ pub struct Ready {
 
     /// Whether the pages, and the block of zeros after them, are made while they are written.
     pub(crate) is_late: bool,
+}
+
+/// How a log comes back to the engine that it was taken out of.
+#[derive(Drop)]
+pub enum Return {
+    /// As it was taken.
+    Untouched,
+
+    /// With this entry, which was written to it.
+    Written(Ready),
+
+    /// Its device failed while an entry was written.
+    Failed,
 }
 
 impl Ready {
@@ -61,12 +71,8 @@ impl Ready {
         requires ready { (e : EntrySpec) × IsReadyFor log e self.now }
         ensures written { OnOk result.1 (IsWritten log result.0 self.now) }
         ensures failed { IfErr result.1 (λ _. HasFailed log result.0) }
-        ensures holds { D.is_observable → (h : List EntrySpec) (b : Kept) (s : SuperSpec) (e : EntrySpec) → IsReadyFor log e self.now
-            → IsStaged h b (log_tail log) e self.now → HoldsNow h b s log
-            → OnOk result.1 (HoldsNow (h ++ e ∷ []) self.now.staged.next s result.0) }
-        ensures moments { D.is_observable → (h : List EntrySpec) (b : Kept) (s : SuperSpec) (e : EntrySpec) → IsReadyFor log e self.now
-            → IsStaged h b (log_tail log) e self.now → HoldsNow h b s log
-            → LogLeaves log result.0 (IsBeforeOrAfter (D.size (log_device log)) h e) }
+        ensures holds { (e : EntrySpec) → IsReadyFor log e self.now → OnOk result.1 (HoldsEntry log result.0 e self.now) }
+        ensures moments { (e : EntrySpec) → IsReadyFor log e self.now → LeavesEntry log result.0 e self.now }
     {
         let mut log = log;
         let late = LateBlocks {
@@ -152,17 +158,9 @@ impl<D: Disk> Engine<D> {
         ensures cause { (h : List EntrySpec) → IsEngineOf h self.now → IfErr result (StepCause h self.now self.now entry.now) }
         ensures refused { IfErr result (λ fault. HasResult self.now self.now (Err fault)) }
     {
-        let staged = self.board.stage(maker, alloc, entry, tail)?;
-        let receipt = staged.receipt;
-        let Extent { front, is_late } = encode_extent(
-            maker,
-            alloc,
-            entry,
-            receipt.number,
-            receipt.stream,
-            staged.root,
-            &staged.nodes,
-        )?;
+        let first = first_node(tail, entry);
+        let staged = self.board.stage(maker, alloc, entry, first)?;
+        let Extent { front, is_late } = encode_extent(maker, alloc, entry, &staged)?;
         Ok(Ready {
             staged,
             front,
@@ -170,19 +168,21 @@ impl<D: Disk> Engine<D> {
         })
     }
 
-    /// Brings the log back. With an entry that was made ready and written, the engine adds the entry, and the receipt is returned. The
-    /// caller passes `None` and `false` with the log as it was taken, and `None` and `true` with a log whose device failed in the write,
-    /// which stops the engine. It takes constant time and no memory.
-    pub fn settle(&mut self, log: Log<D>, ready: Option<Ready>, faulted: bool) -> Option<Receipt>
+    /// Brings the log back. If an entry was written to it, the engine adds the entry, and its receipt is returned. If the device failed,
+    /// the engine is stopped. It takes constant time and no memory.
+    pub fn settle(&mut self, log: Log<D>, how: Return) -> Option<Receipt>
         requires out { is_home self.old ≡ false }
-        requires settles { Settles self.old log ready faulted }
-        ensures { IsHomeAgain self.old log ready self.new result }
+        requires settles { Settles self.old log how }
+        ensures { IsHomeAgain self.old log (written_in how) self.new result }
     {
         self.place.put_back(log);
-        self.stopped |= faulted;
-        match ready {
-            Some(ready) => Some(self.board.accept(ready.staged)),
-            None => None,
+        match how {
+            Return::Untouched => None,
+            Return::Written(ready) => Some(self.board.accept(ready.staged)),
+            Return::Failed => {
+                self.stopped = true;
+                None
+            }
         }
     }
 }

@@ -18,10 +18,10 @@ use Rattle.btr_plan.specs.Plan.{IsPlanOf, IsCurrent, MayReject}
 use Rattle.btr_plan.proofs.PlanLemmas.{plan-stays, plan-current, plan-may_reject, plan-not_crowded, plan-not_many}
 use Rattle.btr_plan.proofs.PlanLemmas.{reply-superseded, reply-accepted, reply-limit}
 use Rattle.btr_engine.specs.declared.engine.Engine.{Engine}
-use Rattle.btr_engine.specs.declared.board.Receipt.{Receipt}
+use Rattle.btr_streams.specs.declared.board.Receipt.{Receipt}
 use Rattle.btr_engine.specs.declared.step.StepFault.{StepFault}
 use Rattle.btr_engine.specs.declared.step.StepFault.TheVariants as steps
-use Rattle.btr_engine.specs.Board.{latest_of}
+use Rattle.btr_streams.specs.Board.{latest_of}
 use Rattle.btr_engine.specs.Engine.{is_stopped, is_home, IsEngineOf}
 use Rattle.btr_engine.specs.Step.{IsStep, IsStepped, HasResult}
 use Rattle.btr_gate.specs.Prefixes.{StartsWith}

@@ -7,10 +7,10 @@ use Rattle.btr_disk.specs.declared.disk.Disk.{Ghosts}
 use Rattle.btr_hist.specs.declared.entry.Entry.{Entry}
 use Rattle.btr_log.specs.Extents.{left}
 use Rattle.btr_engine.specs.declared.engine.Engine.{Engine}
-use Rattle.btr_engine.specs.declared.board.Receipt.{Receipt}
+use Rattle.btr_streams.specs.declared.board.Receipt.{Receipt}
 use Rattle.btr_engine.specs.declared.step.StepFault.{StepFault}
 use Rattle.btr_engine.specs.declared.step.StepFault.TheVariants.{Stopped, Rejected, Want, DeviceFull, DeviceFault}
-use Rattle.btr_engine.specs.Board.{IsBoardOf}
+use Rattle.btr_streams.specs.Board.{IsBoardOf}
 use Rattle.btr_engine.specs.Body.{need_of, needs_after}
 use Rattle.btr_engine.specs.Engine.{log_of, board_of, super_of, entries_at_open, is_home, entries_of, blocks_of, tail_of, room_of, is_stopped, IsEngineOf, IsAtRest, IsDurable, KeepsOpening}
 use Rattle.btr_engine.specs.Step.{CanStep, IsStep, IsStepped, AddsOne, StopsByFault}

@@ -7,15 +7,15 @@ use Rattle.btr_log.specs.Log.{log_tail}
 use Rattle.btr_super.specs.declared.superblock.Super.{Super}
 use Rattle.btr_hist.specs.declared.entry.Entry.{Entry}
 use Rattle.btr_engine.specs.declared.engine.Engine.{Engine}
-use Rattle.btr_engine.specs.declared.board.Receipt.{Receipt}
+use Rattle.btr_streams.specs.declared.board.Receipt.{Receipt}
 use Rattle.btr_engine.specs.declared.step.StepFault.{StepFault}
 use Rattle.btr_engine.specs.declared.step.StepFault.TheVariants.{Stopped, Rejected, Want, DeviceFull, DeviceFault}
 use Rattle.btr_engine.specs.declared.travel.Ready.{Ready}
-use Rattle.btr_engine.specs.Board.{Kept}
+use Rattle.btr_streams.specs.Board.{Kept}
 use Rattle.btr_engine.specs.Engine.{log_of, is_home}
 use Rattle.btr_engine.specs.Step.{IsStep, HasResult}
-use Rattle.btr_engine.specs.Travel.{IsLike, IsReadyOn, IsStaged, IsWritten, HasFailed, HoldsNow}
-use Rattle.btr_engine.proofs.TravelLemmas.{HasMoments, LeavesEntry, StagesOn, written_step, failed_step}
+use Rattle.btr_engine.specs.Travel.{IsLike, IsReadyOn, IsStaged, IsWritten, HasFailed, HoldsNow, LeavesEntry}
+use Rattle.btr_engine.proofs.TravelLemmas.{HasMoments, StagesOn, written_step, failed_step}
 use Rattle.btr_gate.specs.declared.view.View.{View}
 use Rattle.btr_gate.specs.declared.view.Stage.TheVariants.{Idle}
 use Rattle.btr_gate.specs.declared.turn.Turn.{Turn}

@@ -7,12 +7,12 @@ use Rattle.btr_hist.specs.declared.entry.Entry.{Entry}
 use Rattle.btr_hist.specs.declared.entry.Entry.TheVariants as entries
 use Rattle.btr_hist.specs.Legal.{rejection}
 use Rattle.btr_engine.specs.declared.engine.Engine.{Engine}
-use Rattle.btr_engine.specs.declared.board.Receipt.{Receipt}
+use Rattle.btr_streams.specs.declared.board.Receipt.{Receipt}
 use Rattle.btr_engine.specs.declared.step.StepFault.{StepFault}
 use Rattle.btr_engine.specs.declared.step.StepFault.TheVariants.{Stopped, Rejected, Want, DeviceFull, DeviceFault}
 use Rattle.btr_engine.specs.Body.{need_of, needs_after}
 use Rattle.btr_engine.specs.Engine.{room_of, IsEngineOf}
-use Rattle.btr_engine.specs.Stage.{MayLackMemory, IsReceipt}
+use Rattle.btr_streams.specs.Stage.{MayLackMemory, IsReceipt}
 use Rattle.btr_engine.specs.Step.{IsStep}
 use Rattle.btr_gate.specs.Prefixes.{StartsWith}
 use Rattle.btr_hall.specs.declared.item.Item.{Item}

@@ -3,7 +3,7 @@ ghost use Rattle.std.specs.Prelude.{◌≡◌, List, length, IfOk, if◌then◌e
 ghost use Rattle.btr_hist.specs.declared.entry.Entry.{Entry as EntrySpec};
 ghost use Rattle.btr_hist.specs.Answer.{answer};
 ghost use Rattle.btr_engine.specs.Engine.{entries_of, is_stopped, IsEngineOf};
-ghost use Rattle.btr_engine.specs.Snapshot.{IsSnapshotOf};
+ghost use Rattle.btr_streams.specs.Snapshot.{IsSnapshotOf};
 ghost use Rattle.btr_hall.specs.Trace.{history_of, stopped_in};
 ghost use Rattle.btr_hall.specs.Found.{IsFound};
 ghost use Rattle.btr_hall.specs.Session.{IsSessionOf, Looks, opening_of, seen_of, engine_of, stopped_at};

@@ -14,7 +14,7 @@ use crate::item::Item;
 use crate::session::Hall;
 use crate::store::Store;
 use btr_disk::{Disk, Failed};
-use btr_engine::{Crew, Engine, Ready, Receipt, StepFault};
+use btr_engine::{Crew, Engine, Ready, Receipt, Return, StepFault};
 use btr_gate::{Pass, Turn};
 use btr_hist::Entry;
 use btr_log::Log;
@@ -108,7 +108,7 @@ impl<D: Disk> Store<D> {
         match self.engine.stage(&crew, alloc, &log, entry) {
             Ok(ready) => Ok((log, ready)),
             Err(fault) => {
-                self.engine.settle(log, None, false);
+                self.engine.settle(log, Return::Untouched);
                 Err(fault)
             }
         }
@@ -129,12 +129,12 @@ impl<D: Disk> Store<D> {
         ensures { Brings self.old self.new log ready entry.now written result.0 result.1 }
     {
         if let Err(_) = written {
-            self.engine.settle(log, None, true);
+            self.engine.settle(log, Return::Failed);
             self.halted = true;
             let item = halted(entry, &self.engine);
             return (Err(StepFault::DeviceFault), Some(item));
         }
-        match self.engine.settle(log, Some(ready), false) {
+        match self.engine.settle(log, Return::Written(ready)) {
             Some(receipt) => {
                 let item = added(entry, &self.engine);
                 (Ok(receipt), Some(item))

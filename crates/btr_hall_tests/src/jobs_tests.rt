@@ -22,7 +22,7 @@ impl Job for Make {
     ghost use Rattle.std.specs.Prelude.{◌≡◌, List, Result, Some};
     ghost use Rattle.btr_hist.specs.declared.entry.Entry.{Entry as EntrySpec};
     ghost use Rattle.btr_hist.specs.declared.entry.Entry.TheVariants.{Create};
-    ghost use Rattle.btr_engine.specs.declared.board.Receipt.{Receipt as ReceiptSpec};
+    ghost use Rattle.btr_streams.specs.declared.board.Receipt.{Receipt as ReceiptSpec};
     ghost use Rattle.btr_engine.specs.declared.step.StepFault.{StepFault as StepFaultSpec};
     ghost use Rattle.btr_jobs.specs.Turns.{CommittedAfter};
     ghost use Rattle.btr_jobs.specs.TurnLaws.{committed_lasts, committed_lowers};

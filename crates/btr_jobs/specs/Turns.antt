@@ -9,11 +9,11 @@ use Rattle.btr_hist.specs.Machine.Reply.{Accepted, Superseded, Rejected}
 use Rattle.btr_hist.specs.Machine as machine
 use Rattle.btr_distil.specs.Plan.{PlanValue, entry_of}
 use Rattle.btr_plan.specs.Plan.{IsCurrent, reply_to}
-use Rattle.btr_engine.specs.declared.board.Receipt.{Receipt}
+use Rattle.btr_streams.specs.declared.board.Receipt.{Receipt}
 use Rattle.btr_engine.specs.declared.step.StepFault.{StepFault}
 use Rattle.btr_engine.specs.declared.step.StepFault.TheVariants as steps
 use Rattle.btr_engine.specs.Body.{need_of, needs_of}
-use Rattle.btr_engine.specs.Stage.{MayLackMemory, IsReceipt}
+use Rattle.btr_streams.specs.Stage.{MayLackMemory, IsReceipt}
 use Rattle.btr_gate.specs.Prefixes.{StartsWith}
 use Rattle.btr_hall.specs.declared.land.LandFault.{LandFault}
 use Rattle.btr_hall.specs.declared.land.LandFault.TheVariants as faults

@@ -19,7 +19,7 @@ use Rattle.btr_hist.specs.Answer.{is_range}
 use Rattle.btr_text.specs.declared.reply.Reason.TheVariants as reasons
 use Rattle.btr_engine.specs.declared.engine.Engine.{Engine}
 use Rattle.btr_engine.specs.Engine.{IsEngineOf}
-use Rattle.btr_engine.specs.Stage.{MayLackMemory}
+use Rattle.btr_streams.specs.Stage.{MayLackMemory}
 use Rattle.btr_engine.proofs.EngineLemmas.{known_below, few_versions_of}
 use Rattle.btr_live.specs.Meaning.{Commits, Refuses, on_stream, delete}
 

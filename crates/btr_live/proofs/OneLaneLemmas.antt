@@ -17,7 +17,7 @@ use Rattle.btr_text.specs.declared.script.ScriptLine.{ScriptLine}
 use Rattle.btr_text.specs.declared.reply.LineReply.{LineReply}
 use Rattle.btr_text.specs.declared.reply.LineReply.TheVariants.{No}
 use Rattle.btr_text.specs.declared.reply.Reason.TheVariants as reasons
-use Rattle.btr_engine.specs.declared.board.Receipt.{Receipt}
+use Rattle.btr_streams.specs.declared.board.Receipt.{Receipt}
 use Rattle.btr_engine.specs.declared.step.StepFault.{StepFault}
 use Rattle.btr_gate.specs.Numbers.{one, total, times, given}
 use Rattle.btr_gate.specs.Prefixes.{StartsWith}

@@ -5,7 +5,7 @@ use Rattle.btr_disk.specs.declared.disk.Disk.{Ghosts}
 use Rattle.btr_hist.specs.declared.entry.Entry.{Entry}
 use Rattle.btr_distil.specs.Plan.{PlanValue, entry_of}
 use Rattle.btr_plan.specs.Next.{IsNextPlan}
-use Rattle.btr_engine.specs.declared.board.Receipt.{Receipt}
+use Rattle.btr_streams.specs.declared.board.Receipt.{Receipt}
 use Rattle.btr_text.specs.declared.reply.LineReply.{LineReply}
 use Rattle.btr_text.specs.declared.reply.LineReply.TheVariants as replies
 use Rattle.btr_text.specs.declared.reply.Reason.TheVariants as reasons

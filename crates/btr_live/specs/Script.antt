@@ -11,7 +11,7 @@ use Rattle.btr_text.specs.declared.reply.LineReply.TheVariants.{No}
 use Rattle.btr_text.specs.declared.reply.Reason.TheVariants as reasons
 use Rattle.btr_text.specs.Text.{text}
 use Rattle.btr_engine.specs.Body.{need_of}
-use Rattle.btr_engine.specs.Stage.{MayLackMemory}
+use Rattle.btr_streams.specs.Stage.{MayLackMemory}
 use Rattle.btr_base.specs.declared.point.Point.{Point}
 use Rattle.btr_live.specs.Feeds.{Waiting, none_waiting, fed}
 use Rattle.btr_live.specs.Meaning.{Meaning, Commits, Asks, Holds, Current, Refuses, meaning}

@@ -3,7 +3,7 @@ ghost use Rattle.std.specs.Prelude.{List, Some};
 ghost use Rattle.btr_hist.specs.History.{stream_of};
 ghost use Rattle.btr_hist.specs.Query.{of_stream};
 ghost use Rattle.btr_hist.specs.declared.entry.Entry.{Entry as EntrySpec};
-ghost use Rattle.btr_engine.specs.Snapshot.{IsSnapshotOf};
+ghost use Rattle.btr_streams.specs.Snapshot.{IsSnapshotOf};
 ghost use Rattle.btr_live.specs.Meaning.{Asks, on_stream, question};
 ghost use Rattle.btr_live.specs.Serving.{IsAnswerOrNoMemory};
 

@@ -17,7 +17,7 @@ use Rattle.btr_hist.specs.Legal.{rejection}
 use Rattle.btr_hist.proofs.HistoryLemmas.{ids-append, kinds-append, commits-append, streams-append, length-kinds}
 use Rattle.btr_rows.specs.declared.row.NumberedPoint.{NumberedPoint}
 use Rattle.btr_rows.specs.Streams.{StreamValue}
-use Rattle.btr_engine.specs.declared.board.Receipt.{Receipt}
+use Rattle.btr_streams.specs.declared.board.Receipt.{Receipt}
 use Rattle.btr_engine.specs.declared.step.StepFault.{StepFault}
 use Rattle.btr_engine.specs.declared.step.StepFault.TheVariants as steps
 use Rattle.btr_engine.specs.Step.{history_after}

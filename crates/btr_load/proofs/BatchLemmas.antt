@@ -7,7 +7,7 @@ use Rattle.std.proofs.lemmas.Bool.{cases_lt}
 use Rattle.std.proofs.Math.Nat.{add-div_left, mod-eq-sub-mod}
 use Rattle.btr_hist.specs.declared.entry.Entry.{Entry}
 use Rattle.btr_rows.specs.declared.row.NumberedPoint.{NumberedPoint}
-use Rattle.btr_engine.specs.declared.board.Receipt.{Receipt}
+use Rattle.btr_streams.specs.declared.board.Receipt.{Receipt}
 use Rattle.btr_engine.specs.declared.step.StepFault.{StepFault}
 use Rattle.btr_engine.specs.declared.step.StepFault.TheVariants.{Want}
 use Rattle.btr_gate.specs.Prefixes.{StartsWith}

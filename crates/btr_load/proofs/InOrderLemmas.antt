@@ -10,7 +10,7 @@ use Rattle.btr_hist.specs.declared.kernel.Spec.{Spec}
 use Rattle.btr_hist.specs.History.{stream_of, spec_of, latest}
 use Rattle.btr_rows.specs.declared.row.NumberedPoint.{NumberedPoint}
 use Rattle.btr_rows.specs.Streams.{StreamValue}
-use Rattle.btr_engine.specs.declared.board.Receipt.{Receipt}
+use Rattle.btr_streams.specs.declared.board.Receipt.{Receipt}
 use Rattle.btr_engine.specs.declared.step.StepFault.{StepFault}
 use Rattle.btr_engine.specs.Step.{history_after}
 use Rattle.btr_gate.specs.Numbers.{one, total}

@@ -8,7 +8,7 @@ use Rattle.btr_hist.specs.History.{stream_of, spec_of, latest}
 use Rattle.btr_rows.specs.declared.row.NumberedPoint.{NumberedPoint}
 use Rattle.btr_rows.specs.declared.row.RefusedRow.{RefusedRow}
 use Rattle.btr_rows.specs.Streams.{StreamValue, RowListValue}
-use Rattle.btr_engine.specs.declared.board.Receipt.{Receipt}
+use Rattle.btr_streams.specs.declared.board.Receipt.{Receipt}
 use Rattle.btr_engine.specs.declared.step.StepFault.{StepFault}
 use Rattle.btr_engine.specs.Engine.{IsEngineOf}
 use Rattle.btr_gate.proofs.NumberLemmas.{times_append}

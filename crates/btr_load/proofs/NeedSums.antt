@@ -14,7 +14,7 @@ use Rattle.btr_entry.specs.Grammar.{number, range, point, listed}
 use Rattle.btr_entry.proofs.NumberLemmas.{wide32}
 use Rattle.btr_log.specs.Head.{content_blocks}
 use Rattle.btr_rows.specs.declared.row.NumberedPoint.{NumberedPoint}
-use Rattle.btr_engine.specs.declared.board.Receipt.{Receipt}
+use Rattle.btr_streams.specs.declared.board.Receipt.{Receipt}
 use Rattle.btr_engine.specs.declared.step.StepFault.{StepFault}
 use Rattle.btr_engine.specs.declared.step.StepFault.TheVariants as steps
 use Rattle.btr_engine.specs.Body.{node_blocks, need_after, need_of, needs_after, needs_of}

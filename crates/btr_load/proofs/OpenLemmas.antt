@@ -8,7 +8,7 @@ use Rattle.btr_hist.specs.declared.entry.Entry.{Entry}
 use Rattle.btr_hist.specs.declared.kernel.Spec.{Spec}
 use Rattle.btr_hist.specs.History.{ids, stream_of, latest}
 use Rattle.btr_rows.specs.Streams.{StreamValue}
-use Rattle.btr_engine.specs.Board.{latest_of}
+use Rattle.btr_streams.specs.Board.{latest_of}
 use Rattle.btr_load.specs.declared.outcome.RowsOutcome.{RowsOutcome}
 use Rattle.btr_load.specs.declared.outcome.RowsOutcome.TheVariants.{Output}
 use Rattle.btr_load.specs.Loads.{IsCommittedTo, OutcomeOfFound}

@@ -18,7 +18,7 @@ use Rattle.btr_hist.specs.Legal.{Follows}
 use Rattle.btr_hist.proofs.HistoryLemmas.{ids-append, latest-append, unknown}
 use Rattle.btr_rows.specs.declared.row.NumberedPoint.{NumberedPoint}
 use Rattle.btr_rows.specs.Streams.{StreamValue, RowListValue}
-use Rattle.btr_engine.specs.declared.board.Receipt.{Receipt}
+use Rattle.btr_streams.specs.declared.board.Receipt.{Receipt}
 use Rattle.btr_engine.specs.declared.step.StepFault.{StepFault}
 use Rattle.btr_engine.specs.Step.{history_after}
 use Rattle.btr_gate.specs.Numbers.{one, total, times}

@@ -12,7 +12,7 @@ use Rattle.btr_hist.specs.Machine as machine
 use Rattle.btr_hist.specs.Machine.{committed}
 use Rattle.btr_rows.specs.declared.row.NumberedPoint.{NumberedPoint}
 use Rattle.btr_rows.specs.Streams.{StreamValue, RowListValue}
-use Rattle.btr_engine.specs.declared.board.Receipt.{Receipt}
+use Rattle.btr_streams.specs.declared.board.Receipt.{Receipt}
 use Rattle.btr_engine.specs.declared.step.StepFault.{StepFault}
 use Rattle.btr_engine.specs.declared.step.StepFault.TheVariants.{Rejected, Stopped, Want, DeviceFull, DeviceFault}
 use Rattle.btr_jobs.specs.States.{StoreState, LogState}

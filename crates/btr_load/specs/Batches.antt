@@ -5,7 +5,7 @@ use Rattle.btr_base.specs.Commit.{Change}
 use Rattle.btr_hist.specs.declared.entry.Entry.{Entry}
 use Rattle.btr_hist.specs.declared.entry.Entry.TheVariants.{Commit}
 use Rattle.btr_rows.specs.declared.row.NumberedPoint.{NumberedPoint}
-use Rattle.btr_engine.specs.declared.board.Receipt.{Receipt}
+use Rattle.btr_streams.specs.declared.board.Receipt.{Receipt}
 use Rattle.btr_engine.specs.declared.step.StepFault.{StepFault}
 
 -- At most this many batches of a list. Each has `size` items, and the last one what is left.

@@ -11,7 +11,7 @@ use Rattle.btr_rows.specs.declared.row.NumberedPoint.{NumberedPoint}
 use Rattle.btr_rows.specs.declared.row.Row.{Row}
 use Rattle.btr_rows.specs.declared.row.RowReason.{RowReason}
 use Rattle.btr_rows.specs.Streams.{StreamValue, RowListValue, list_of}
-use Rattle.btr_engine.specs.declared.board.Receipt.{Receipt}
+use Rattle.btr_streams.specs.declared.board.Receipt.{Receipt}
 use Rattle.btr_engine.specs.declared.step.StepFault.{StepFault}
 use Rattle.btr_gate.specs.Numbers.{one, total, times, given}
 use Rattle.btr_jobs.specs.States.{StoreState, LogState}

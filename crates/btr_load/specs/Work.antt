@@ -2,7 +2,7 @@
 use Rattle.std.specs.Prelude.{◌≡◌, ◌⊎◌, ℕ, ◌+◌, ◌<◌, List, [], ◌∷◌, ◌++◌, length, replicate, Result, Err}
 use Rattle.btr_hist.specs.declared.entry.Entry.{Entry}
 use Rattle.btr_rows.specs.declared.row.NumberedPoint.{NumberedPoint}
-use Rattle.btr_engine.specs.declared.board.Receipt.{Receipt}
+use Rattle.btr_streams.specs.declared.board.Receipt.{Receipt}
 use Rattle.btr_engine.specs.declared.step.StepFault.{StepFault}
 use Rattle.btr_engine.specs.declared.step.StepFault.TheVariants.{Want}
 use Rattle.btr_gate.specs.Numbers.{times}

@@ -3,7 +3,7 @@ use Rattle.std.specs.Prelude.{ℕ, List, [], ◌∷◌, Result}
 use Rattle.std.proofs.Common.{refl, sym, subst, inl, inr}
 use Rattle.btr_hist.specs.declared.entry.Entry.{Entry}
 use Rattle.btr_rows.specs.declared.row.NumberedPoint.{NumberedPoint}
-use Rattle.btr_engine.specs.declared.board.Receipt.{Receipt}
+use Rattle.btr_streams.specs.declared.board.Receipt.{Receipt}
 use Rattle.btr_engine.specs.declared.step.StepFault.{StepFault}
 use Rattle.btr_gate.specs.Prefixes.{StartsWith}
 use Rattle.btr_gate.proofs.PrefixLemmas.{starts_refl}

@@ -14,7 +14,7 @@ pub struct BatchResults {
 
 impl Model for BatchResults {
     ghost use Rattle.std.specs.Prelude.{List, Result};
-    ghost use Rattle.btr_engine.specs.declared.board.Receipt.{Receipt};
+    ghost use Rattle.btr_streams.specs.declared.board.Receipt.{Receipt};
     ghost use Rattle.btr_engine.specs.declared.step.StepFault.{StepFault};
 
     ghost Value = { List (Result Receipt StepFault) };

@@ -2,7 +2,7 @@
 ghost use Rattle.std.specs.Prelude.{◌≡◌, ◌≤◌, ◌<◌, List, length, IfOk};
 ghost use Rattle.btr_hist.specs.declared.entry.Entry.{Entry as EntrySpec};
 ghost use Rattle.btr_hist.specs.History.{ids, stream_of, spec_of};
-ghost use Rattle.btr_engine.specs.Snapshot.{IsSnapshotOf};
+ghost use Rattle.btr_streams.specs.Snapshot.{IsSnapshotOf};
 ghost use Rattle.btr_load.specs.Batches.{batches_of};
 ghost use Rattle.btr_load.specs.Work.{IsBlank};
 ghost use Rattle.btr_load.specs.Loads.{IsCommittedTo, OutcomeOfFound};

@@ -59,6 +59,10 @@ node_of_stream stream page = if nat_eq (front page).stream stream then Some (nod
 abbrev pub nodes_in : Pages → ℕ → Store
 nodes_in pages stream block = option_and_then (node_of_stream stream) (pages block)
 
+-- The page in a block is that of this node of the stream.
+abbrev pub Stand : Pages → ℕ → ℕ → NewNodeValue → Type 0
+Stand pages stream block node = nodes_in pages stream block ≡ Some node
+
 -- ---- a node as a page
 
 -- The place of no point.

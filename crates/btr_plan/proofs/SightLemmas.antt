@@ -13,9 +13,9 @@ use Rattle.btr_hist.specs.History.{ids, spec_of, latest, bag, reads, latest_read
 use Rattle.btr_hist.specs.Legal.{is_stream, second_is_stream, has_inputs, may_read_second, may_read, Follows}
 use Rattle.btr_hist.proofs.ReadsLemmas.{AreThere, there-second, may_read-there, may_read-latest}
 use Rattle.btr_hist.proofs.OutputLemmas.{follows-output}
-use Rattle.btr_engine.specs.Past.{commits_to}
-use Rattle.btr_engine.specs.Board.{IsTreeOf, latest_of}
-use Rattle.btr_engine.proofs.BoardTrees.{bag-commits_to, up_to-commits_to}
+use Rattle.btr_streams.specs.Past.{commits_to}
+use Rattle.btr_streams.specs.Board.{IsTreeOf, latest_of}
+use Rattle.btr_streams.proofs.BoardTrees.{bag-commits_to, up_to-commits_to}
 use Rattle.btr_distil.specs.Sight.{SightValue, IsInput, IsSecondInput, IsSightOf}
 use Rattle.btr_plan.specs.Sight.{IsSightTo, IsSightAfter}
 

@@ -3,14 +3,14 @@ ghost use Rattle.std.specs.Prelude.{◌≡◌, ◌↔◌, true, List, None, IfOk
 ghost use Rattle.btr_hist.specs.declared.entry.Entry.{Entry as EntrySpec};
 ghost use Rattle.btr_hist.specs.History.{spec_of};
 ghost use Rattle.btr_hist.specs.Legal.{rejection, takes_reads, IsDistillate, IsComputed};
-ghost use Rattle.btr_engine.specs.Snapshot.{IsSnapshotOf};
+ghost use Rattle.btr_streams.specs.Snapshot.{IsSnapshotOf};
 ghost use Rattle.btr_distil.specs.Plan.{change};
 
 use crate::sighting::sight_to;
 use btr_base::{Bag, Ranges};
 use btr_distil::{Plan, plan_anew};
-use btr_engine::Snapshot;
 use btr_hist::{Entry, Reads};
+use btr_streams::Snapshot;
 use std::alloc::{AllocError, Global};
 
 /// Returns whether an entry is what the definition gives. It computes the cut and the points of a distillate anew, from the versions

@@ -2,14 +2,14 @@
 ghost use Rattle.std.specs.Prelude.{◌≡◌, ◌↔◌, ℕ, List, IfOk, IsNone, IfSome};
 ghost use Rattle.btr_hist.specs.declared.entry.Entry.{Entry as EntrySpec};
 ghost use Rattle.btr_hist.specs.Legal.{Follows};
-ghost use Rattle.btr_engine.specs.Snapshot.{IsSnapshotOf};
+ghost use Rattle.btr_streams.specs.Snapshot.{IsSnapshotOf};
 ghost use Rattle.btr_distil.specs.Plan.{IsPlanFor, IsDistillateOf};
 ghost use Rattle.btr_plan.specs.Next.{IsNext};
 ghost use Rattle.btr_plan.specs.Sight.{IsSightAfter};
 
 use crate::sighting::sight;
 use btr_distil::{Plan, Sight, plan, plan_shared};
-use btr_engine::Snapshot;
+use btr_streams::Snapshot;
 use std::alloc::{AllocError, Global};
 use std::marker::Sync;
 use std::thread::Threads;

@@ -3,13 +3,13 @@ ghost use Rattle.std.specs.Prelude.{◌≡◌, ◌<◌, ◌≤◌, true, List, l
 ghost use Rattle.btr_hist.specs.declared.entry.Entry.{Entry as EntrySpec};
 ghost use Rattle.btr_hist.specs.History.{ids, spec_of, latest, bag, reads, latest_reads};
 ghost use Rattle.btr_hist.specs.Legal.{has_inputs, may_read, takes_reads};
-ghost use Rattle.btr_engine.specs.Snapshot.{IsSnapshotOf};
+ghost use Rattle.btr_streams.specs.Snapshot.{IsSnapshotOf};
 ghost use Rattle.btr_distil.specs.Sight.{IsInput};
 ghost use Rattle.btr_plan.specs.Sight.{IsSightAfter, IsSightTo};
 
 use btr_distil::Sight;
-use btr_engine::Snapshot;
 use btr_hist::{Reads, Spec};
+use btr_streams::Snapshot;
 use btr_tree::Tree;
 
 /// The trees of an input, at two versions.

@@ -14,7 +14,7 @@ use Rattle.btr_hist.proofs.HistoryLemmas.{legal-follows, legal-prefix}
 use Rattle.btr_distil.specs.Plan.{PlanValue, entry_of}
 use Rattle.btr_plan.specs.Plan.{IsPlanOf, IsCurrent, reply_to}
 use Rattle.btr_plan.proofs.PlanLemmas.{plan-stays, plan-current, plan-computed, reply-superseded, reply-legal}
-use Rattle.btr_engine.specs.declared.board.Receipt.{Receipt}
+use Rattle.btr_streams.specs.declared.board.Receipt.{Receipt}
 use Rattle.btr_engine.specs.declared.step.StepFault.{StepFault}
 use Rattle.btr_engine.specs.declared.step.StepFault.TheVariants as steps
 use Rattle.btr_hall.specs.declared.land.LandFault.{LandFault}

@@ -10,7 +10,7 @@ use Rattle.btr_hist.specs.declared.entry.Entry.TheVariants as entries
 use Rattle.btr_hist.specs.History.{stream_of}
 use Rattle.btr_text.specs.declared.reply.Reason.{Reason}
 use Rattle.btr_text.specs.declared.reply.Reason.TheVariants as reasons
-use Rattle.btr_engine.specs.declared.board.Receipt.{Receipt}
+use Rattle.btr_streams.specs.declared.board.Receipt.{Receipt}
 use Rattle.btr_engine.specs.declared.step.StepFault.{StepFault}
 use Rattle.btr_gate.specs.Numbers.{times}
 use Rattle.btr_gate.proofs.NumberLemmas.{times_append}

@@ -18,7 +18,7 @@ use Rattle.btr_hist.specs.Machine.Reply.{Accepted, Superseded}
 use Rattle.btr_plan.specs.Next.{IsNextPlan}
 use Rattle.btr_plan.specs.Plan.{IsPlanOf, IsCurrent, landing_of}
 use Rattle.btr_plan.proofs.PlanLemmas.{plan-current, plan-stays}
-use Rattle.btr_engine.specs.declared.board.Receipt.{Receipt}
+use Rattle.btr_streams.specs.declared.board.Receipt.{Receipt}
 use Rattle.btr_engine.specs.Body.{need_of, needs_of}
 use Rattle.btr_engine.proofs.NeedLemmas.{needs-push}
 use Rattle.btr_gate.specs.Numbers.{given}

@@ -17,7 +17,7 @@ use Rattle.btr_jobs.specs.States.{StoreState, LogState, GoesOn, start_of, log_se
 use Rattle.btr_jobs.specs.Jobs.{Goes, Does}
 use Rattle.btr_jobs.specs.PlainStore.{RunsThrough}
 use Rattle.btr_jobs.proofs.StateLemmas.{log_at}
-use Rattle.btr_engine.specs.declared.board.Receipt.{Receipt}
+use Rattle.btr_streams.specs.declared.board.Receipt.{Receipt}
 use Rattle.btr_hall.specs.declared.land.LandFault.{LandFault}
 use Rattle.btr_hall.specs.declared.land.LandFault.TheVariants as faults
 use Rattle.btr_work.specs.declared.report.Refreshed.{Refreshed}

@@ -9,7 +9,7 @@ use Rattle.btr_hist.specs.History.{change_of, latest}
 use Rattle.btr_hist.proofs.HistoryLemmas.{latest-append}
 use Rattle.btr_hist.proofs.VersionLemmas.{latest-silent}
 use Rattle.btr_distil.specs.Plan.{PlanValue}
-use Rattle.btr_engine.specs.declared.board.Receipt.{Receipt}
+use Rattle.btr_streams.specs.declared.board.Receipt.{Receipt}
 use Rattle.btr_gate.specs.Numbers.{one, total, times, given}
 use Rattle.btr_gate.specs.Prefixes.{StartsWith}
 use Rattle.btr_gate.proofs.NumberLemmas.{one_same, one_other, given_inside}

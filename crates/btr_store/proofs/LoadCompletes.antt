@@ -10,7 +10,7 @@ use Rattle.btr_hist.specs.History.{stream_of, spec_of}
 use Rattle.btr_hist.specs.Legal.{Follows}
 use Rattle.btr_rows.specs.declared.row.NumberedPoint.{NumberedPoint}
 use Rattle.btr_rows.specs.Streams.{StreamValue, RowListValue}
-use Rattle.btr_engine.specs.declared.board.Receipt.{Receipt}
+use Rattle.btr_streams.specs.declared.board.Receipt.{Receipt}
 use Rattle.btr_engine.specs.declared.step.StepFault.{StepFault}
 use Rattle.btr_engine.specs.declared.step.StepFault.TheVariants as steps
 use Rattle.btr_jobs.specs.States.{StoreState, LogState}

@@ -11,7 +11,7 @@ use Rattle.btr_hist.specs.Legal.{Follows}
 use Rattle.btr_hist.proofs.HistoryLemmas.{follows-prefix}
 use Rattle.btr_rows.specs.declared.row.NumberedPoint.{NumberedPoint}
 use Rattle.btr_rows.specs.Streams.{StreamValue, RowListValue}
-use Rattle.btr_engine.specs.declared.board.Receipt.{Receipt}
+use Rattle.btr_streams.specs.declared.board.Receipt.{Receipt}
 use Rattle.btr_engine.specs.declared.step.StepFault.{StepFault}
 use Rattle.btr_gate.specs.Numbers.{times}
 use Rattle.btr_gate.proofs.NumberLemmas.{times_append}

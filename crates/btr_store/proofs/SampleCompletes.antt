@@ -10,7 +10,7 @@ use Rattle.btr_hist.specs.Legal.{rejection, Follows}
 use Rattle.btr_hist.proofs.HistoryLemmas.{follows-push}
 use Rattle.btr_rows.specs.Streams.{StreamValue}
 use Rattle.btr_text.specs.declared.reply.Reason.{Reason}
-use Rattle.btr_engine.specs.declared.board.Receipt.{Receipt}
+use Rattle.btr_streams.specs.declared.board.Receipt.{Receipt}
 use Rattle.btr_engine.specs.declared.step.StepFault.{StepFault}
 use Rattle.btr_engine.specs.declared.step.StepFault.TheVariants as steps
 use Rattle.btr_engine.specs.Body.{need_of, needs_of}

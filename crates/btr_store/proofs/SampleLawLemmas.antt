@@ -14,7 +14,7 @@ use Rattle.btr_rows.specs.Rows.{good_rows, rows_of}
 use Rattle.btr_rows.specs.Sample.{sample_text}
 use Rattle.btr_rows.specs.Streams.{StreamValue, RowListValue}
 use Rattle.btr_text.specs.declared.reply.Reason.{Reason}
-use Rattle.btr_engine.specs.declared.board.Receipt.{Receipt}
+use Rattle.btr_streams.specs.declared.board.Receipt.{Receipt}
 use Rattle.btr_engine.specs.declared.step.StepFault.{StepFault}
 use Rattle.btr_engine.specs.declared.step.StepFault.TheVariants as steps
 use Rattle.btr_gate.specs.Numbers.{one, times, given}

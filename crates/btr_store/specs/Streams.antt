@@ -6,7 +6,7 @@ use Rattle.btr_hist.specs.declared.entry.Entry.{Entry}
 use Rattle.btr_hist.specs.declared.answer.StreamRow.{StreamRow}
 use Rattle.btr_hist.specs.History.{ids}
 use Rattle.btr_hist.specs.Answer.{rows_from}
-use Rattle.btr_engine.specs.Board.{latest_of}
+use Rattle.btr_streams.specs.Board.{latest_of}
 use Rattle.btr_hall.specs.declared.session.Session.{Session}
 use Rattle.btr_hall.specs.Session.{IsSame, seen_of, mine_of}
 

@@ -1,7 +1,7 @@
 //! The streams of a snapshot, by their numbers.
 ghost use Rattle.std.specs.Prelude.{◌≡◌, List, IfOk};
 ghost use Rattle.btr_hist.specs.declared.entry.Entry.{Entry as EntrySpec};
-ghost use Rattle.btr_engine.specs.Snapshot.{IsSnapshotOf};
+ghost use Rattle.btr_streams.specs.Snapshot.{IsSnapshotOf};
 ghost use Rattle.btr_store.specs.Streams.{AreStreams, id_of_stream};
 
 use btr_engine::Snapshot;

@@ -17,8 +17,8 @@ use Rattle.btr_engine.specs.Holds.{HoldsHistory, HoldsHistoryTo}
 use Rattle.btr_engine.specs.Engine.{device, board_of, tail_of, blocks_of, room_of, IsAtRest, EngineLeaves, KeepsOpening}
 use Rattle.btr_engine.specs.Mark as mark
 use Rattle.btr_engine.specs.Mark.{need_of_board, IsNamed, IsCheckpointed}
-use Rattle.btr_engine.proofs.RollingLemmas.{rolled-is}
-use Rattle.btr_engine.proofs.StreamsLemmas.{has-streams}
+use Rattle.btr_streams.proofs.RollingLemmas.{rolled-is}
+use Rattle.btr_streams.proofs.StreamsLemmas.{has-streams}
 use Rattle.btr_open.specs.Opening.{IsOpenedEngine}
 use Rattle.btr_top.specs.declared.ending.Ending.{Ending}
 use Rattle.btr_top.specs.declared.ending.Ending.TheVariants.{Usage, NoSource, TooLong, OutOfMemory, NoDevice, NoStore, Damaged, Occupied, TooSmall, Formatted, Checkpointed, Stands, Full, Replied}

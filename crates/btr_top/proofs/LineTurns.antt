@@ -15,7 +15,7 @@ use Rattle.btr_distil.specs.Plan.{PlanValue, entry_of}
 use Rattle.btr_plan.specs.Next.{IsNextPlan}
 use Rattle.btr_plan.specs.Plan.{IsPlanOf, IsCurrent, reply_to}
 use Rattle.btr_plan.proofs.PlanLemmas.{plan-current, plan-stays, reply-superseded}
-use Rattle.btr_engine.specs.declared.board.Receipt.{Receipt}
+use Rattle.btr_streams.specs.declared.board.Receipt.{Receipt}
 use Rattle.btr_engine.specs.declared.step.StepFault.{StepFault}
 use Rattle.btr_engine.specs.declared.step.StepFault.TheVariants as steps
 use Rattle.btr_gate.specs.Prefixes.{StartsWith}

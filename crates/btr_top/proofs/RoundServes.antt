@@ -10,7 +10,7 @@ use Rattle.btr_hist.proofs.HistoryLemmas.{follows-prefix}
 use Rattle.btr_distil.specs.Plan.{PlanValue, entry_of}
 use Rattle.btr_plan.specs.Next.{IsNextPlan}
 use Rattle.btr_plan.specs.Plan.{IsCurrent}
-use Rattle.btr_engine.specs.declared.board.Receipt.{Receipt}
+use Rattle.btr_streams.specs.declared.board.Receipt.{Receipt}
 use Rattle.btr_gate.specs.Numbers.{one, times, total}
 use Rattle.btr_gate.specs.Prefixes.{StartsWith}
 use Rattle.btr_gate.proofs.NumberLemmas.{one_same, one_other}

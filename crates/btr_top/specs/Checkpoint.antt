@@ -8,7 +8,7 @@ use Rattle.btr_log.specs.Extents.{left}
 use Rattle.btr_log.specs.Head.{content_blocks}
 use Rattle.btr_hist.specs.declared.entry.Entry.{Entry}
 use Rattle.btr_roll.specs.Roll.{roll_bytes}
-use Rattle.btr_engine.specs.Rolling.{roll_of}
+use Rattle.btr_streams.specs.Rolling.{roll_of}
 use Rattle.btr_engine.specs.Holds.{HoldsHistory, HoldsHistoryTo}
 use Rattle.btr_engine.specs.Mark.{IsNamed}
 use Rattle.btr_store.specs.Work.{HoldsSafely, WasSound}

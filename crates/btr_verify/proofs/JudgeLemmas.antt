@@ -17,7 +17,7 @@ use Rattle.btr_node.specs.declared.page.NodePage.TheVariants.{Leaf, Inner}
 use Rattle.btr_node.specs.declared.page.PageSlot.{PageSlot}
 use Rattle.btr_pages.specs.Pages.{Pages, slot_of_page, node_of_page, node_of_stream, nodes_in, HasChildPage, IsPageAt}
 use Rattle.btr_hist.specs.declared.entry.Entry.{Entry}
-use Rattle.btr_engine.specs.Board.{HasVersion}
+use Rattle.btr_streams.specs.Board.{HasVersion}
 use Rattle.btr_stored.specs.Judged.{IsRising, IsIn, IsOwn, IsRight, HasRight, IsRightSlot, AreRightBelow, IsPlacedNode}
 use Rattle.btr_stored.proofs.OwnLemmas.{right-own, own-right}
 use Rattle.btr_verify.specs.declared.judging.Mark.{Mark}

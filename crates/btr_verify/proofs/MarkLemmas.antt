@@ -12,8 +12,8 @@ use Rattle.btr_node.specs.declared.page.NodePage.{NodePage}
 use Rattle.btr_pages.specs.Pages.{Pages}
 use Rattle.btr_pages.specs.Known.{NodesValue, AreKnown}
 use Rattle.btr_hist.specs.declared.entry.Entry.{Entry}
-use Rattle.btr_engine.specs.declared.snapshot.Snapshot.{Snapshot}
-use Rattle.btr_engine.specs.Snapshot.{IsSnapshotOf}
+use Rattle.btr_streams.specs.declared.snapshot.Snapshot.{Snapshot}
+use Rattle.btr_streams.specs.Snapshot.{IsSnapshotOf}
 use Rattle.btr_verify.specs.declared.judging.Mark.{Mark}
 use Rattle.btr_verify.specs.Trees.{AreStoredAt, ReadsDevice}
 use Rattle.btr_verify.specs.Judging.{CanReadTo, AreMarked, IsMarkOf}

@@ -7,9 +7,9 @@ use Rattle.btr_tree.specs.Nodes.{up_to}
 use Rattle.btr_tree.specs.Root.{TreeValue, IsTree}
 use Rattle.btr_hist.specs.declared.entry.Entry.{Entry}
 use Rattle.btr_hist.specs.History.{commits, latest}
-use Rattle.btr_engine.specs.Past.{with_commits, commits_to}
-use Rattle.btr_engine.specs.Board.{IsTreeOf}
-use Rattle.btr_engine.proofs.BoardTrees.{made_by, before-nothing, up_to-commits_to}
+use Rattle.btr_streams.specs.Past.{with_commits, commits_to}
+use Rattle.btr_streams.specs.Board.{IsTreeOf}
+use Rattle.btr_streams.proofs.BoardTrees.{made_by, before-nothing, up_to-commits_to}
 use Rattle.btr_stored.specs.Judged.{IsRising}
 use Rattle.btr_verify.specs.Trees.{past_of}
 

@@ -30,9 +30,9 @@ use Rattle.btr_pages.specs.Known.{KnownValue, NodesValue, AreKnown, node_at}
 use Rattle.btr_pages.proofs.KnownLemmas.{known-at, block-at}
 use Rattle.btr_pages.proofs.ReportedLemmas.{page-in}
 use Rattle.btr_hist.specs.declared.entry.Entry.{Entry}
-use Rattle.btr_engine.specs.declared.snapshot.Snapshot.{Snapshot}
-use Rattle.btr_engine.specs.Past.{commits_to}
-use Rattle.btr_engine.specs.Board.{HasVersion, IsTreeOf}
+use Rattle.btr_streams.specs.declared.snapshot.Snapshot.{Snapshot}
+use Rattle.btr_streams.specs.Past.{commits_to}
+use Rattle.btr_streams.specs.Board.{HasVersion, IsTreeOf}
 use Rattle.btr_stored.specs.Judged.{version_in, IsIn, IsRight, HasRight}
 use Rattle.btr_stored.specs.FirstWrong.{IsFirstWrong, IsFirstWrongIn, IsRootOfNone, IsWrongRoot}
 use Rattle.btr_stored.proofs.AboveLemmas.{root-above}

@@ -13,10 +13,10 @@ use Rattle.btr_node.specs.declared.page.PageSlot.{PageSlot}
 use Rattle.btr_pages.specs.Pages.{Pages, nodes_in, node_of_page}
 use Rattle.btr_pages.specs.Known.{NodesValue, AreKnown, node_at}
 use Rattle.btr_hist.specs.declared.entry.Entry.{Entry}
-use Rattle.btr_engine.specs.declared.snapshot.Snapshot.{Snapshot}
-use Rattle.btr_engine.specs.Board.{HasVersion}
-use Rattle.btr_engine.specs.Past.{commits_to}
-use Rattle.btr_engine.specs.Snapshot.{IsSnapshotOf}
+use Rattle.btr_streams.specs.declared.snapshot.Snapshot.{Snapshot}
+use Rattle.btr_streams.specs.Board.{HasVersion}
+use Rattle.btr_streams.specs.Past.{commits_to}
+use Rattle.btr_streams.specs.Snapshot.{IsSnapshotOf}
 use Rattle.btr_stored.specs.Judged.{version_in, IsOwn, IsRight}
 use Rattle.btr_stored.specs.FirstWrong.{IsFirstWrong}
 use Rattle.btr_verify.specs.declared.verifying.Made.{Made}

@@ -12,15 +12,14 @@ use Rattle.btr_tree.specs.Leads.{Leads}
 use Rattle.btr_tree.specs.Nodes.{points_of, above_root}
 use Rattle.btr_node.specs.Page.{page_bytes, Fits}
 use Rattle.btr_node.specs.declared.page.NodePage.{NodePage}
-use Rattle.btr_pages.specs.Pages.{Pages, nodes_in, IsPageAt, HasRootPage}
+use Rattle.btr_pages.specs.Pages.{Pages, nodes_in, IsPageAt, HasRootPage, Stand}
 use Rattle.btr_pages.specs.Known.{NodesValue, AreKnown}
 use Rattle.btr_hist.specs.declared.entry.Entry.{Entry}
 use Rattle.btr_hist.specs.History.{latest}
-use Rattle.btr_engine.specs.declared.snapshot.Snapshot.{Snapshot}
-use Rattle.btr_engine.specs.Past.{commits_to}
-use Rattle.btr_engine.specs.Board.{HasVersion}
-use Rattle.btr_engine.specs.Snapshot.{IsSnapshotOf}
-use Rattle.btr_engine.specs.Roots.{Stand}
+use Rattle.btr_streams.specs.declared.snapshot.Snapshot.{Snapshot}
+use Rattle.btr_streams.specs.Past.{commits_to}
+use Rattle.btr_streams.specs.Board.{HasVersion}
+use Rattle.btr_streams.specs.Snapshot.{IsSnapshotOf}
 use Rattle.btr_stored.specs.FirstWrong.{IsFirstWrongIn}
 use Rattle.btr_verify.specs.declared.verifying.Made.{Made}
 use Rattle.btr_verify.specs.declared.verifying.VerifyFault.{VerifyFault}

@@ -3,7 +3,7 @@ ghost use Rattle.std.specs.Prelude.{◌≡◌, ◌<◌, ℕ, List, [], ◌∷◌
 ghost use Rattle.btr_pages.specs.Pages.{Pages};
 ghost use Rattle.btr_pages.specs.Known.{AreKnown};
 ghost use Rattle.btr_hist.specs.declared.entry.Entry.{Entry as EntrySpec};
-ghost use Rattle.btr_engine.specs.Snapshot.{IsSnapshotOf};
+ghost use Rattle.btr_streams.specs.Snapshot.{IsSnapshotOf};
 ghost use Rattle.btr_verify.specs.Trees.{AreStoredAt, ReadsDevice, VerifyCause};
 ghost use Rattle.btr_verify.specs.Judging.{AreMarked, CanReadTo, IsMarkOf};
 
@@ -11,9 +11,9 @@ use crate::judging::{JudgeWalk, Mark, judge};
 use crate::reading::read_page;
 use crate::verifying::VerifyFault;
 use btr_disk::Disk;
-use btr_engine::Snapshot;
 use btr_log::Piece;
 use btr_pages::Nodes;
+use btr_streams::Snapshot;
 use btr_tree::Steps;
 use std::alloc::{AllocError, Global};
 

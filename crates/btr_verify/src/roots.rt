@@ -4,15 +4,15 @@ ghost use Rattle.btr_disk.specs.Bytes.{Image};
 ghost use Rattle.btr_pages.specs.Pages.{Pages};
 ghost use Rattle.btr_hist.specs.declared.entry.Entry.{Entry as EntrySpec};
 ghost use Rattle.btr_pages.specs.Known.{AreKnown, node_at};
-ghost use Rattle.btr_engine.specs.Board.{HasVersion};
-ghost use Rattle.btr_engine.specs.Snapshot.{IsSnapshotOf};
+ghost use Rattle.btr_streams.specs.Board.{HasVersion};
+ghost use Rattle.btr_streams.specs.Snapshot.{IsSnapshotOf};
 ghost use Rattle.btr_verify.specs.Trees.{AllLead, IsFirstThatFails, IsCommitOf, LeadsToTree, version_points};
 ghost use Rattle.btr_verify.specs.Judging.{HasTreeVersion, WereJudged};
 
 use crate::judging::{Mark, is_right};
 use crate::verifying::Made;
-use btr_engine::Snapshot;
 use btr_pages::Nodes;
+use btr_streams::Snapshot;
 
 /// The first commit whose root does not lead to the tree of its version, if there is one.
 pub(crate) fn first_that_fails(

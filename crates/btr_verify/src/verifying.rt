@@ -9,9 +9,9 @@ use crate::descending::descend;
 use crate::marking::mark_blocks;
 use crate::roots::{first_that_fails, has_tree_version};
 use btr_disk::Disk;
-use btr_engine::Snapshot;
 use btr_log::Piece;
 use btr_pages::Nodes;
+use btr_streams::Snapshot;
 use std::alloc::{AllocError, Global};
 
 /// A commit of a log: which version of which stream it made, and the block of its root, or 0 if its tree has no node.

@@ -17,7 +17,7 @@ use Rattle.btr_distil.specs.Plan.{PlanValue, entry_of}
 use Rattle.btr_plan.specs.Next.{IsUpToDate, IsNextPlan}
 use Rattle.btr_plan.specs.Plan.{IsCurrent, landing_of, reply_to}
 use Rattle.btr_plan.proofs.PlanLemmas.{plan-rejected}
-use Rattle.btr_engine.specs.declared.board.Receipt.{Receipt}
+use Rattle.btr_streams.specs.declared.board.Receipt.{Receipt}
 use Rattle.btr_engine.specs.Body.{need_of}
 use Rattle.btr_gate.specs.Prefixes.{StartsWith}
 use Rattle.btr_gate.specs.Numbers.{times}

@@ -8,7 +8,7 @@ use Rattle.btr_base.specs.Commit.{Change}
 use Rattle.btr_hist.specs.declared.entry.Entry.{Entry}
 use Rattle.btr_hist.specs.declared.kernel.Reads.{Reads}
 use Rattle.btr_distil.specs.Plan.{PlanValue, entry_of}
-use Rattle.btr_engine.specs.declared.board.Receipt.{Receipt}
+use Rattle.btr_streams.specs.declared.board.Receipt.{Receipt}
 use Rattle.btr_gate.specs.Prefixes.{StartsWith}
 use Rattle.btr_gate.specs.Numbers.{times}
 use Rattle.btr_gate.proofs.NumberLemmas.{one_other, times_append}

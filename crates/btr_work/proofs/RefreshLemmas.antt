@@ -5,7 +5,7 @@ use Rattle.btr_disk.specs.declared.disk.Disk.{Ghosts}
 use Rattle.btr_hist.specs.declared.entry.Entry.{Entry}
 use Rattle.btr_distil.specs.Plan.{PlanValue}
 use Rattle.btr_plan.specs.Next.{IsUpToDate}
-use Rattle.btr_engine.specs.declared.board.Receipt.{Receipt}
+use Rattle.btr_streams.specs.declared.board.Receipt.{Receipt}
 use Rattle.btr_engine.specs.declared.engine.Engine.{Engine}
 use Rattle.btr_engine.specs.Engine.{IsEngineOf, is_stopped}
 use Rattle.btr_gate.specs.Prefixes.{StartsWith}

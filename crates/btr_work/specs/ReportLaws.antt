@@ -1,7 +1,7 @@
 -- The laws of reports, which the ghost members of jobs cite: what a report says is true for ever, and also of who had seen less.
 use Rattle.std.specs.Prelude.{ℕ, List, [], ◌∷◌, Result, Ok, Err}
 use Rattle.btr_hist.specs.declared.entry.Entry.{Entry}
-use Rattle.btr_engine.specs.declared.board.Receipt.{Receipt}
+use Rattle.btr_streams.specs.declared.board.Receipt.{Receipt}
 use Rattle.btr_gate.specs.Prefixes.{StartsWith}
 use Rattle.btr_gate.proofs.PrefixLemmas.{starts_trans}
 use Rattle.btr_hall.specs.declared.land.LandFault.{LandFault}

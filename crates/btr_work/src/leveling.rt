@@ -1,7 +1,7 @@
 //! The levels of outputs: each output stands above its inputs.
 ghost use Rattle.std.specs.Prelude.{◌≡◌, ◌+◌, ◌<◌, ◌≤◌, ◌^◌, List, length, map, slice_index_or, IfOk, OnOk};
 ghost use Rattle.btr_hist.specs.declared.entry.Entry.{Entry as EntrySpec};
-ghost use Rattle.btr_engine.specs.Snapshot.{IsSnapshotOf};
+ghost use Rattle.btr_streams.specs.Snapshot.{IsSnapshotOf};
 ghost use Rattle.btr_work.specs.Levels.{AreLevels, next_level};
 ghost use Rattle.btr_work.specs.Leveling.{PlacesStream, AreAtMost};
 

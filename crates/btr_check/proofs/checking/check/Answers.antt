@@ -10,7 +10,7 @@ check_store-requires-clause-chosen g c =
     let disk = g.D.Disk in
     let old = c.args.disk in
     let chosen = c.choose.ensures in
-    let reads = choice-reads disk old c.choose.new.device (c.choose.result ≡ Err Fault) chosen.size chosen.calls chosen.cause chosen.nothing in
+    let reads = choice-reads disk old c.choose.new.device (c.choose.result ≡ Err Fault) chosen.size chosen.calls.later chosen.cause chosen.nothing in
     chosen-along disk old c.choose.new.device c.in-Ok.found reads (choice-chosen disk old c.choose.result c.in-Ok.found c.in-Ok.is chosen.chosen)
 
 pub returns-in-Ok-clause-verdict : goal.returns-in-Ok-clause-verdict
@@ -18,7 +18,7 @@ returns-in-Ok-clause-verdict g c =
     let disk = g.D.Disk in
     let old = c.args.disk in
     let chosen = c.choose.ensures in
-    let reads = choice-reads disk old c.choose.new.device (c.choose.result ≡ Err Fault) chosen.size chosen.calls chosen.cause chosen.nothing in
+    let reads = choice-reads disk old c.choose.new.device (c.choose.result ≡ Err Fault) chosen.size chosen.calls.later chosen.cause chosen.nothing in
     verdict-along disk old c.choose.new.device c.check_store.result.disk reads c.check_store.result.verdict c.check_store.ensures.verdict
 
 pub returns-in-Ok-clause-exactly : goal.returns-in-Ok-clause-exactly
@@ -26,7 +26,7 @@ returns-in-Ok-clause-exactly g c reported v is =
     let disk = g.D.Disk in
     let old = c.args.disk in
     let chosen = c.choose.ensures in
-    let reads = choice-reads disk old c.choose.new.device (c.choose.result ≡ Err Fault) chosen.size chosen.calls chosen.cause chosen.nothing in
+    let reads = choice-reads disk old c.choose.new.device (c.choose.result ≡ Err Fault) chosen.size chosen.calls.later chosen.cause chosen.nothing in
     let right = verdict-along disk old c.choose.new.device c.check_store.result.disk reads c.check_store.result.verdict c.check_store.ensures.verdict in
     exactly (disk.size old) (disk.contents old) disk.is_observable (disk.faults old) (disk.faults c.check_store.result.disk) v c.check_store.result.verdict reported right is
 

@@ -1,9 +1,9 @@
 use Rattle.std.specs.Prelude.{◌≡◌, length, MatchOption}
 use Rattle.std.proofs.Common.{◌∙◌, ap, subst}
 use Rattle.btr_base.specs.declared.point.Point.{Point}
-use Rattle.btr_engine.specs.Board.{HasVersion, IsTreeOf}
-use Rattle.btr_engine.specs.Past.{commits_to}
-use Rattle.btr_engine.proofs.BoardTrees.{bag-commits_to}
+use Rattle.btr_streams.specs.Board.{HasVersion, IsTreeOf}
+use Rattle.btr_streams.specs.Past.{commits_to}
+use Rattle.btr_streams.proofs.BoardTrees.{bag-commits_to}
 use Rattle.btr_hist.specs.History.{bag}
 use Rattle.btr_check.proofs.StagingLemmas.{empty-counted}
 use Rattle.btr_check.proofs.staging.is_empty.Goals as goal

@@ -1,8 +1,8 @@
 -- The staged board is accepted, or the board stays.
 use Rattle.std.proofs.Common.{◌∙◌, sym, ap, subst, List}
 use Rattle.btr_hist.specs.declared.entry.Entry.{Entry}
-use Rattle.btr_engine.specs.declared.board.Receipt.{Receipt}
-use Rattle.btr_engine.specs.Board.{IsBoardOf}
+use Rattle.btr_streams.specs.declared.board.Receipt.{Receipt}
+use Rattle.btr_streams.specs.Board.{IsBoardOf}
 use Rattle.btr_core.specs.declared.event.Reply.TheVariants.{Accepted}
 use Rattle.btr_core.specs.Events.{reply_of}
 use Rattle.btr_core.specs.Staging.{Makes}

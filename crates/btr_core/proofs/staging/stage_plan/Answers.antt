@@ -7,7 +7,7 @@ use Rattle.btr_hist.specs.Legal.{rejection}
 use Rattle.btr_hist.specs.Machine.{committed, commit_reply}
 use Rattle.btr_hist.specs.Machine.{Reply as replies}
 use Rattle.btr_hist.proofs.VersionLemmas.{spec_of-known}
-use Rattle.btr_engine.specs.Board.{IsBoardOf, latest_of}
+use Rattle.btr_streams.specs.Board.{IsBoardOf, latest_of}
 use Rattle.btr_distil.specs.Plan.{entry_of}
 use Rattle.btr_plan.specs.Plan.{IsPlanOf, landed_after}
 use Rattle.btr_plan.proofs.SightLemmas.{latest-there}

@@ -1,5 +1,5 @@
 use denote.Param.Send.{sendable}
-use Rattle.btr_engine.proofs.CrossingLemmas.{snapshot_send}
+use Rattle.btr_streams.proofs.CrossingLemmas.{snapshot_send}
 use Rattle.btr_engine_tests.proofs.open_tests.asked_and_added.Goals as goal
 
 pub join-requires-send-F : goal.join-requires-send-F

@@ -1,5 +1,5 @@
 use denote.Param.Send.{sendable}
-use Rattle.btr_engine.proofs.CrossingLemmas.{snapshot_send}
+use Rattle.btr_streams.proofs.CrossingLemmas.{snapshot_send}
 use Rattle.btr_engine_tests.proofs.open_tests.snapshot_moved.Goals as goal
 
 pub join-found-requires-send-F : goal.join-found-requires-send-F

@@ -6,7 +6,7 @@ use Rattle.btr_gate.specs.Shares.{covers}
 use Rattle.btr_jobs.specs.Turns as turns
 use Rattle.btr_jobs.proofs.DoesLemmas.{does_none, does_implied}
 use Rattle.btr_jobs.proofs.TurnLemmas.{commit_at}
-use Rattle.btr_engine.specs.Snapshot.{IsSnapshotOf}
+use Rattle.btr_streams.specs.Snapshot.{IsSnapshotOf}
 use Rattle.btr_hist.specs.declared.entry.Entry.{Entry}
 use Rattle.std.proofs.Common.{List}
 use Rattle.btr_load.specs.Plan.{IsStreamSettled}

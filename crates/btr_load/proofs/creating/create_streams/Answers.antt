@@ -1,7 +1,7 @@
 use Rattle.std.proofs.Common.{◌≡◌, ◌<◌, ◌+◌, List, [], length, refl, take, set, get_or, subst, arith}
 use Rattle.std.proofs.lemmas.List.{take_all, get_or_default}
 use Rattle.btr_hist.specs.declared.entry.Entry.{Entry}
-use Rattle.btr_engine.specs.Snapshot.{IsSnapshotOf}
+use Rattle.btr_streams.specs.Snapshot.{IsSnapshotOf}
 use Rattle.btr_jobs.proofs.DoesLemmas.{does_none, does_then, does_implied}
 use Rattle.btr_load.specs.Plan.{IsStreamSettled, AreStreamsSettled}
 use Rattle.btr_jobs.proofs.RunLemmas.{length_after, rest_after}

@@ -1,6 +1,6 @@
 use Rattle.std.proofs.Common.{◌≡◌, List, take, drop, length}
 use Rattle.btr_hist.specs.declared.entry.Entry.{Entry}
-use Rattle.btr_engine.specs.Snapshot.{IsSnapshotOf}
+use Rattle.btr_streams.specs.Snapshot.{IsSnapshotOf}
 use Rattle.btr_hall.specs.Session.{IsAlone}
 use Rattle.btr_jobs.specs.Jobs.{IsAt, Does}
 use Rattle.btr_load.specs.Plan.{AreStreamsSettled}

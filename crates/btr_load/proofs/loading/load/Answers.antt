@@ -2,7 +2,7 @@ use Rattle.std.proofs.Common.{◌≡◌, ◌∙◌, ◌++◌, ℕ, List, [], sym
 use Rattle.std.specs.Vec.{with_items}
 use Rattle.std.proofs.lemmas.List.{with_items_is}
 use Rattle.btr_hist.specs.declared.entry.Entry.{Entry}
-use Rattle.btr_engine.specs.Snapshot.{IsSnapshotOf}
+use Rattle.btr_streams.specs.Snapshot.{IsSnapshotOf}
 use Rattle.btr_hall.proofs.SessionLemmas.{alone_alike}
 use Rattle.btr_jobs.specs.States.{StoreState, LogState}
 use Rattle.btr_jobs.specs.Jobs.{AllDid, DidInTurn, Does}

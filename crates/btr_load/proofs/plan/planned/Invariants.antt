@@ -1,7 +1,7 @@
 use Rattle.std.proofs.Common.{◌≡◌, ◌++◌, List, length}
 use Rattle.std.specs.Vec.Iter.{into_iter_items, into_iter_len}
 use Rattle.btr_hist.specs.declared.entry.Entry.{Entry}
-use Rattle.btr_engine.specs.Snapshot.{IsSnapshotOf}
+use Rattle.btr_streams.specs.Snapshot.{IsSnapshotOf}
 use Rattle.btr_load.specs.Plan.{ArePlanned, AreReady}
 use Rattle.btr_load.proofs.plan.planned.Given as goal
 

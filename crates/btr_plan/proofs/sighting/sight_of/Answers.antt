@@ -7,7 +7,7 @@ use Rattle.btr_hist.specs.declared.kernel.Spec.{Spec}
 use Rattle.btr_hist.specs.History.{ids, spec_of, latest, reads, second_points}
 use Rattle.btr_hist.specs.Legal.{may_read}
 use Rattle.btr_tree.specs.Root.{TreeValue}
-use Rattle.btr_engine.specs.Snapshot.{IsSnapshotOf}
+use Rattle.btr_streams.specs.Snapshot.{IsSnapshotOf}
 use Rattle.btr_distil.specs.Sight.{SightValue, IsSecondInput}
 use Rattle.btr_plan.specs.Sight.{IsSightTo}
 use Rattle.btr_plan.proofs.SightLemmas.{inputs-known, spec-good, first-known, second-known, first-low, first-last, second-low, second-last}

@@ -1,7 +1,7 @@
 -- The loop over the outputs of a report.
 use Rattle.std.proofs.Common.{List, map, take}
 use Rattle.btr_hist.specs.declared.entry.Entry.{Entry}
-use Rattle.btr_engine.specs.Snapshot.{IsSnapshotOf}
+use Rattle.btr_streams.specs.Snapshot.{IsSnapshotOf}
 use Rattle.btr_store.specs.Transcript.{SaysLines}
 use Rattle.btr_store.specs.Distil.{output_line}
 use Rattle.btr_store.proofs.distil.output_lines.Given as goal

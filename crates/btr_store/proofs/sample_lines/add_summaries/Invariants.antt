@@ -2,7 +2,7 @@
 use Rattle.std.proofs.Common.{List, map}
 use Rattle.std.specs.List.{range_with_len}
 use Rattle.btr_hist.specs.declared.entry.Entry.{Entry}
-use Rattle.btr_engine.specs.Snapshot.{IsSnapshotOf}
+use Rattle.btr_streams.specs.Snapshot.{IsSnapshotOf}
 use Rattle.btr_store.specs.Transcript.{AddsLines}
 use Rattle.btr_store.specs.Streams.{AreStreams, id_of_stream}
 use Rattle.btr_store.specs.SampleLines.{summary_line}

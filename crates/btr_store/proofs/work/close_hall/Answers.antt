@@ -10,7 +10,7 @@ returns g c = record {
   failed = λ old opened h.
       failed_in_step (opening_of c.args.hall) c.close-engine.result (seen_of c.args.session) opened.runs c.close-engine.ensures.trace c.close-engine.ensures.engine h c.stopped-failed.result c.stopped-failed.ensures.answer;
   plain = λ old opened.
-      plain_on g.D.Disk old c.into_parts-disk.result.0 (opening_of c.args.hall) c.close-engine.result opened c.close-engine.ensures.kept c.into_parts-disk.ensures c.confirmed.result c.stopped-failed.result c.stopped-failed.ensures.failed c.confirmed.ensures.failed;
+      plain_on g.D.Disk old c.into_parts-disk.result.0 (opening_of c.args.hall) c.close-engine.result opened c.close-engine.ensures.kept c.into_parts-disk.ensures.disk c.confirmed.result c.stopped-failed.result c.stopped-failed.ensures.failed c.confirmed.ensures.failed;
   works = λ old opened begun own begins goes h on.
-      works_on g.D.Disk g.met.D.Disk.only_now g.met.D.Disk.counts_now old (opening_of c.args.hall) opened h on c.args.hall begun c.args.session own c.close-engine.result c.into_parts-disk.result.0 begins c.close-engine.ensures.trace c.close-engine.ensures.once c.close-engine.ensures.engine c.into_parts-disk.ensures goes;
+      works_on g.D.Disk g.met.D.Disk.only_now g.met.D.Disk.counts_now old (opening_of c.args.hall) opened h on c.args.hall begun c.args.session own c.close-engine.result c.into_parts-disk.result.0 begins c.close-engine.ensures.trace c.close-engine.ensures.once c.close-engine.ensures.engine c.into_parts-disk.ensures.disk goes;
 }

@@ -1,7 +1,7 @@
 -- The loop over the lines of a list of questions.
 use Rattle.std.proofs.Common.{◌≡◌, ◌++◌, List}
 use Rattle.btr_hist.specs.declared.entry.Entry.{Entry}
-use Rattle.btr_engine.specs.Snapshot.{IsSnapshotOf}
+use Rattle.btr_streams.specs.Snapshot.{IsSnapshotOf}
 use Rattle.btr_top.specs.Ask.{HasAnswered, RepliesEach}
 use Rattle.btr_top.proofs.ask.answer_questions.Given as goal
 

@@ -11,7 +11,7 @@ returns-clause-cause g c =
     elim c.match-answered.branch [
       | in-Ok w ↦ λ old opened.
           subst (λ (e : Ending). QuestionsCause g.D.Disk c.args.lines.items old c.into_parts-disk.result.0 e) (sym w.ending-is)
-          (ended_answered g.D.Disk old c.args.engine opened c.args.lines.items w.in-Ok.transcript c.into_parts-disk.result.0 w.ending_of_replies-ending.result w.ending_of_replies-ending.ensures c.into_parts-disk.ensures w.in-Ok.ensures.answered w.in-Ok.ensures.replied)
+          (ended_answered g.D.Disk old c.args.engine opened c.args.lines.items w.in-Ok.transcript c.into_parts-disk.result.0 w.ending_of_replies-ending.result w.ending_of_replies-ending.ensures c.into_parts-disk.ensures.disk w.in-Ok.ensures.answered w.in-Ok.ensures.replied)
       | in-Err w ↦ λ old opened.
-          ended_unanswered g.D.Disk old c.args.engine opened c.args.lines.items c.into_parts-disk.result.0 c.match-answered.ending w.ending-is c.into_parts-disk.ensures
+          ended_unanswered g.D.Disk old c.args.engine opened c.args.lines.items c.into_parts-disk.result.0 c.match-answered.ending w.ending-is c.into_parts-disk.ensures.disk
     ]

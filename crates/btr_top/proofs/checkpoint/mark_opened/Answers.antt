@@ -1,5 +1,5 @@
 -- Why the command ends so, in each arm.
-use Rattle.std.specs.Prelude.{◌≡◌, ℕ, Result, Err, IfErr}
+use Rattle.std.specs.Prelude.{◌≡◌, ℕ, Result, Ok, Err, IfErr}
 use Rattle.std.proofs.Common.{sym, ◌∙◌, ap, subst}
 use Rattle.btr_disk.specs.declared.disk.Disk.{Ghosts}
 use Rattle.btr_engine.specs.declared.engine.Engine.{Engine}
@@ -24,23 +24,24 @@ returns-clause-cause g c = λ old opened.
     let engine = c.args.engine in
     let new = c.checkpoint.new.self in
     let end = c.into_parts-disk.result.0 in
-    let did = c.checkpoint.ensures in
+    let did = c.checkpoint.ensures.marks in
     let Ends : Ending → Type 0 = λ e. CheckpointEnds disk old end e in
     elim c.match-checkpoint.branch [
       | in-Ok w ↦
+          let made : mark.Marks engine new (Ok w.in-Ok.entries) = subst (mark.Marks engine new) w.in-Ok.is did in
           subst Ends (sym w.ending-is)
-          (added_cause disk counts_now old engine opened new end w.in-Ok.entries c.into_parts-disk.ensures w.in-Ok.ensures.marked did.kept w.in-Ok.ensures.at_rest w.in-Ok.ensures.named did.moments)
+          (added_cause disk counts_now old engine opened new end w.in-Ok.entries c.into_parts-disk.ensures.disk made.marked did.kept made.at_rest made.named did.moments)
       | in-Err-Want w ↦
           let arm = w.in-Err-Want in
           subst Ends (sym w.ending-is)
-          (want_cause disk counts_now old engine opened new end c.into_parts-disk.ensures (of_fault engine new c.checkpoint.result arm.field-0 Want arm.is arm.field-0-is did.cause))
+          (want_cause disk counts_now old engine opened new end c.into_parts-disk.ensures.disk (of_fault engine new c.checkpoint.result arm.field-0 Want arm.is arm.field-0-is did.cause))
       | in-Err-DeviceFull w ↦
           let arm = w.in-Err-DeviceFull in
           subst Ends (sym w.ending-is)
-          (full_cause disk counts_now old engine opened new end arm.need arm.left c.into_parts-disk.ensures
+          (full_cause disk counts_now old engine opened new end arm.need arm.left c.into_parts-disk.ensures.disk
           (of_fault engine new c.checkpoint.result arm.field-0 (DeviceFull arm.need arm.left) arm.is arm.field-0-is did.cause))
       | in-Err-DeviceFault w ↦
           let arm = w.in-Err-DeviceFault in
           subst Ends (sym w.ending-is)
-          (fault_cause disk counts_now old engine opened new end c.into_parts-disk.ensures (of_fault engine new c.checkpoint.result arm.field-0 DeviceFault arm.is arm.field-0-is did.cause) did.moments)
+          (fault_cause disk counts_now old engine opened new end c.into_parts-disk.ensures.disk (of_fault engine new c.checkpoint.result arm.field-0 DeviceFault arm.is arm.field-0-is did.cause) did.moments)
     ]

@@ -8,7 +8,7 @@ use Rattle.btr_node.specs.declared.page.Front.{Front}
 use Rattle.btr_node.specs.declared.page.NodePage.{NodePage}
 use Rattle.btr_pages.specs.Pages.{node_of_page, slot_of_page}
 use Rattle.btr_hist.specs.declared.entry.Entry.{Entry}
-use Rattle.btr_engine.specs.Board.{HasVersion}
+use Rattle.btr_streams.specs.Board.{HasVersion}
 use Rattle.btr_stored.specs.Judged.{IsOwn}
 use Rattle.btr_stored.specs.Same.{stored_node}
 use Rattle.btr_verify.specs.Trees.{past_of}

@@ -1,4 +1,4 @@
-use Rattle.btr_engine.specs.Past.{commits_to}
+use Rattle.btr_streams.specs.Past.{commits_to}
 use Rattle.btr_verify.proofs.RootLemmas.{no-points}
 use Rattle.btr_verify.proofs.roots.has_no_point.Goals as goal
 

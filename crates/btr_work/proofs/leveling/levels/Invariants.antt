@@ -1,7 +1,7 @@
 use Rattle.std.proofs.Common.{◌≡◌, ◌≤◌, List, [], map, take, length}
 use Rattle.btr_hist.specs.declared.entry.Entry.{Entry}
 use Rattle.btr_hist.specs.History.{kinds}
-use Rattle.btr_engine.specs.Snapshot.{IsSnapshotOf}
+use Rattle.btr_streams.specs.Snapshot.{IsSnapshotOf}
 use Rattle.btr_work.specs.Levels.{levels_from, AreGroups}
 use Rattle.btr_work.specs.Leveling.{AreAtMost}
 use Rattle.btr_work.proofs.leveling.levels.Given as goal

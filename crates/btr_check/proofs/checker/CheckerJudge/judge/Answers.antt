@@ -1,7 +1,7 @@
 use Rattle.std.specs.Prelude.{[], ◌∷◌, ◌++◌}
 use Rattle.std.proofs.Common.{refl, sym, subst}
-use Rattle.btr_engine.specs.Board.{IsBoardOf}
-use Rattle.btr_engine.specs.Stage.{IsReceipt}
+use Rattle.btr_streams.specs.Board.{IsBoardOf}
+use Rattle.btr_streams.specs.Stage.{IsReceipt}
 use Rattle.btr_check.specs.Staging.{IsStagedIfAllowed}
 use Rattle.btr_check.proofs.CheckerLemmas.{seen-more}
 use Rattle.btr_check.proofs.checker.CheckerJudge.judge.Goals as goal

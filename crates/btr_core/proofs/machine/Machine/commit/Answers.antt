@@ -3,7 +3,7 @@ use Rattle.std.proofs.Common.{◌≡◌, ◌∙◌, sym, ap, subst, refl, Option
 use Rattle.btr_hist.specs.declared.rejection.Rejection.{Rejection}
 use Rattle.btr_hist.specs.Legal.{rejection}
 use Rattle.btr_hist.specs.Machine.{committed, commit_reply}
-use Rattle.btr_engine.specs.Board.{IsBoardOf}
+use Rattle.btr_streams.specs.Board.{IsBoardOf}
 use Rattle.btr_core.proofs.MachineLemmas.{offered-rejection, after-commit}
 use Rattle.btr_core.proofs.machine.Machine.commit.Goals as goal
 

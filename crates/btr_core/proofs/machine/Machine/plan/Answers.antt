@@ -2,7 +2,7 @@
 use Rattle.std.specs.Ordering.{nat_cmp}
 use Rattle.std.specs.BTreeMap.{get}
 use Rattle.std.proofs.Common.{◌≡◌, sym, subst, refl, Option, Some}
-use Rattle.btr_engine.specs.declared.snapshot.Snapshot.{Snapshot}
+use Rattle.btr_streams.specs.declared.snapshot.Snapshot.{Snapshot}
 use Rattle.btr_plan.specs.declared.planning.Next.{Next}
 use Rattle.btr_plan.specs.Next.{IsNext}
 use Rattle.btr_core.specs.Machine.{IsAdmitted}

@@ -133,51 +133,57 @@ invariant_of-self g c =
       same_blocks = go.same_blocks;
     }
 
-pub returns-in-Err-clause-cause : goal.returns-in-Err-clause-cause
-returns-in-Err-clause-cause g c =
+pub returns-in-Err : goal.returns-in-Err
+returns-in-Err g c =
     let old = c.args.self.now in
-    let f = fails g (goal.at.returns-in-Err-clause-cause g c).In-Err in
-    let cause = subst (λ l. AppendCause (log_of old) l (c.args.extent.now ++ []) c.in-Err.fault) (sym (ap log_in c.put_back.ensures)) f.cause in
-    refused old (c.args.extent.now ++ []) (whole c.requires.bytes) _ c.in-Err.fault c.step_fault.result c.requires.home (ap has_log c.put_back.ensures) c.requires.runs f.appends.full cause refl refl refl refl c.step_fault.ensures.full c.step_fault.ensures.failed
-
-pub returns-in-Err-clause-moments : goal.returns-in-Err-clause-moments
-returns-in-Err-clause-moments g c is_observable h rest =
-    let old = c.args.self.now in
-    subst (λ l. log.LogLeaves (log_of old) l (λ x. HoldsHistory (g.D.Disk.size (device old)) x h)) (sym (ap log_in c.put_back.ensures))
-    (left_by_fault g (goal.at.returns-in-Err-clause-moments g c).In-Err is_observable h rest)
-
-pub returns-in-Err-clause-durable : goal.returns-in-Err-clause-durable
-returns-in-Err-clause-durable g c is_observable h more calls entries rest so_far =
-    let old = c.args.self.now in
-    let a = (goal.at.returns-in-Err-clause-durable g c).In-Err in
+    let f = fails g (goal.at.returns-in-Err g c).In-Err in
     let there = sym (ap log_in c.put_back.ensures) in
-    durable_through h old _ calls entries more c.requires.runs (opening_kept old _ (subst (log.KeepsBounds (log_of old)) there (fails g a).appends.kept) refl refl) refl (g.met.D.Disk.counts_now is_observable _)
-    (subst (λ l. log.LogLeaves (log_of old) l (λ x. HoldsHistory (g.D.Disk.size (device old)) x h)) there (left_by_fault g a is_observable h rest)) so_far
+    let cause = subst (λ l. AppendCause (log_of old) l (c.args.extent.now ++ []) c.in-Err.fault) there f.cause in
+    let kept = opening_kept old _ (subst (log.KeepsBounds (log_of old)) there f.appends.kept) refl refl in
+    let left : g.D.Disk.is_observable → (h : List Entry) → IsAtRest h old → _ = λ is_observable h rest.
+    subst (λ l. log.LogLeaves (log_of old) l (λ x. HoldsHistory (g.D.Disk.size (device old)) x h)) there
+    (left_by_fault g (goal.at.returns-in-Err g c).In-Err is_observable h rest) in
+    record {
+      home = ap has_log c.put_back.ensures;
+      cause = refused old (c.args.extent.now ++ []) (whole c.requires.bytes) _ c.in-Err.fault c.step_fault.result c.requires.home (ap has_log c.put_back.ensures) c.requires.runs f.appends.full cause refl refl refl refl c.step_fault.ensures.full c.step_fault.ensures.failed;
+      marked = tt;
+      kept = kept;
+      at_rest = λ is_observable h rest. tt;
+      named = λ is_observable h rest. tt;
+      moments = left;
+      durable = λ is_observable h more calls entries rests so_far.
+          durable_through h old _ calls entries more c.requires.runs kept refl (g.met.D.Disk.counts_now is_observable _)
+          (left is_observable h (rests c.requires.runs)) so_far;
+    }
 
 -- ---- the replacement failed
 
-pub returns-then-is_err-clause-cause : goal.returns-then-is_err-clause-cause
-returns-then-is_err-clause-cause g c =
-    let a = (goal.at.returns-then-is_err-clause-cause g c).In_default-append in (
-      c.requires.runs,
-      fits g a,
-      stops c.args.self.now _ (log.log_device c.append.new.self) c.replace.new.device (takes g a).appended.calls c.replace.ensures.calls.later c.replace.ensures.calls.at_most (takes g a).appends.kept.device_kept.more_faults
-          (on_err c.replace.result (failed g (goal.at.returns-then-is_err-clause-cause g c).Then-is_err) c.replace.ensures.cause.failed)
-          (ap (λ p. log.log_device (log_in p)) c.put_back-then-is_err.ensures ∙ c.stop.ensures.device) (ap (λ p. log.is_log_stopped (log_in p)) c.put_back-then-is_err.ensures ∙ c.stop.ensures.stopped) refl refl,
-    )
-
-pub returns-then-is_err-clause-moments : goal.returns-then-is_err-clause-moments
-returns-then-is_err-clause-moments g c is_observable h rest =
-    left_up_to g (goal.at.returns-then-is_err-clause-moments g c).After-replace is_observable h rest c.put_back-then-is_err.new.self (ap (λ p. log.log_device (log_in p)) c.put_back-then-is_err.ensures ∙ c.stop.ensures.device)
-
-pub returns-then-is_err-clause-durable : goal.returns-then-is_err-clause-durable
-returns-then-is_err-clause-durable g c is_observable h more calls entries rest so_far =
+pub returns-then-is_err : goal.returns-then-is_err
+returns-then-is_err g c =
     let old = c.args.self.now in
-    let a = (goal.at.returns-then-is_err-clause-durable g c).After-replace in
-    let device_is = ap (λ p. log.log_device (log_in p)) c.put_back-then-is_err.ensures ∙ c.stop.ensures.device in
-    durable_through h old _ calls entries more c.requires.runs
-    (marking_keeps old _ c.append.new.self c.replace.new.device (its_takes g a).appends.kept (counts g a) device_is (ap (λ p. log.log_blocks (log_in p)) c.put_back-then-is_err.ensures ∙ c.stop.ensures.kept.blocks) refl refl)
-    refl (g.met.D.Disk.counts_now is_observable _) (left_up_to g a is_observable h rest c.put_back-then-is_err.new.self device_is) so_far
+    let a = (goal.at.returns-then-is_err g c).In_default-append in
+    let b = (goal.at.returns-then-is_err g c).After-replace in
+    let back = c.put_back-then-is_err.ensures in
+    let device_is = ap (λ p. log.log_device (log_in p)) back ∙ c.stop.ensures.device in
+    let kept = marking_keeps old _ c.append.new.self c.replace.new.device (its_takes g b).appends.kept (counts g b) device_is (ap (λ p. log.log_blocks (log_in p)) back ∙ c.stop.ensures.kept.blocks) refl refl in
+    record {
+      home = ap has_log back;
+      cause = (
+        c.requires.runs,
+        fits g a,
+        stops old _ (log.log_device c.append.new.self) c.replace.new.device (takes g a).appended.calls c.replace.ensures.calls.later c.replace.ensures.calls.at_most (takes g a).appends.kept.device_kept.more_faults
+            (on_err c.replace.result (failed g (goal.at.returns-then-is_err g c).Then-is_err) c.replace.ensures.cause.failed)
+            device_is (ap (λ p. log.is_log_stopped (log_in p)) back ∙ c.stop.ensures.stopped) refl refl,
+      );
+      marked = tt;
+      kept = kept;
+      at_rest = λ is_observable h rest. tt;
+      named = λ is_observable h rest. tt;
+      moments = λ is_observable h rest. left_up_to g b is_observable h rest c.put_back-then-is_err.new.self device_is;
+      durable = λ is_observable h more calls entries rests so_far.
+          durable_through h old _ calls entries more c.requires.runs kept refl (g.met.D.Disk.counts_now is_observable _)
+          (left_up_to g b is_observable h (rests c.requires.runs) c.put_back-then-is_err.new.self device_is) so_far;
+    }
 
 -- ---- both succeeded
 
@@ -212,62 +218,45 @@ invariant_of-self-2 g c =
       same_blocks = go.same_blocks;
     }
 
-pub returns-clause-marked : goal.returns-clause-marked
-returns-clause-marked g c =
+pub returns : goal.returns
+returns g c =
     let old = c.args.self.now in
-    let a = (goal.at.returns-clause-marked g c).After-replace in
-    let w = its_takes g a in
-    let back = c.put_back-2.ensures in
-    let tail_is = ap (λ p. log.log_tail (log_in p)) back in
-    let done : is_err c.replace.result ≡ false = sym c.is_err.ensures.value ∙ c.if-is_err.false in
-    record {
-      entries = c.entries.ensures;
-      ran = c.requires.runs;
-      runs = ap (λ p. log.is_log_stopped (log_in p)) back ∙ w.appended.runs;
-      board = refl;
-      fits = fits g (goal.at.returns-clause-marked g c).In_default-append;
-      tail = tail_is ∙ w.appended.tail ∙ ap (λ n. tail_of old + n) (needed old (c.args.extent.now ++ []) (whole c.requires.bytes));
-      chosen = is_next g a ∙ ap (next_super (super_of old) (tail_of old)) (sym tail_is);
-      called = subst (CountsMark (g.D.Disk.calls (device old))) (sym (ap (λ p. g.D.Disk.calls (log.log_device (log_in p))) back))
-          (counted-both (g.D.Disk.calls (device old)) (g.D.Disk.calls (log.log_device c.append.new.self)) (g.D.Disk.calls c.replace.new.device) w.appended.calls (on_ok c.replace.result done c.replace.ensures.calls.all));
-    }
-
-pub returns-clause-at_rest : goal.returns-clause-at_rest
-returns-clause-at_rest g c is_observable h rest =
-    let old = c.args.self.now in
-    let a = (goal.at.returns-clause-at_rest g c).After-replace in
-    let w = its_takes g a in
-    let back = c.put_back-2.ensures in
-    let done : is_err c.replace.result ≡ false = sym c.is_err.ensures.value ∙ c.if-is_err.false in
-    at_rest old (c.args.extent.now ++ []) (whole c.requires.bytes) (room g a is_observable h rest) h rest c.append.new.self w.appends.kept w.appended.tail (w.written is_observable) (rests g a is_observable h rest) c.next_super-next.result (is_next g a)
-    c.replace.new.device c.replace.ensures.size (c.replace.ensures.elsewhere is_observable)
-    (on_ok c.replace.result done (c.replace.ensures.replaced is_observable (super_of old) (its_super g a is_observable h rest) (its_prefix g a is_observable h rest)))
-    _ (ap (λ p. log.log_device (log_in p)) back) (ap (λ p. log.log_blocks (log_in p)) back ∙ w.appends.kept.blocks) (ap (λ p. log.log_tail (log_in p)) back) refl refl (on_ok c.replace.result done (c.replace.ensures.stored is_observable).synced)
-
-pub returns-clause-named : goal.returns-clause-named
-returns-clause-named g c is_observable h rest =
-    let old = c.args.self.now in
-    let a = (goal.at.returns-clause-named g c).After-replace in
+    let a = (goal.at.returns g c).After-replace in
     let w = its_takes g a in
     let p = c.put_back-2.new.self in
     let back = c.put_back-2.ensures in
+    let tail_is = ap (λ q. log.log_tail (log_in q)) back in
+    let device_is = ap (λ q. log.log_device (log_in q)) back in
+    let blocks_are = ap (λ q. log.log_blocks (log_in q)) back in
     let done : is_err c.replace.result ≡ false = sym c.is_err.ensures.value ∙ c.if-is_err.false in
-    subst (λ d. (x : Image) → g.D.Disk.images_now d x → IsNamed (g.D.Disk.size d) x (log.log_blocks (log_in p)) (log.log_tail (log_in p)) h) (sym (ap (λ q. log.log_device (log_in q)) back))
-    (named_in old (c.args.extent.now ++ []) (whole c.requires.bytes) (room g a is_observable h rest) h rest c.append.new.self w.appends.kept w.appended.tail (w.written is_observable) (rests g a is_observable h rest) c.next_super-next.result (is_next g a)
-    c.replace.new.device c.replace.ensures.size (c.replace.ensures.elsewhere is_observable)
-    (on_ok c.replace.result done (c.replace.ensures.replaced is_observable (super_of old) (its_super g a is_observable h rest) (its_prefix g a is_observable h rest)))
-    (log.log_blocks (log_in p)) (log.log_tail (log_in p)) (ap (λ q. log.log_blocks (log_in q)) back ∙ w.appends.kept.blocks) (ap (λ q. log.log_tail (log_in q)) back) (on_ok c.replace.result done (c.replace.ensures.stored is_observable).synced))
-
-pub returns-clause-moments : goal.returns-clause-moments
-returns-clause-moments g c is_observable h rest =
-    left_up_to g (goal.at.returns-clause-moments g c).After-replace is_observable h rest c.put_back-2.new.self (ap (λ p. log.log_device (log_in p)) c.put_back-2.ensures)
-
-pub returns-clause-durable : goal.returns-clause-durable
-returns-clause-durable g c is_observable h more calls entries rest so_far =
-    let old = c.args.self.now in
-    let a = (goal.at.returns-clause-durable g c).After-replace in
-    let back = c.put_back-2.ensures in
-    let device_is = ap (λ p. log.log_device (log_in p)) back in
-    durable_through h old _ calls entries more c.requires.runs
-    (marking_keeps old _ c.append.new.self c.replace.new.device (its_takes g a).appends.kept (counts g a) device_is (ap (λ p. log.log_blocks (log_in p)) back) refl refl)
-    refl (g.met.D.Disk.counts_now is_observable _) (left_up_to g a is_observable h rest c.put_back-2.new.self device_is) so_far
+    let kept = marking_keeps old _ c.append.new.self c.replace.new.device w.appends.kept (counts g a) device_is blocks_are refl refl in
+    let replaced : (seen : g.D.Disk.is_observable) (h : List Entry) (rest : IsAtRest h old) → _ = λ seen h rest.
+    on_ok c.replace.result done (c.replace.ensures.replaced seen (super_of old) (its_super g a seen h rest) (its_prefix g a seen h rest)) in
+    record {
+      home = ap has_log back;
+      cause = tt;
+      marked = record {
+        entries = c.entries.ensures;
+        ran = c.requires.runs;
+        runs = ap (λ q. log.is_log_stopped (log_in q)) back ∙ w.appended.runs;
+        board = refl;
+        fits = fits g (goal.at.returns g c).In_default-append;
+        tail = tail_is ∙ w.appended.tail ∙ ap (λ n. tail_of old + n) (needed old (c.args.extent.now ++ []) (whole c.requires.bytes));
+        chosen = is_next g a ∙ ap (next_super (super_of old) (tail_of old)) (sym tail_is);
+        called = subst (CountsMark (g.D.Disk.calls (device old))) (sym (ap (λ q. g.D.Disk.calls (log.log_device (log_in q))) back))
+            (counted-both (g.D.Disk.calls (device old)) (g.D.Disk.calls (log.log_device c.append.new.self)) (g.D.Disk.calls c.replace.new.device) w.appended.calls (on_ok c.replace.result done c.replace.ensures.calls.all));
+      };
+      kept = kept;
+      at_rest = λ seen h rest.
+          at_rest old (c.args.extent.now ++ []) (whole c.requires.bytes) (room g a seen h rest) h rest c.append.new.self w.appends.kept w.appended.tail (w.written seen) (rests g a seen h rest) c.next_super-next.result (is_next g a)
+          c.replace.new.device c.replace.ensures.size (c.replace.ensures.elsewhere seen) (replaced seen h rest)
+          _ device_is (blocks_are ∙ w.appends.kept.blocks) tail_is refl refl (on_ok c.replace.result done (c.replace.ensures.stored seen).synced);
+      named = λ seen h rest.
+          subst (λ d. (x : Image) → g.D.Disk.images_now d x → IsNamed (g.D.Disk.size d) x (log.log_blocks (log_in p)) (log.log_tail (log_in p)) h) (sym device_is)
+          (named_in old (c.args.extent.now ++ []) (whole c.requires.bytes) (room g a seen h rest) h rest c.append.new.self w.appends.kept w.appended.tail (w.written seen) (rests g a seen h rest) c.next_super-next.result (is_next g a)
+          c.replace.new.device c.replace.ensures.size (c.replace.ensures.elsewhere seen) (replaced seen h rest)
+          (log.log_blocks (log_in p)) (log.log_tail (log_in p)) (blocks_are ∙ w.appends.kept.blocks) tail_is (on_ok c.replace.result done (c.replace.ensures.stored seen).synced));
+      moments = λ seen h rest. left_up_to g a seen h rest p device_is;
+      durable = λ seen h more calls entries given so_far.
+          durable_through h old _ calls entries more c.requires.runs kept refl (g.met.D.Disk.counts_now seen _) (left_up_to g a seen h (given c.requires.runs) p device_is) so_far;
+    }
