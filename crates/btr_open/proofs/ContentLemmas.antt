@@ -20,7 +20,7 @@ use Rattle.btr_entry.specs.Grammar.{spelling}
 use Rattle.btr_roll.specs.Roll.{roll_bytes}
 use Rattle.btr_entry.specs.Grammar.{IsSpelled}
 use Rattle.btr_entry.proofs.SpellingLemmas.{length-spelling, same_entry}
-use Rattle.btr_engine.specs.Rolling.{roll_of}
+use Rattle.btr_streams.specs.Rolling.{roll_of}
 use Rattle.btr_engine.specs.Body.{padding, body_of, Prefix, IsBodyOf, first_page, checkpoint_body, IsCheckpointOf}
 use Rattle.btr_engine.proofs.BodyLemmas.{filled, need-body_of}
 use Rattle.btr_open.specs.Content.{content_of, HasContent, HasCheckpoint}

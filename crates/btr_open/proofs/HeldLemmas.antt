@@ -16,11 +16,11 @@ use Rattle.btr_roll.specs.Roll.{roll_bytes}
 use Rattle.btr_engine.specs.Body.{Prefix, prefix_to, no_extents, with_extent, with_checkpoint, IsCheckpointOf, checkpoint_body, LeadTo}
 use Rattle.btr_engine.specs.Holds.{IsMarked, HoldsHistoryTo}
 use Rattle.btr_engine.specs.Mark.{body_of_roll}
-use Rattle.btr_engine.specs.Outline.{refusal}
-use Rattle.btr_engine.specs.Rolling.{roll_of}
+use Rattle.btr_streams.specs.Outline.{refusal}
+use Rattle.btr_streams.specs.Rolling.{roll_of}
 use Rattle.btr_engine.specs.Roots.{IsRootOf}
 use Rattle.btr_engine.proofs.BodyLemmas.{LeadTo-mark, LeadTo-split, LeadTo-length, LeadTo-roots, LeadTo-gate, LeadTo-one, kinds-apart}
-use Rattle.btr_engine.proofs.RollFits.{roll-fits}
+use Rattle.btr_streams.proofs.RollFits.{roll-fits}
 use Rattle.btr_open.specs.Reached.{Reached, with_entry, pages_with}
 use Rattle.btr_open.specs.Below.{StandBelow}
 use Rattle.btr_open.specs.Start.{HasRoll, IsCheckpointStart, IsReadingStart}

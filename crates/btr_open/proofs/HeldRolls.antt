@@ -18,12 +18,12 @@ use Rattle.btr_hist.proofs.HistoryLemmas.{length-kinds, read_by-append, follows-
 use Rattle.btr_hist.proofs.VersionLemmas.{read_by-push}
 use Rattle.btr_roll.specs.declared.roll.RollVersion.{RollVersion}
 use Rattle.btr_roll.specs.Roll.{versions_count}
-use Rattle.btr_engine.specs.Outline.{outlined, outline_from, outline_of, last_read, outlined_in_roll, outline_in}
-use Rattle.btr_engine.specs.Past.{entry_numbers, creation_numbers, commit_numbers, stream_numbers}
-use Rattle.btr_engine.specs.Rolling.{root_at, rolled_versions, rolled_stream, rolled_from, roll_of}
-use Rattle.btr_engine.specs.Stage.{MakesStream, MakesVersion, change}
-use Rattle.btr_engine.proofs.BoardStreamLemmas.{ids-more, kinds-more, recorded-still, ids-still, kinds-still, recorded-other, create-makes, define-makes, commit-makes, distillate-makes}
-use Rattle.btr_engine.proofs.NumberingLemmas.{numbers-counted, numbers-still, numbers-new, numbers-more, numbers-other}
+use Rattle.btr_streams.specs.Outline.{outlined, outline_from, outline_of, last_read, outlined_in_roll, outline_in}
+use Rattle.btr_streams.specs.Past.{entry_numbers, creation_numbers, commit_numbers, stream_numbers}
+use Rattle.btr_streams.specs.Rolling.{root_at, rolled_versions, rolled_stream, rolled_from, roll_of}
+use Rattle.btr_streams.specs.Stage.{MakesStream, MakesVersion, change}
+use Rattle.btr_streams.proofs.BoardStreamLemmas.{ids-more, kinds-more, recorded-still, ids-still, kinds-still, recorded-other, create-makes, define-makes, commit-makes, distillate-makes}
+use Rattle.btr_streams.proofs.NumberingLemmas.{numbers-counted, numbers-still, numbers-new, numbers-more, numbers-other}
 use Rattle.btr_open.specs.Reached.{new_in_roll, with_version_more, with_version_at, next_roll, next_version}
 use Rattle.btr_open.specs.Start.{IsMadeWithin}
 use Rattle.btr_open.proofs.ListLemmas.{one-less, drop-push}

@@ -12,7 +12,7 @@ use Rattle.btr_tree.specs.Leads.{node_to, Leads}
 use Rattle.btr_tree.specs.Nodes.{above_root}
 use Rattle.btr_tree.proofs.LeadsLemmas.{leads-along}
 use Rattle.btr_node.specs.declared.page.NodePage.{NodePage}
-use Rattle.btr_pages.specs.Pages.{Pages, node_of_stream, HasRootPage, MayBeRoot}
+use Rattle.btr_pages.specs.Pages.{Pages, node_of_stream, HasRootPage, MayBeRoot, Stand}
 use Rattle.btr_pages.proofs.KnownLemmas.{pages-below}
 use Rattle.btr_pages.proofs.ReportedLemmas.{page-in}
 use Rattle.btr_hist.specs.declared.entry.Entry.{Entry}
@@ -26,11 +26,11 @@ use Rattle.btr_log.specs.Extents.{need}
 use Rattle.btr_roll.specs.declared.roll.RollVersion.{RollVersion}
 use Rattle.btr_roll.specs.Roll.{RollStreamValue, versions_count}
 use Rattle.btr_engine.specs.Body.{Prefix, no_extents, first_page, pages_after, with_extent, with_checkpoint, LeadTo, RootRule}
-use Rattle.btr_engine.specs.Past.{with_commits, commits_to}
-use Rattle.btr_engine.specs.Rolling.{roll_of}
-use Rattle.btr_engine.specs.Roots.{Stand, LeadsToLatest, IsRootOf}
-use Rattle.btr_engine.specs.Stage.{change}
-use Rattle.btr_engine.proofs.BoardTrees.{before-commits_to}
+use Rattle.btr_streams.specs.Past.{with_commits, commits_to}
+use Rattle.btr_streams.specs.Rolling.{roll_of}
+use Rattle.btr_engine.specs.Roots.{LeadsToLatest, IsRootOf}
+use Rattle.btr_streams.specs.Stage.{change}
+use Rattle.btr_streams.proofs.BoardTrees.{before-commits_to}
 use Rattle.btr_engine.proofs.Written.{or-last}
 use Rattle.btr_open.specs.Reached.{new_in_roll, with_version_more, with_version_at, next_roll}
 use Rattle.btr_open.specs.RootTest.{adds, MayLead}

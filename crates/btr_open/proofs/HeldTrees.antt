@@ -18,16 +18,17 @@ use Rattle.btr_hist.specs.Legal.{Follows}
 use Rattle.btr_hist.proofs.OutputLemmas.{follows-sound}
 use Rattle.btr_roll.specs.declared.roll.RollVersion.{RollVersion}
 use Rattle.btr_roll.specs.Roll.{RollStreamValue}
-use Rattle.btr_engine.specs.Past.{with_commits, commits_to}
-use Rattle.btr_engine.specs.Board.{Versions, Kept, HasPast, HasTrees, IsBoardOf}
+use Rattle.btr_streams.specs.Past.{with_commits, commits_to}
+use Rattle.btr_streams.specs.Board.{Versions, Kept, HasPast, HasTrees, IsBoardOf}
 use Rattle.btr_engine.specs.Body.{Prefix, no_extents, first_page, with_extent, with_checkpoint, LeadTo}
-use Rattle.btr_engine.specs.Rolling.{rolled_stream, roll_of}
+use Rattle.btr_streams.specs.Rolling.{rolled_stream, roll_of}
 use Rattle.btr_engine.specs.Roots.{IsRootOf}
-use Rattle.btr_engine.specs.Restoring.{restored_stream, restored_streams, AllFitTrees, HaveRolledRoots}
-use Rattle.btr_engine.specs.Stored.{AreStored, HaveRoots}
+use Rattle.btr_streams.specs.Restoring.{restored_stream, restored_streams, AllFitTrees, HaveRolledRoots}
+use Rattle.btr_engine.specs.Stored.{AreStored}
+use Rattle.btr_streams.specs.Rolling.{HaveRoots}
 use Rattle.btr_engine.proofs.BodyLemmas.{LeadTo-roots, LeadTo-gate}
-use Rattle.btr_engine.proofs.BoardTrees.{bag-commits_to}
-use Rattle.btr_engine.proofs.RestoringLemmas.{restored-of, restored-roots}
+use Rattle.btr_streams.proofs.BoardTrees.{bag-commits_to}
+use Rattle.btr_streams.proofs.RestoringLemmas.{restored-of, restored-roots}
 use Rattle.btr_engine.proofs.StoredLemmas.{kept-with}
 use Rattle.btr_open.specs.declared.loading.Loader.{Loader}
 use Rattle.btr_open.specs.Start.{HasVersionAt}

@@ -27,7 +27,6 @@ pub mod HeldLemmas
 -- the checkpoint from which a log is read
 mod StartContent
 mod StartRoots
-mod StartLengths
 mod StartTrees
 mod StartLoad
 mod StartExtent
@@ -40,6 +39,7 @@ pub mod ReadingLemmas
 pub mod WalkLemmas
 mod NextLemmas
 mod WholeLemmas
+mod LogWalkLemmas
 mod RuleLemmas
 mod FirstReading
 -- what an opening returns, and the laws

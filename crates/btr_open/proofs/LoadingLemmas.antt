@@ -25,16 +25,17 @@ use Rattle.btr_hist.specs.declared.entry.Entry.TheVariants.{Create, Define, Comm
 use Rattle.btr_hist.specs.Legal.{rejection, Follows}
 use Rattle.btr_entry.specs.Grammar.{spelling}
 use Rattle.btr_roll.specs.Roll.{RollStreamValue, roll_bytes}
-use Rattle.btr_engine.specs.Rolling.{rolled}
+use Rattle.btr_streams.specs.Rolling.{rolled}
 use Rattle.btr_engine.specs.Mark.{body_of_roll}
-use Rattle.btr_engine.specs.Board.{HasPast, IsBoardOf}
-use Rattle.btr_engine.specs.Stored.{AreStored, HaveRoots}
-use Rattle.btr_engine.specs.Stage.{HasRoomFor, ReadsEntry, IsTreeAfter}
+use Rattle.btr_streams.specs.Board.{HasPast, IsBoardOf}
+use Rattle.btr_engine.specs.Stored.{AreStored}
+use Rattle.btr_streams.specs.Rolling.{HaveRoots}
+use Rattle.btr_streams.specs.Stage.{HasRoomFor, ReadsEntry, IsTreeAfter}
 use Rattle.btr_engine.specs.Roots.{IsRootOf}
 use Rattle.btr_engine.specs.Body.{padding, Prefix, first_page, pages_after, with_extent, IsBodyOf}
 use Rattle.btr_engine.proofs.BodyLemmas.{filled}
 use Rattle.btr_engine.proofs.RootsLemmas.{roots-read}
-use Rattle.btr_engine.proofs.StreamsLemmas.{has-streams}
+use Rattle.btr_streams.proofs.StreamsLemmas.{has-streams}
 use Rattle.btr_open.specs.declared.judge.Judge.{Ghosts as Judging}
 use Rattle.btr_open.specs.declared.loading.Loader.{Loader}
 use Rattle.btr_open.specs.Content.{content_of, HasContent, HasNoContent, HasCheckpoint, node_blocks_of}

@@ -5,8 +5,6 @@ use Rattle.std.proofs.lemmas.Bool.{cases_lt}
 use Rattle.std.proofs.lemmas.Option.{slice_get_past}
 use Rattle.btr_disk.specs.declared.disk.Disk.{Ghosts}
 use Rattle.btr_disk.specs.Bytes.{Image}
-use Rattle.btr_disk.proofs.ByteLemmas.{Same-is}
-use Rattle.btr_disk.proofs.MomentLemmas.{none_written, nothing_composes}
 use Rattle.btr_base.specs.Span.{SpanValue}
 use Rattle.btr_node.specs.Page.{front, Keeps, slots_of_page}
 use Rattle.btr_node.specs.declared.page.NodePage.{NodePage}
@@ -16,13 +14,10 @@ use Rattle.btr_pages.specs.Pages.{Pages, IsPageAt, IsChildPage}
 use Rattle.btr_pages.specs.Known.{NodesValue, node_at, ArePartOf, KnowsChildren, TakesPage}
 use Rattle.btr_pages.proofs.KnownLemmas.{HasOnly}
 use Rattle.btr_open.specs.declared.below.BlockReader.{BlockReader}
-use Rattle.btr_open.specs.declared.opening.OpenCause.{OpenCause}
-use Rattle.btr_open.specs.declared.opening.OpenCause.TheVariants.{NotAStore, Damaged, Fault, Want}
 use Rattle.btr_open.specs.Below.{IsStoredPage, IsWrongChild, BreaksBelow}
-use Rattle.btr_open.specs.Reading.{BlockCause}
 use Rattle.btr_open.specs.Reads.{OnlyReads}
 use Rattle.btr_open.specs.Loading.{GrowsBelow, AddsBelow, StaysPart, CanRead, HasReadBelow, IsReadPage, IsStoredWith, HasNoneFrom, KnowsChild, MakesBelow}
-use Rattle.btr_open.proofs.Synced.{counts-trans}
+use Rattle.btr_open.proofs.OnlyReading.{no-calls, OnlyReads-trans, same-bytes}
 use Rattle.btr_open.proofs.BelowLemmas.{stored-one, stand-page, child-at}
 use Rattle.btr_open.proofs.TreesBelow.{some-of, is-some, some-none, grows-none, grows-on, grows-one, adds-none, adds-on, adds-one, part-one, still-found, device-on, refused-breaks}
 
@@ -150,30 +145,21 @@ module _ (image : Image) (limit block i : ℕ) (page : NodePage) (slot : PageSlo
 module _ {D : Type 0} (disk : Ghosts D) where
   -- ---- reads, one after another
 
-  only-on : (old mid new : D) → OnlyReads disk old mid → OnlyReads disk mid new → OnlyReads disk old new
-  only-on old mid new first second = record {
-    counts = counts-trans disk old mid new first.counts second.counts;
-    nothing = λ reported. nothing_composes disk.calls disk.images_since disk.contents disk.images_now old mid new (first.nothing reported) (second.nothing reported);
-  }
-
   pub same-image : (old new : D) → OnlyReads disk old new → disk.is_observable → disk.contents new ≡ disk.contents old
-  same-image old new reads reported = Same-is (disk.contents old) (disk.contents new) (reads.nothing reported).same
+  same-image old new reads reported = sym (same-bytes old new reads reported)
 
   -- Nothing was read. `only_now` is the device's law.
   pub read-none : (r : BlockReader) (d : D) → (disk.is_observable → (c : Image) → disk.images_since d (disk.calls d) c → disk.images_now d c) → CanRead disk r d → HasReadBelow disk r r d d
   read-none r d only_now can = record {
     limit = refl;
-    reads = record {
-      counts = record { same_size = refl; more_calls = omega arith; more_faults = omega arith };
-      nothing = λ reported. none_written disk.calls disk.images_since disk.contents disk.images_now d (only_now reported);
-    };
+    reads = no-calls d only_now;
     holds = can.holds;
   }
 
   pub read-on : (r s t : BlockReader) (old mid new : D) → HasReadBelow disk r s old mid → HasReadBelow disk s t mid new → HasReadBelow disk r t old new
   read-on r s t old mid new first second = record {
     limit = second.limit ∙ first.limit;
-    reads = only-on old mid new first.reads second.reads;
+    reads = OnlyReads-trans old mid new first.reads second.reads;
     holds = second.holds;
   }
 
@@ -184,12 +170,6 @@ module _ {D : Type 0} (disk : Ghosts D) where
       let inside = can.inside in
       let few = can.addressable in
       record { inside = omega arith; addressable = omega arith; holds = read.holds }
-
-  pub cause-on : (old mid new : D) (cause : OpenCause) → OnlyReads disk old mid → BlockCause disk mid new cause → BlockCause disk old new cause
-  cause-on old mid new NotAStore reads cause = cause
-  cause-on old mid new (Damaged block) reads cause = cause
-  cause-on old mid new Fault reads cause = let more = reads.counts.more_faults in grind arith
-  cause-on old mid new Want reads cause = tt
 
   -- ---- the trees of the children of a page
 

@@ -12,10 +12,10 @@ use Rattle.btr_hist.specs.declared.kernel.Spec.{Spec}
 use Rattle.btr_hist.specs.declared.kernel.Reads.{Reads}
 use Rattle.btr_roll.specs.declared.roll.RollVersion.{RollVersion}
 use Rattle.btr_roll.specs.Roll.{RollStreamValue}
-use Rattle.btr_engine.specs.declared.board.Staged.{Staged}
-use Rattle.btr_engine.specs.Board.{Versions, Kept, IsGrown, reads_count, read_at}
-use Rattle.btr_engine.specs.Rolling.{kept_version, kept_versions, kept_stream, rolled}
-use Rattle.btr_engine.specs.Stage.{with_version, new_stream, AddsStream, HasRoomFor, HasRoomForVersion, ReadsVersion, ReadsEntry}
+use Rattle.btr_streams.specs.declared.board.Staged.{Staged}
+use Rattle.btr_streams.specs.Board.{Versions, Kept, IsGrown, reads_count, read_at}
+use Rattle.btr_streams.specs.Rolling.{kept_version, kept_versions, kept_stream, rolled}
+use Rattle.btr_streams.specs.Stage.{with_version, new_stream, AddsStream, HasRoomFor, HasRoomForVersion, ReadsVersion, ReadsEntry}
 use Rattle.btr_open.specs.Reached.{new_in_roll, with_version_more, with_version_at, next_roll}
 use Rattle.btr_open.proofs.ListLemmas.{one-less, drop-push}
 

@@ -1,9 +1,10 @@
 -- Calls of a device and of a log that only read.
 use Rattle.std.specs.Prelude.{◌≡◌}
-use Rattle.std.proofs.Common.{sym, ◌∙◌}
+use Rattle.std.proofs.Common.{refl, sym, ◌∙◌, arith}
 use Rattle.btr_disk.specs.declared.disk.Disk.{Ghosts}
+use Rattle.btr_disk.specs.Bytes.{Image}
 use Rattle.btr_disk.proofs.ByteLemmas.{Same-is}
-use Rattle.btr_disk.proofs.MomentLemmas.{nothing_composes}
+use Rattle.btr_disk.proofs.MomentLemmas.{none_written, nothing_composes}
 use Rattle.btr_log.specs.declared.log.Log.{Log}
 use Rattle.btr_log.specs.Log.{log_device}
 use Rattle.btr_open.specs.Reading.{ReadsLog}
@@ -11,6 +12,13 @@ use Rattle.btr_open.specs.Reads.{OnlyReads}
 use Rattle.btr_open.proofs.Synced.{counts-trans}
 
 module _ {D : Type 0} {disk : Ghosts D} where
+  -- No call. `only_now` is the device's law.
+  pub no-calls : (d : D) → (disk.is_observable → (c : Image) → disk.images_since d (disk.calls d) c → disk.images_now d c) → OnlyReads disk d d
+  no-calls d only_now = record {
+    counts = record { same_size = refl; more_calls = omega arith; more_faults = omega arith };
+    nothing = λ reported. none_written disk.calls disk.images_since disk.contents disk.images_now d (only_now reported);
+  }
+
   -- Calls that only read, followed by others that only read.
   pub OnlyReads-trans : (old mid new : D) → OnlyReads disk old mid → OnlyReads disk mid new → OnlyReads disk old new
   OnlyReads-trans old mid new first second = record {

@@ -11,8 +11,9 @@ use Rattle.btr_super.specs.Choose.{IsChosen}
 use Rattle.btr_super.proofs.ChoiceLemmas.{one_chosen}
 use Rattle.btr_hist.specs.declared.entry.Entry.{Entry}
 use Rattle.btr_engine.specs.declared.engine.Engine.{Engine}
-use Rattle.btr_engine.specs.Board.{Kept, IsBoardOf}
-use Rattle.btr_engine.specs.Stored.{AreStored, HaveRoots}
+use Rattle.btr_streams.specs.Board.{Kept, IsBoardOf}
+use Rattle.btr_engine.specs.Stored.{AreStored}
+use Rattle.btr_streams.specs.Rolling.{HaveRoots}
 use Rattle.btr_engine.specs.Engine.{device, tail_of, blocks_of, board_of, entries_of, synced_of, entries_at_open, calls_at_open, IsAtRest, IsHeldSince}
 use Rattle.btr_engine.specs.Holds.{HoldsHistoryTo, HoldsHistory}
 use Rattle.btr_engine.proofs.HoldsLemmas.{HoldsTrees}

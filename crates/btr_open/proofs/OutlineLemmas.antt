@@ -5,8 +5,8 @@ use Rattle.std.proofs.lemmas.List.{take-append-drop}
 use Rattle.btr_hist.specs.declared.entry.Entry.{Entry}
 use Rattle.btr_hist.specs.Legal.{Follows}
 use Rattle.btr_hist.proofs.HistoryLemmas.{follows-prefix}
-use Rattle.btr_engine.specs.Outline.{outline_of, refusal, points_refusal, MayFollow}
-use Rattle.btr_engine.proofs.OutlineLemmas.{outline-is, both-none, from-none, rejection-by}
+use Rattle.btr_streams.specs.Outline.{outline_of, refusal, points_refusal, MayFollow}
+use Rattle.btr_streams.proofs.OutlineLemmas.{outline-is, both-none, from-none, rejection-by}
 use Rattle.btr_open.specs.Laws.{OutlineAndPointsDecide}
 
 pub decide : OutlineAndPointsDecide

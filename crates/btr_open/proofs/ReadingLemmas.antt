@@ -16,17 +16,19 @@ use Rattle.btr_pages.proofs.ReportedLemmas.{page-in}
 use Rattle.btr_tree.specs.Leads.{node_to}
 use Rattle.btr_tree.specs.Nodes.{above_root}
 use Rattle.btr_hist.specs.History.{latest}
-use Rattle.btr_engine.specs.Past.{commits_to}
+use Rattle.btr_streams.specs.Past.{commits_to}
 use Rattle.btr_base.specs.declared.limits.TheConstants.{FIRST}
 use Rattle.btr_hist.specs.declared.entry.Entry.{Entry}
 use Rattle.btr_hist.specs.declared.entry.Entry.TheVariants.{Create, Define, Commit, Distillate}
 use Rattle.btr_hist.specs.Legal.{Follows}
 use Rattle.btr_roll.specs.Roll.{roll_bytes}
-use Rattle.btr_engine.specs.Board.{IsBoardOf}
-use Rattle.btr_engine.specs.Stored.{AreStored, HaveRoots, tree_at}
+use Rattle.btr_streams.specs.Board.{IsBoardOf}
+use Rattle.btr_engine.specs.Stored.{AreStored}
+use Rattle.btr_streams.specs.Board.{tree_at}
+use Rattle.btr_streams.specs.Rolling.{HaveRoots}
 use Rattle.btr_engine.specs.Roots.{LeadsToLatest, IsRootOf}
 use Rattle.btr_engine.specs.Body.{body_of, Prefix, pages_after, with_extent, with_checkpoint, IsBodyOf, IsCheckpointOf, LeadTo, first_page}
-use Rattle.btr_engine.specs.Rolling.{roll_of, rolled}
+use Rattle.btr_streams.specs.Rolling.{roll_of, rolled}
 use Rattle.btr_engine.proofs.BodyLemmas.{SameBody, body_of-one, need-body_of}
 use Rattle.btr_open.specs.declared.judge.Judge.{Ghosts as Judging}
 use Rattle.btr_open.specs.declared.loading.Loader.{Loader}
@@ -94,8 +96,8 @@ module _ (gate : ℕ) (body : List ℕ) (l : Loader) where
   }
 
   module _ {J : Type 0} (by : Judging J) (before : J) where
-    pub checkpoint-body : (after : J) (next : ℕ) → next ≡ gate + need body → (image : Image) (limit : ℕ) → need body ≤ 2 ^ 64 → WasReadTo gate l → HasMarked by gate next body l before after → ReadsBody by image limit gate body l l before after
-    checkpoint-body after next next_is image limit short was marked = record {
+    pub checkpoint-body : (after : J) (image : Image) (limit : ℕ) → need body ≤ 2 ^ 64 → WasReadTo gate l → HasMarked by gate body l before after → ReadsBody by image limit gate body l l before after
+    checkpoint-body after image limit short was marked = record {
       leads = λ log seen at read stand judged. record {
         wider = log.pages;
         wide = as-wide limit log.pages;
@@ -105,7 +107,7 @@ module _ (gate : ℕ) (body : List ℕ) (l : Loader) where
         leads = inr (marked.is log read, (refl, refl));
         into = into-passed log body l read;
         judged =
-            subst (λ g. by.is_after (with_mark seen g (g + need body)) after) (sym at) (subst (λ n. by.is_after (with_mark seen gate n) after) next_is (marked.judged seen judged));
+            subst (λ g. by.is_after (with_mark seen g (g + need body)) after) (sym at) (marked.judged seen judged);
       };
       stored = λ log more at stored stand leads follows. elim leads [
         | inl x ↦ absurd (marks-apart was.0 body log x.0 x.1 x.2 short (marked.is was.0 was.2) x.3)

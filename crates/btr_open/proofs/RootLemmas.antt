@@ -39,12 +39,12 @@ use Rattle.btr_hist.specs.History.{change_of, commits, latest}
 use Rattle.btr_hist.specs.Legal.{Follows}
 use Rattle.btr_hist.proofs.AcceptedLemmas.{change-accepted}
 use Rattle.btr_hist.proofs.HistoryLemmas.{commits-append, follows-last}
-use Rattle.btr_engine.specs.Past.{with_commits, commits_to}
-use Rattle.btr_engine.specs.Board.{Versions, Kept}
-use Rattle.btr_engine.specs.Rolling.{kept_versions, kept_stream, rolled}
+use Rattle.btr_streams.specs.Past.{with_commits, commits_to}
+use Rattle.btr_streams.specs.Board.{Versions, Kept}
+use Rattle.btr_streams.specs.Rolling.{kept_versions, kept_stream, rolled}
 use Rattle.btr_engine.specs.Roots.{LeadsToLatest, IsRootOf}
-use Rattle.btr_engine.specs.Stage.{change}
-use Rattle.btr_engine.proofs.BoardTrees.{made_by, with_commits-push, before-commits_to}
+use Rattle.btr_streams.specs.Stage.{change}
+use Rattle.btr_streams.proofs.BoardTrees.{made_by, with_commits-push, before-commits_to}
 use Rattle.btr_roll.specs.Roll.{RollStreamValue, versions_count}
 use Rattle.btr_open.specs.Reached.{next_version}
 use Rattle.btr_open.specs.RootTest.{adds, MayLead, IsPageIn, MayBeRootIn, MayLeadIn}

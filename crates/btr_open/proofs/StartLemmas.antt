@@ -15,13 +15,14 @@ use Rattle.btr_pages.specs.Known.{NodesValue, AreKnown, ArePartOf, node_at}
 use Rattle.btr_roll.specs.declared.roll.RollVersion.{RollVersion}
 use Rattle.btr_roll.specs.Roll.{RollStreamValue}
 use Rattle.btr_hist.specs.declared.entry.Entry.{Entry}
-use Rattle.btr_engine.specs.Board.{Versions, Kept, IsBoardOf}
+use Rattle.btr_streams.specs.Board.{Versions, Kept, IsBoardOf}
 use Rattle.btr_engine.specs.Body.{Prefix, no_extents}
 use Rattle.btr_engine.specs.Holds.{HoldsHistoryTo}
-use Rattle.btr_engine.specs.Rolling.{rolled, roll_of}
-use Rattle.btr_engine.specs.Restoring.{restored_streams, HaveRolledRoots}
-use Rattle.btr_engine.specs.Stored.{AreStored, HaveRoots}
-use Rattle.btr_engine.proofs.RestoringLemmas.{rolled-restored}
+use Rattle.btr_streams.specs.Rolling.{rolled, roll_of}
+use Rattle.btr_streams.specs.Restoring.{restored_streams, HaveRolledRoots}
+use Rattle.btr_engine.specs.Stored.{AreStored}
+use Rattle.btr_streams.specs.Rolling.{HaveRoots}
+use Rattle.btr_streams.proofs.RestoringLemmas.{rolled-restored}
 use Rattle.btr_open.specs.declared.loading.Loader.{Loader}
 use Rattle.btr_open.specs.Reached.{Reached, beginning}
 use Rattle.btr_open.specs.Below.{StandBelow}

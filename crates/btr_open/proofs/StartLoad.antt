@@ -12,8 +12,8 @@ use Rattle.btr_pages.specs.Pages.{Pages, IsPageAt, IsRootPage, HasRootPage}
 use Rattle.btr_pages.specs.Known.{KnownValue, NodesValue, AreKnown, ArePartOf, IsKnown, node_at}
 use Rattle.btr_pages.proofs.KnownLemmas.{block-at}
 use Rattle.btr_roll.specs.Roll.{RollStreamValue}
-use Rattle.btr_engine.specs.Board.{HasPast}
-use Rattle.btr_engine.specs.Restoring.{FitTrees, AllFitTrees}
+use Rattle.btr_streams.specs.Board.{HasPast}
+use Rattle.btr_streams.specs.Restoring.{FitTrees, AllFitTrees}
 use Rattle.btr_open.specs.declared.opening.OpenCause.{OpenCause}
 use Rattle.btr_open.specs.declared.opening.OpenCause.TheVariants.{NotAStore, Damaged, Fault, Want}
 use Rattle.btr_open.specs.Below.{StandBelow, IsStoredPage}

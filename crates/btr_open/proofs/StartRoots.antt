@@ -9,17 +9,17 @@ use Rattle.std.proofs.lemmas.Option.{slice_get-get_or, slice_get_within, get_or_
 use Rattle.btr_base.proofs.ListLemmas.{get-append, get_back, get_last}
 use Rattle.btr_disk.specs.declared.disk.Disk.{Ghosts}
 use Rattle.btr_disk.specs.Bytes.{Image}
-use Rattle.btr_disk.proofs.MomentLemmas.{none_written}
 use Rattle.btr_pages.specs.Pages.{Pages, no_pages}
 use Rattle.btr_pages.specs.Known.{KnownValue, NodesValue, AreKnown, node_at}
 use Rattle.btr_roll.specs.declared.roll.RollVersion.{RollVersion}
 use Rattle.btr_roll.specs.Roll.{RollStreamValue}
 use Rattle.btr_open.specs.declared.below.BlockReader.{BlockReader}
+use Rattle.btr_open.specs.declared.below.Fetched.TheVariants.{Known}
 use Rattle.btr_open.specs.declared.opening.OpenCause.{OpenCause}
 use Rattle.btr_open.specs.declared.opening.OpenCause.TheVariants.{NotAStore, Damaged, Fault, Want}
 use Rattle.btr_open.specs.Below.{StandBelow}
 use Rattle.btr_open.specs.Reads.{OnlyReads}
-use Rattle.btr_open.specs.Loading.{IsReaderOf, AddsBelow, GrowsBelow, StaysPart}
+use Rattle.btr_open.specs.Loading.{IsReaderOf, AddsBelow, GrowsBelow, StaysPart, HasReadBelow, FetchesPage}
 use Rattle.btr_open.specs.Checkpoint.{AreOfSome, root_in, roots_in, roots_among, IsRootIn, AreRootsBelow, AreRootsFetched, IsWrongBelow, RootCause, RootsCause}
 use Rattle.btr_open.proofs.OnlyReading.{OnlyReads-trans, same-bytes}
 
@@ -207,13 +207,6 @@ fetched-more image limit roots root old new so_far adds part there =
 -- ---- a device
 
 module _ {D : Type 0} (disk : Ghosts D) where
-  -- No call. `only_now` is the device's law.
-  pub no-calls : (d : D) → (disk.is_observable → (c : Image) → disk.images_since d (disk.calls d) c → disk.images_now d c) → OnlyReads disk d d
-  no-calls d only_now = record {
-    counts = record { same_size = refl; more_calls = omega arith; more_faults = omega arith };
-    nothing = λ reported. none_written disk.calls disk.images_since disk.contents disk.images_now d (only_now reported);
-  }
-
   -- The trees of these roots were made so far.
   pub record IsFetchedSo (old now : D) (limit : ℕ) (reader : BlockReader) (roots : List ℕ) (nodes : NodesValue) : Type 0 where
     pub limit_is : reader.limit ≡ limit
@@ -231,18 +224,15 @@ module _ {D : Type 0} (disk : Ghosts D) where
         (f.own, subst (λ n. StandBelow (disk.contents mid) n f.own) (sym so_far.limit_is) stand, f.known)
 
     -- One more was made.
-    pub fetched-on : (new : D) (root : ℕ) (after : BlockReader) (more : NodesValue) → after.limit ≡ reader.limit → OnlyReads disk mid new → (disk.is_observable → IsReaderOf (disk.contents new) after) → GrowsBelow reader.limit nodes more → (disk.is_observable → AddsBelow (disk.contents mid) reader.limit nodes more) → (disk.is_observable → StaysPart (disk.contents mid) reader.limit root nodes more) → (disk.is_observable → IsSome (node_at more root)) → IsFetchedSo old new limit after (roots ++ root ∷ []) more
-    fetched-on new root after more same reads holds grows adds part there = record {
-      limit_is = same ∙ so_far.limit_is;
-      reads = OnlyReads-trans old mid new so_far.reads reads;
-      holds = holds;
+    pub fetched-on : (new : D) (root : ℕ) (after : BlockReader) (more : NodesValue) → HasReadBelow disk reader after mid new → GrowsBelow reader.limit nodes more → (disk.is_observable → FetchesPage (disk.contents mid) reader.limit root nodes more Known) → IsFetchedSo old new limit after (roots ++ root ∷ []) more
+    fetched-on new root after more read grows fetches = record {
+      limit_is = read.limit ∙ so_far.limit_is;
+      reads = OnlyReads-trans old mid new so_far.reads read.reads;
+      holds = read.holds;
       grown = grown-more limit nodes more so_far.grown (subst (λ n. GrowsBelow n nodes more) so_far.limit_is grows);
       fetched = λ reported.
-          let image = sym (same-bytes old mid so_far.reads reported) in
-          fetched-more (disk.contents old) limit roots root nodes more (so_far.fetched reported)
-          (subst (λ i. AddsBelow i limit nodes more) image (subst (λ n. AddsBelow (disk.contents mid) n nodes more) so_far.limit_is (adds reported)))
-          (subst (λ i. StaysPart i limit root nodes more) image (subst (λ n. StaysPart (disk.contents mid) n root nodes more) so_far.limit_is (part reported)))
-          (there reported);
+          let made = subst (λ i. FetchesPage i limit root nodes more Known) (sym (same-bytes old mid so_far.reads reported)) (subst (λ n. FetchesPage (disk.contents mid) n root nodes more Known) so_far.limit_is (fetches reported)) in
+          fetched-more (disk.contents old) limit roots root nodes more (so_far.fetched reported) made.adds made.part made.found;
     }
 
     -- Why one more was not made.

@@ -10,7 +10,7 @@ use Rattle.btr_pages.specs.Pages.{Pages, HasRootPage}
 use Rattle.btr_pages.specs.Known.{KnownValue, NodesValue, ArePartOf, HasWholeTree, IsReadRoot, node_at}
 use Rattle.btr_roll.specs.declared.roll.RollVersion.{RollVersion}
 use Rattle.btr_roll.specs.Roll.{RollStreamValue}
-use Rattle.btr_engine.specs.Board.{HasPast}
+use Rattle.btr_streams.specs.Board.{HasPast}
 use Rattle.btr_open.specs.declared.opening.OpenCause.{OpenCause}
 use Rattle.btr_open.specs.declared.opening.OpenCause.TheVariants.{Damaged}
 use Rattle.btr_open.specs.Start.{place_of_root}

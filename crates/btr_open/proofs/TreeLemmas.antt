@@ -27,7 +27,7 @@ use Rattle.btr_tree.proofs.LeadsLemmas.{read-stored}
 use Rattle.btr_tree.proofs.ReadLemmas.{opened-is_tree, read-along}
 use Rattle.btr_tree.proofs.RootLemmas.{root-points, opened-whole}
 use Rattle.btr_node.specs.declared.page.NodePage.{NodePage}
-use Rattle.btr_pages.specs.Pages.{Pages, with_pages, node_of_stream, nodes_in, HasRootPage, MayBeRoot}
+use Rattle.btr_pages.specs.Pages.{Pages, with_pages, node_of_stream, nodes_in, HasRootPage, MayBeRoot, Stand}
 use Rattle.btr_pages.specs.Known.{NodesValue, AreKnown, ArePartOf, IsKnown, IsReadRoot, node_at}
 use Rattle.btr_pages.proofs.KnownLemmas.{known-at}
 use Rattle.btr_pages.proofs.BlockLemmas.{each-places}
@@ -42,13 +42,13 @@ use Rattle.btr_hist.proofs.VersionLemmas.{commits-push}
 use Rattle.btr_log.specs.Extents.{need}
 use Rattle.btr_log.specs.Head.{content_blocks}
 use Rattle.btr_entry.specs.Grammar.{spelling}
-use Rattle.btr_engine.specs.declared.board.Staged.{Staged}
-use Rattle.btr_engine.specs.Past.{with_commits, commits_to}
-use Rattle.btr_engine.specs.Board.{Kept, HasPast, IsBoardOf}
+use Rattle.btr_streams.specs.declared.board.Staged.{Staged}
+use Rattle.btr_streams.specs.Past.{with_commits, commits_to}
+use Rattle.btr_streams.specs.Board.{Kept, HasPast, IsBoardOf}
 use Rattle.btr_engine.specs.Body.{Prefix, first_page, pages_after, IsBodyOf}
-use Rattle.btr_engine.specs.Roots.{Stand, LeadsToLatest, IsRootOf}
-use Rattle.btr_engine.specs.Stage.{change, IsNextTree, ReadsEntry, IsTreeAfter}
-use Rattle.btr_engine.proofs.BoardTrees.{made_by, bag-commits_to, with_commits-push}
+use Rattle.btr_engine.specs.Roots.{LeadsToLatest, IsRootOf}
+use Rattle.btr_streams.specs.Stage.{change, IsNextTree, ReadsEntry, IsTreeAfter}
+use Rattle.btr_streams.proofs.BoardTrees.{made_by, bag-commits_to, with_commits-push}
 use Rattle.btr_engine.proofs.BodyLemmas.{need-body_of}
 use Rattle.btr_engine.proofs.StoredLemmas.{IsTreeStored, stored-read, kept-with}
 use Rattle.btr_engine.proofs.Written.{commits-all}

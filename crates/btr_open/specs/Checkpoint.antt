@@ -12,8 +12,8 @@ use Rattle.btr_pages.specs.Known.{NodesValue, AreKnown, ArePartOf, node_at}
 use Rattle.btr_tree.specs.Root.{TreeValue}
 use Rattle.btr_roll.specs.declared.roll.RollVersion.{RollVersion}
 use Rattle.btr_roll.specs.Roll.{RollStreamValue, IsRoll, roll_bytes}
-use Rattle.btr_engine.specs.Board.{HasPast}
-use Rattle.btr_engine.specs.Restoring.{restored_streams}
+use Rattle.btr_streams.specs.Board.{HasPast}
+use Rattle.btr_streams.specs.Restoring.{restored_streams}
 use Rattle.btr_open.specs.declared.loading.Loader.{Loader}
 use Rattle.btr_open.specs.declared.opening.OpenCause.{OpenCause}
 use Rattle.btr_open.specs.declared.opening.OpenCause.TheVariants.{NotAStore, Damaged, Fault, Want}

@@ -6,7 +6,7 @@ use Rattle.btr_super.specs.Format.{IsEmptyStore}
 use Rattle.btr_hist.specs.declared.entry.Entry.{Entry}
 use Rattle.btr_hist.specs.Legal.{first_some, rejection, Follows}
 use Rattle.btr_engine.specs.Holds.{HoldsHistory, HoldsHistoryTo}
-use Rattle.btr_engine.specs.Outline.{outline_of, refusal, points_refusal, MayFollow}
+use Rattle.btr_streams.specs.Outline.{outline_of, refusal, points_refusal, MayFollow}
 use Rattle.btr_open.specs.Damage.{IsDamaged}
 
 -- A device holds at most one history.

@@ -26,5 +26,7 @@ pub mod Reading
 pub mod Place
 -- what the functions promise that add an extent
 pub mod Loading
+-- a walk over a log between its steps
+pub mod LogWalk
 -- what the functions promise that read a checkpoint
 pub mod Checkpoint

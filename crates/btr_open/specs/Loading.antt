@@ -1,9 +1,10 @@
 -- What the functions promise that read the extents of a log one by one.
 use Rattle.std.specs.Prelude.{◌≡◌, ◌⊎◌, ℕ, ◌+◌, ◌*◌, ◌^◌, ◌<◌, ◌≤◌, List, [], ◌∷◌, ◌++◌, length, slice_get}
-use Rattle.std.specs.Prelude.{Option, Some, None, IfSome, IsSome, MatchOption}
+use Rattle.std.specs.Prelude.{Option, Some, None, IfSome, IsSome, IsNone, MatchOption}
 use Rattle.btr_disk.specs.declared.disk.Disk.{Ghosts}
 use Rattle.btr_disk.specs.Bytes.{Image, Has}
 use Rattle.btr_log.specs.Piece.{IsPieceOf}
+use Rattle.btr_log.specs.declared.head.Head.{Head}
 use Rattle.btr_log.specs.Extents.{need}
 use Rattle.btr_node.specs.Page.{Spells, Keeps, Fits, slots_of_page}
 use Rattle.btr_node.specs.declared.page.NodePage.{NodePage}
@@ -15,13 +16,15 @@ use Rattle.btr_tree.specs.History.{nothing}
 use Rattle.btr_tree.specs.Root.{TreeValue, IsTree}
 use Rattle.btr_hist.specs.declared.entry.Entry.{Entry}
 use Rattle.btr_hist.specs.Legal.{rejection, Follows}
-use Rattle.btr_engine.specs.declared.board.Staged.{Staged}
+use Rattle.btr_streams.specs.declared.board.Staged.{Staged}
 use Rattle.btr_engine.specs.Body.{Prefix, pages_after, with_extent, IsBodyOf, LeadTo}
-use Rattle.btr_engine.specs.Board.{IsBoardOf}
+use Rattle.btr_streams.specs.Board.{IsBoardOf}
 use Rattle.btr_engine.specs.Roots.{IsRootOf}
-use Rattle.btr_engine.specs.Stage.{ReadsEntry, IsTreeAfter}
+use Rattle.btr_streams.specs.Stage.{ReadsEntry, IsTreeAfter, HasRoomFor}
+use Rattle.btr_streams.specs.Rolling.{rolled}
 use Rattle.btr_open.specs.declared.below.BlockReader.{BlockReader}
 use Rattle.btr_open.specs.declared.below.Fetched.{Fetched}
+use Rattle.btr_open.specs.declared.below.SlotAt.{SlotAt}
 use Rattle.btr_open.specs.declared.below.Fetched.TheVariants.{Known, NoPage, Broken}
 use Rattle.btr_open.specs.declared.judge.Judge.{Ghosts as Judging}
 use Rattle.btr_open.specs.declared.loading.Loader.{Loader}
@@ -30,7 +33,8 @@ use Rattle.btr_roll.specs.declared.roll.RollVersion.{RollVersion}
 use Rattle.btr_roll.specs.Roll.{RollStreamValue}
 use Rattle.btr_open.specs.Start.{HasVersionAt}
 use Rattle.btr_open.specs.Below.{StandBelow, AreWider, IsStoredPage, HasNoPage, BreaksBelow}
-use Rattle.btr_open.specs.Walk.{IsNextBody, IsCheckpointBody, IsNoNextBody, HasWrongRoot, HasWrongNode, BreaksBodyBy}
+use Rattle.btr_open.specs.Content.{HasContent, node_blocks_of}
+use Rattle.btr_open.specs.Walk.{FitsRoll, IsNextBody, IsCheckpointBody, IsNoNextBody, HasWrongRoot, HasWrongNode, BreaksBodyBy}
 use Rattle.btr_open.specs.Seen.{Seen, with_seen, with_mark, Lets, LeadOnBy}
 use Rattle.btr_open.specs.Reading.{IsReadInto, WasReadTo, IsStoredIn}
 use Rattle.btr_open.specs.Reads.{OnlyReads}
@@ -69,6 +73,12 @@ abbrev pub IsFetched : Image → ℕ → NodesValue → Fetched → Type 0
 IsFetched image block new Known = IsSome (node_at new block)
 IsFetched image block new NoPage = HasNoPage image block
 IsFetched image block new (Broken named) = (page : NodePage) × IsStoredPage image block page × BreaksBelow image block page named
+
+-- The tree of the page in a block, and those of the pages below it, were made as far as they stand rightly, and this was found of the page.
+pub record FetchesPage (image : Image) (limit block : ℕ) (old new : NodesValue) (fetched : Fetched) : Type 0 where
+  pub adds : AddsBelow image limit old new
+  pub part : StaysPart image limit block old new
+  pub found : IsFetched image block new fetched
 
 -- The trees that were made are those of pages which stand rightly below the limit.
 abbrev pub AreOfDevice : Image → ℕ → NodesValue → Type 0
@@ -118,6 +128,33 @@ pub record MakesBelow (image : Image) (limit block : ℕ) (page : NodePage) (old
   pub adds : AddsBelow image limit old new
   pub part : StaysPart image limit block old new
   pub found : MatchOption broken done (BreaksBelow image block page)
+
+module _ {D : Type 0} (disk : Ghosts D) where
+  -- The trees of the pages below the page in a block can be made: the reader can read them, and the page was read of its block.
+  pub record CanMake (reader : BlockReader) (d : D) (block : ℕ) (page : NodePage) (nodes : NodesValue) : Type 0 where
+    pub can : CanRead disk reader d
+    pub page_read : IsReadPage block reader.limit page
+    pub device : disk.is_observable → IsStoredWith (disk.contents d) reader.limit block page nodes
+
+  -- Trees of pages below the limit were made, and what was to be done is done, or a block is named that breaks the format.
+  pub record Makes (d : D) (limit block : ℕ) (page : NodePage) (old new : NodesValue) (done : Type 0) (broken : Option ℕ) : Type 0 where
+    pub grows : GrowsBelow limit old new
+    pub made : disk.is_observable → MakesBelow (disk.contents d) limit block page old new done broken
+
+  -- What was to be done is that the child of a slot with a point has a tree.
+  abbrev pub MakesChild : D → ℕ → SlotAt → NodesValue → NodesValue → Option ℕ → Type 0
+  MakesChild d limit at old new broken =
+      Makes d limit at.block at.page.now old new (KnowsChild at.block new at.slot.now) broken
+
+-- It is a slot of its page.
+abbrev pub IsSlotOf : SlotAt → Type 0
+IsSlotOf at = slice_get (slots_of_page at.page.now) at.i ≡ Some at.slot.now
+
+-- The slot has a point, and its child is in a lower block, of which no tree was made.
+pub record HasUnknownChild (at : SlotAt) (nodes : NodesValue) : Type 0 where
+  pub some : 0 < at.slot.now.agg.count
+  pub lower : at.slot.now.child < at.block
+  pub fresh : IsNone (node_at nodes at.slot.now.child)
 
 -- ---- the pages that an extent needs
 
@@ -198,6 +235,12 @@ pub record HasAdded (gate : ℕ) (body : List ℕ) (e : Entry) (root : ℕ) (old
   pub history : (log : Prefix) → log.gate ≡ gate → IsStoredIn log old → IsBodyOf log e root pages body → Follows (log.entries ++ e ∷ [])
       → IsRootOf (pages_after log e pages) log.entries e root pages → IsStoredIn (with_extent log e root pages body) new
 
+-- The body has this entry, which may follow what was read.
+pub record IsNextEntry (old : Loader) (e : Entry) (head : Head) (body : List ℕ) : Type 0 where
+  pub content : HasContent (old.board.entries + 1) e head.root (node_blocks_of head body) body
+  pub may : HasRoomFor old.board e
+  pub allowed : FitsRoll (rolled old.board) e
+
 -- For what is before the gate, the body has neither the next entry nor a checkpoint.
 abbrev pub HasNothingNext : ℕ → List ℕ → Loader → ℕ → Type 0
 HasNothingNext gate body old block = (log : Reached) → log.gate ≡ gate → IsReadInto log old → IsNoNextBody log body block
@@ -270,6 +313,6 @@ IsCheckpointRead body l = (log : Reached) → IsReadInto log l → IsCheckpointB
 
 -- The body of a checkpoint was read, and marked.
 module _ {J : Type 0} (by : Judging J) where
-  pub record HasMarked (gate next : ℕ) (body : List ℕ) (l : Loader) (before after : J) : Type 0 where
+  pub record HasMarked (gate : ℕ) (body : List ℕ) (l : Loader) (before after : J) : Type 0 where
     pub is : IsCheckpointRead body l
-    pub judged : (seen : Seen) → by.is_after seen before → by.is_after (with_mark seen gate next) after
+    pub judged : (seen : Seen) → by.is_after seen before → by.is_after (with_mark seen gate (gate + need body)) after

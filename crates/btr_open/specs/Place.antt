@@ -1,7 +1,6 @@
 -- How far a log was read: a gate, and the extents before it.
 use Rattle.std.specs.Prelude.{◌≡◌, ℕ, ◌+◌, ◌*◌, ◌<◌, ◌≤◌}
 use Rattle.btr_super.specs.declared.superblock.Super.{Super}
-use Rattle.btr_open.specs.declared.loading.Loader.{Loader}
 use Rattle.btr_open.specs.declared.place.Place.{Place}
 
 -- The place is one in the log of the superblock: inside the store, and not before the gate from which the superblock says that the log is
@@ -16,9 +15,3 @@ pub record IsPlaceIn (found : Super) (entries : ℕ) (place : Place) : Type 0 wh
 pub record IsPlaceAfter (old : Place) (next : ℕ) (new : Place) : Type 0 where
   pub gate : new.gate ≡ next
   pub extents : new.extents ≡ old.extents + 1
-
--- The extent at a gate was read, and the next gate is after it, inside the store. It has at least two blocks, and one entry or none.
-pub record IsNextPlace (blocks gate : ℕ) (old new : Loader) (next : ℕ) : Type 0 where
-  pub after : gate + 2 ≤ next
-  pub inside : next < blocks
-  pub counted : new.board.entries ≤ old.board.entries + 1

@@ -12,13 +12,14 @@ use Rattle.btr_pages.specs.Known.{AreKnown, ArePartOf, node_at}
 use Rattle.btr_hist.specs.declared.entry.Entry.{Entry}
 use Rattle.btr_engine.specs.declared.engine.Engine.{Engine}
 use Rattle.btr_engine.specs.Body.{Prefix, prefix_to, no_extents, LeadTo}
-use Rattle.btr_engine.specs.Board.{Kept, IsBoardOf}
+use Rattle.btr_streams.specs.Board.{Kept, IsBoardOf}
 use Rattle.btr_engine.specs.Engine.{device, blocks_of, tail_of, board_of, super_of, entries_of, is_stopped, is_home}
 use Rattle.btr_engine.specs.Engine.{synced_of, entries_at_open}
 use Rattle.btr_engine.specs.Holds.{HoldsHistoryTo}
-use Rattle.btr_engine.specs.Rolling.{rolled}
+use Rattle.btr_streams.specs.Rolling.{rolled}
 use Rattle.btr_engine.specs.Roots.{IsRootOf}
-use Rattle.btr_engine.specs.Stored.{AreStored, HaveRoots}
+use Rattle.btr_engine.specs.Stored.{AreStored}
+use Rattle.btr_streams.specs.Rolling.{HaveRoots}
 use Rattle.btr_open.specs.declared.judge.Judge.{Ghosts as Judging}
 use Rattle.btr_open.specs.declared.loading.Loader.{Loader}
 use Rattle.btr_open.specs.declared.opening.OpenCause.{OpenCause}

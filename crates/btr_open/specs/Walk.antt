@@ -17,7 +17,7 @@ use Rattle.btr_entry.specs.Grammar.{IsSpelled}
 use Rattle.btr_roll.specs.Roll.{RollStreamValue, roll_bytes}
 use Rattle.btr_engine.specs.Body.{first_page, body_of}
 use Rattle.btr_engine.specs.Mark.{body_of_roll}
-use Rattle.btr_engine.specs.Outline.{outline_in, refusal}
+use Rattle.btr_streams.specs.Outline.{outline_in, refusal}
 use Rattle.btr_open.specs.Content.{HasContent, HasNoContent}
 use Rattle.btr_open.specs.Reached.{Reached, pages_with, with_entry, passed}
 use Rattle.btr_open.specs.RootTest.{MayLead, MayLeadIn, IsNamedRoot}

@@ -4,14 +4,14 @@ ghost use Rattle.std.specs.Prelude.{IfErr, IfOk, IfSome, OnOk, Some, IsSome, IsN
 ghost use Rattle.btr_disk.specs.Bytes.{Image, IsBlockRange};
 ghost use Rattle.btr_log.specs.Piece.{IsPieceOf, HoldsBlocks, bytes_at};
 ghost use Rattle.btr_node.specs.Page.{Keeps, Fits, slots_of_page};
-ghost use Rattle.btr_pages.specs.Pages.{Pages, IsChildPage};
-ghost use Rattle.btr_pages.specs.Known.{ArePartOf, node_at};
-ghost use Rattle.btr_open.specs.Below.{StandBelow, IsStoredPage, HasNoPage};
+ghost use Rattle.btr_pages.specs.Pages.{IsChildPage};
+ghost use Rattle.btr_pages.specs.Known.{node_at};
+ghost use Rattle.btr_open.specs.Below.{IsStoredPage, HasNoPage};
 ghost use Rattle.btr_open.specs.Reading.{BlockCause};
 ghost use Rattle.btr_open.specs.Reads.{OnlyReads};
-ghost use Rattle.btr_open.specs.Loading.{IsReaderOf, IsDeviceBlock, CanRead, HasReadBelow, IsReadPage, AreOfDevice, IsStoredWith};
-ghost use Rattle.btr_open.specs.Loading.{AddsBelow, GrowsBelow, StaysPart, IsFetched, HasNoneAbove, HasNoneFrom, KnowsChild, MakesBelow};
-ghost use Rattle.btr_open.specs.Loading.{IsBlock, IsSlotChild, FetchesAll, HaveNeeded, AreFetched};
+ghost use Rattle.btr_open.specs.Loading.{IsReaderOf, IsDeviceBlock, CanRead, HasReadBelow, IsReadPage, AreOfDevice};
+ghost use Rattle.btr_open.specs.Loading.{GrowsBelow, FetchesPage, HasNoneAbove, HasNoneFrom};
+ghost use Rattle.btr_open.specs.Loading.{IsBlock, IsSlotChild, IsNeeded, FetchesAll, CanMake, Makes, MakesChild, IsSlotOf, HasUnknownChild};
 
 use crate::loading::OpenWalk;
 use crate::opening::OpenCause;
@@ -39,9 +39,23 @@ pub(crate) enum Fetched {
     Broken { block: u64 },
 }
 
+/// A slot of the page in a block.
+#[derive(Clone, Copy)]
+struct SlotAt<'a> {
+    block: u64,
+    page: &'a NodePage,
+
+    /// The place of the slot in the page.
+    i: u8,
+    slot: &'a PageSlot,
+}
+
 /// What is held of the blocks below the checkpoint from which a log is read, so that no block is read twice in a row.
 #[derive(Drop)]
 pub(crate) struct BlockReader {
+    /// The allocator, for the trees that are made.
+    pub(crate) alloc: Global,
+
     /// The block below which single blocks are read: that of the checkpoint from which the log is read, or 0.
     pub(crate) limit: u64,
 
@@ -63,6 +77,7 @@ impl BlockReader {
         ensures nothing { (image : Image) → IsReaderOf image result }
     {
         BlockReader {
+            alloc,
             limit,
             ahead: Piece::new(alloc),
             next: 0,
@@ -76,7 +91,6 @@ impl BlockReader {
     /// a tree is high. If the page cannot be made, some of those below it may have been.
     pub(crate) fn fetch<D: Disk>(
         &mut self,
-        alloc: Global,
         disk: &mut D,
         nodes: &mut Nodes,
         steps: &mut Steps<OpenWalk>,
@@ -88,9 +102,7 @@ impl BlockReader {
         requires own { D.is_observable → AreOfDevice (D.contents disk.old) self.old.limit nodes.old }
         ensures reads { HasReadBelow ⟦<D as Disk>⟧ self.old self.new disk.old disk.new }
         ensures grows { OnOk result (GrowsBelow self.old.limit nodes.old nodes.new) }
-        ensures adds { D.is_observable → OnOk result (AddsBelow (D.contents disk.old) self.old.limit nodes.old nodes.new) }
-        ensures part { D.is_observable → OnOk result (StaysPart (D.contents disk.old) self.old.limit block nodes.old nodes.new) }
-        ensures fetched { D.is_observable → IfOk result (IsFetched (D.contents disk.old) block nodes.new) }
+        ensures fetches { D.is_observable → IfOk result (FetchesPage (D.contents disk.old) self.old.limit block nodes.old nodes.new) }
         ensures cause { IfErr result (BlockCause ⟦<D as Disk>⟧ disk.old disk.new) }
     {
         if nodes.get(block).is_some() {
@@ -99,7 +111,7 @@ impl BlockReader {
         let Some(page) = self.page(disk, block)? else {
             return Ok(Fetched::NoPage);
         };
-        match self.make(alloc, disk, nodes, steps, block, &page)? {
+        match self.make(disk, nodes, steps, block, &page)? {
             None => Ok(Fetched::Known),
             Some(block) => Ok(Fetched::Broken { block }),
         }
@@ -109,7 +121,6 @@ impl BlockReader {
     /// stand rightly. What does not is found later, in its order.
     pub(crate) fn fetch_needed<D: Disk>(
         &mut self,
-        alloc: Global,
         disk: &mut D,
         nodes: &mut Nodes,
         steps: &mut Steps<OpenWalk>,
@@ -121,19 +132,17 @@ impl BlockReader {
         requires own { D.is_observable → AreOfDevice (D.contents disk.old) self.old.limit nodes.old }
         ensures reads { HasReadBelow ⟦<D as Disk>⟧ self.old self.new disk.old disk.new }
         ensures grows { OnOk result (GrowsBelow self.old.limit nodes.old nodes.new) }
-        ensures adds { D.is_observable → OnOk result (AddsBelow (D.contents disk.old) self.old.limit nodes.old nodes.new) }
-        ensures part { D.is_observable → OnOk result ((pages : Pages) → StandBelow (D.contents disk.old) self.old.limit pages
-            → HaveNeeded self.old.limit bytes.now root pages → ArePartOf pages nodes.old → ArePartOf pages nodes.new) }
-        ensures fetched { D.is_observable → OnOk result (AreFetched (D.contents disk.old) self.old.limit bytes.now root nodes.new) }
+        ensures all { D.is_observable
+            → OnOk result (FetchesAll (D.contents disk.old) self.old.limit (IsNeeded bytes.now root) nodes.old nodes.new) }
         ensures cause { IfErr result (BlockCause ⟦<D as Disk>⟧ disk.old disk.new) }
     {
         if self.limit == 0 {
             return Ok(());
         }
-        self.fetch_at(alloc, disk, nodes, steps, root)?;
+        self.fetch_at(disk, nodes, steps, root)?;
         for i in 0..bytes.len() / PAGE {
             if let Some(page) = decode(&block_at(bytes, PAGE * i)) {
-                self.fetch_children(alloc, disk, nodes, steps, &page)?;
+                self.fetch_children(disk, nodes, steps, &page)?;
             }
         }
         Ok(())
@@ -142,7 +151,6 @@ impl BlockReader {
     /// Makes the trees of the pages below the limit that are children of slots with a point of this page, as far as they stand rightly.
     fn fetch_children<D: Disk>(
         &mut self,
-        alloc: Global,
         disk: &mut D,
         nodes: &mut Nodes,
         steps: &mut Steps<OpenWalk>,
@@ -158,7 +166,7 @@ impl BlockReader {
     {
         for slot in page.slots() {
             if slot.count() > 0 {
-                self.fetch_at(alloc, disk, nodes, steps, slot.child)?;
+                self.fetch_at(disk, nodes, steps, slot.child)?;
             }
         }
         Ok(())
@@ -167,7 +175,6 @@ impl BlockReader {
     /// Makes the trees of the page in a block and of all pages below it, if the block is below the limit and they stand rightly.
     fn fetch_at<D: Disk>(
         &mut self,
-        alloc: Global,
         disk: &mut D,
         nodes: &mut Nodes,
         steps: &mut Steps<OpenWalk>,
@@ -182,7 +189,7 @@ impl BlockReader {
         ensures cause { IfErr result (BlockCause ⟦<D as Disk>⟧ disk.old disk.new) }
     {
         if 1 <= block && block < self.limit {
-            self.fetch(alloc, disk, nodes, steps, block)?;
+            self.fetch(disk, nodes, steps, block)?;
         }
         Ok(())
     }
@@ -192,73 +199,66 @@ impl BlockReader {
     #[cycle(make)]
     fn make<D: Disk>(
         &mut self,
-        alloc: Global,
         disk: &mut D,
         nodes: &mut Nodes,
         steps: &mut Steps<OpenWalk>,
         block: u64,
         page: &NodePage,
     ) -> Result<Option<u64>, OpenCause>
-        requires reader { CanRead ⟦<D as Disk>⟧ self.old disk.old }
-        requires page { IsReadPage block self.old.limit page.now }
+        requires can { CanMake ⟦<D as Disk>⟧ self.old disk.old block page.now nodes.old }
         requires fresh { IsNone (node_at nodes.old block) }
-        requires device { D.is_observable → IsStoredWith (D.contents disk.old) self.old.limit block page.now nodes.old }
         ensures reads { HasReadBelow ⟦<D as Disk>⟧ self.old self.new disk.old disk.new }
         ensures only { OnOk result (HasNoneAbove block nodes.old nodes.new) }
-        ensures grows { OnOk result (GrowsBelow self.old.limit nodes.old nodes.new) }
-        ensures made { D.is_observable → IfOk result (MakesBelow (D.contents disk.old) self.old.limit block page.now nodes.old nodes.new
-            (IsSome (node_at nodes.new block))) }
+        ensures makes { IfOk result
+            (Makes ⟦<D as Disk>⟧ disk.old self.old.limit block page.now nodes.old nodes.new (IsSome (node_at nodes.new block))) }
         ensures cause { IfErr result (BlockCause ⟦<D as Disk>⟧ disk.old disk.new) }
     {
         for (i, slot) in page.slots().iter().enumerate() {
-            let broken = self.make_child(alloc, disk, nodes, steps, block, page, i as u8, slot)?;
+            let at = SlotAt {
+                block,
+                page,
+                i: i as u8,
+                slot,
+            };
+            let broken = self.make_child(disk, nodes, steps, at)?;
             if broken.is_some() {
                 return Ok(broken);
             }
         }
-        if nodes.add(alloc, block, page, steps)? {
+        if nodes.add(self.alloc, block, page, steps)? {
             Ok(None)
         } else {
             Ok(Some(block))
         }
     }
 
-    /// Makes the tree of the child of slot `i` of the page in a block, and of all pages below it that have none yet, if the slot has a
-    /// point. Returns the block that breaks the format, if one does. If the child has a tree already, it is not tested that it is that of
-    /// the slot.
+    /// Makes the tree of the child of a slot, and of all pages below it that have none yet, if the slot has a point. Returns the block that
+    /// breaks the format, if one does. If the child has a tree already, it is not tested that it is that of the slot.
     #[cycle(make)]
     fn make_child<D: Disk>(
         &mut self,
-        alloc: Global,
         disk: &mut D,
         nodes: &mut Nodes,
         steps: &mut Steps<OpenWalk>,
-        block: u64,
-        page: &NodePage,
-        i: u8,
-        slot: &PageSlot,
+        at: SlotAt,
     ) -> Result<Option<u64>, OpenCause>
-        requires reader { CanRead ⟦<D as Disk>⟧ self.old disk.old }
-        requires page { IsReadPage block self.old.limit page.now }
-        requires slot { slice_get (slots_of_page page.now) i ≡ Some slot.now }
-        requires device { D.is_observable → IsStoredWith (D.contents disk.old) self.old.limit block page.now nodes.old }
+        requires can { CanMake ⟦<D as Disk>⟧ self.old disk.old at.block at.page.now nodes.old }
+        requires slot { IsSlotOf at }
         ensures reads { HasReadBelow ⟦<D as Disk>⟧ self.old self.new disk.old disk.new }
-        ensures only { OnOk result (HasNoneFrom block nodes.old nodes.new) }
-        ensures grows { OnOk result (GrowsBelow self.old.limit nodes.old nodes.new) }
-        ensures made { D.is_observable → IfOk result (MakesBelow (D.contents disk.old) self.old.limit block page.now nodes.old nodes.new
-            (KnowsChild block nodes.new slot.now)) }
+        ensures only { OnOk result (HasNoneFrom at.entry.block nodes.old nodes.new) }
+        ensures makes { IfOk result (MakesChild ⟦<D as Disk>⟧ disk.old self.old.limit at.entry nodes.old nodes.new) }
         ensures cause { IfErr result (BlockCause ⟦<D as Disk>⟧ disk.old disk.new) }
     {
-        if slot.count() == 0 {
+        if at.slot.count() == 0 {
             return Ok(None);
         }
-        if slot.child >= block {
-            return Ok(Some(block));
+        if at.slot.child >= at.block {
+            return Ok(Some(at.block));
         }
-        if nodes.get(slot.child).is_some() {
+        if nodes.get(at.slot.child).is_some() {
             return Ok(None);
         }
-        self.make_unknown(alloc, disk, nodes, steps, block, page, i, slot)
+        self.make_unknown(disk, nodes, steps, at)
     }
 
     /// Does what [`BlockReader::make_child`] does if the slot has a point, and the child is in a lower block of which no tree was made. It
@@ -266,36 +266,27 @@ impl BlockReader {
     #[cycle(make)]
     fn make_unknown<D: Disk>(
         &mut self,
-        alloc: Global,
         disk: &mut D,
         nodes: &mut Nodes,
         steps: &mut Steps<OpenWalk>,
-        block: u64,
-        page: &NodePage,
-        i: u8,
-        slot: &PageSlot,
+        at: SlotAt,
     ) -> Result<Option<u64>, OpenCause>
-        requires reader { CanRead ⟦<D as Disk>⟧ self.old disk.old }
-        requires page { IsReadPage block self.old.limit page.now }
-        requires slot { slice_get (slots_of_page page.now) i ≡ Some slot.now }
-        requires some { 0 < slot.now.agg.count }
-        requires lower { slot.now.child < block }
-        requires fresh { IsNone (node_at nodes.old slot.now.child) }
-        requires device { D.is_observable → IsStoredWith (D.contents disk.old) self.old.limit block page.now nodes.old }
+        requires can { CanMake ⟦<D as Disk>⟧ self.old disk.old at.block at.page.now nodes.old }
+        requires slot { IsSlotOf at }
+        requires unknown { HasUnknownChild at nodes.old }
         ensures reads { HasReadBelow ⟦<D as Disk>⟧ self.old self.new disk.old disk.new }
-        ensures only { OnOk result (HasNoneFrom block nodes.old nodes.new) }
-        ensures grows { OnOk result (GrowsBelow self.old.limit nodes.old nodes.new) }
-        ensures made { D.is_observable → IfOk result (MakesBelow (D.contents disk.old) self.old.limit block page.now nodes.old nodes.new
-            (KnowsChild block nodes.new slot.now)) }
+        ensures only { OnOk result (HasNoneFrom at.entry.block nodes.old nodes.new) }
+        ensures makes { IfOk result (MakesChild ⟦<D as Disk>⟧ disk.old self.old.limit at.entry nodes.old nodes.new) }
         ensures cause { IfErr result (BlockCause ⟦<D as Disk>⟧ disk.old disk.new) }
     {
-        let Some(child) = self.page(disk, slot.child)? else {
-            return Ok(Some(slot.child));
+        let below = at.slot.child;
+        let Some(child) = self.page(disk, below)? else {
+            return Ok(Some(below));
         };
-        if !is_child(page, i, slot, &child) {
-            return Ok(Some(block));
+        if !is_child(at.page, at.i, at.slot, &child) {
+            return Ok(Some(at.block));
         }
-        self.make(alloc, disk, nodes, steps, slot.child, &child)
+        self.make(disk, nodes, steps, below, &child)
     }
 
     /// Reads the page of a block below the limit. `None` is that the block has no page.

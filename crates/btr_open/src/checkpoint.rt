@@ -2,7 +2,7 @@
 ghost use Rattle.std.specs.Prelude.{◌≡◌, ◌↔◌, ◌^◌, ◌<◌, length, IfOk, IsTrue};
 ghost use Rattle.btr_log.specs.Extents.{IsBody};
 ghost use Rattle.btr_roll.specs.Roll.{roll_bytes};
-ghost use Rattle.btr_engine.specs.Rolling.{rolled};
+ghost use Rattle.btr_streams.specs.Rolling.{rolled};
 ghost use Rattle.btr_open.specs.Content.{HasCheckpoint};
 
 use crate::decoding::are_zeros;

@@ -6,9 +6,9 @@ ghost use Rattle.btr_open.specs.Seen.{nothing_seen, first_reading, EndsInside, I
 
 use crate::judge::Judge;
 use crate::loading::Loader;
-use crate::opening::{OpenCause, read_log};
+use crate::log_walk::LogWalk;
+use crate::opening::OpenCause;
 use btr_disk::Disk;
-use btr_log::Log;
 use btr_pages::Nodes;
 use btr_super::{LOG_START, Super};
 use std::alloc::Global;
@@ -53,12 +53,17 @@ pub fn read_judged<D: Disk, J: Judge>(
         checkpoint: 0,
         format: found.format,
     };
-    let mut log = Log::at(disk, LOG_START, found.blocks, 0);
-    let mut loader = Loader::empty(alloc);
-    let read = read_log(alloc, &mut log, &mut loader, judge, first);
+    let mut walk = LogWalk::new(alloc, disk, first);
+    let read = walk.read_log(judge);
+    let LogWalk {
+        log,
+        loader,
+        place,
+        ..
+    } = walk;
     let disk = log.into_disk();
     match read {
-        Ok(place) => {
+        Ok(()) => {
             let Loader { nodes, .. } = loader;
             let tail = place.gate;
             (disk, Ok(WholeLog { nodes, tail }))

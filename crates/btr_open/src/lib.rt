@@ -15,11 +15,11 @@ mod checkpoint;
 mod place;
 // the pages below the checkpoint from which a log is read
 mod below;
-// the start of a reading
+// the walk over a log, and its start
+mod log_walk;
 mod start;
 // the content of the checkpoint from which a log is read, its roots and their trees
 mod roll_content;
-mod roll_lengths;
 mod roll_roots;
 mod roll_trees;
 // who judges each extent

@@ -2,12 +2,10 @@
 ghost use Rattle.std.specs.Prelude.{◌≡◌, ◌≢◌, ◌+◌, ◌-◌, ◌^◌, ◌<◌, ◌≤◌, IfOk, IfSome, IfNone, List, []};
 ghost use Rattle.btr_log.specs.Extents.{IsBody, need};
 ghost use Rattle.btr_tree.specs.Root.{TreeValue};
-ghost use Rattle.btr_engine.specs.Board.{HasPast, IsBoardOf};
-ghost use Rattle.btr_engine.specs.Rolling.{rolled};
-ghost use Rattle.btr_engine.specs.Stage.{HasRoomFor};
-ghost use Rattle.btr_open.specs.Content.{HasContent, node_blocks_of};
-ghost use Rattle.btr_open.specs.Walk.{FitsRoll};
-ghost use Rattle.btr_open.specs.Loading.{AddsTree, HasNothingNext, BreaksEntry, BreaksNext, HasAdded, HasJudged, HasMarked};
+ghost use Rattle.btr_streams.specs.Board.{HasPast, IsBoardOf};
+ghost use Rattle.btr_streams.specs.Stage.{HasRoomFor};
+ghost use Rattle.btr_open.specs.Content.{node_blocks_of};
+ghost use Rattle.btr_open.specs.Loading.{AddsTree, HasNothingNext, BreaksEntry, BreaksNext, HasAdded, HasJudged, HasMarked, IsNextEntry};
 ghost use Rattle.btr_open.specs.Loading.{IsTreeOfRoot};
 ghost use Rattle.btr_open.specs.Reading.{WasReadTo};
 
@@ -49,8 +47,8 @@ impl Loader {
         }
     }
 
-    /// Tests the body of a checkpoint after the gate at this block, before the gate `next`. If it is that of a checkpoint of what was
-    /// read, the judge marks it; else its first block is returned. An `Err` is out of memory.
+    /// Tests the body of a checkpoint after the gate at this block. If it is that of a checkpoint of what was read, the judge marks it;
+    /// else its first block is returned. An `Err` is out of memory.
     pub(crate) fn pass<J: Judge>(
         &self,
         alloc: Global,
@@ -58,16 +56,16 @@ impl Loader {
         head: &Head,
         body: &[u8],
         gate: u64,
-        next: u64,
     ) -> Result<Option<u64>, AllocError>
         requires body { IsBody body.now head.now }
         requires kind { head.now.kind ≡ 2 }
         requires few { self.now.board.entries < 2 ^ 64 - 1 }
         requires room { gate + need body.now < 2 ^ 33 }
-        ensures marked { IfOk result (λ o. IfNone o (HasMarked ⟦<J as Judge>⟧ gate next body.now self.now judge.old judge.new)) }
+        ensures marked { IfOk result (λ o. IfNone o (HasMarked ⟦<J as Judge>⟧ gate body.now self.now judge.old judge.new)) }
         ensures damaged { IfOk result (λ o. IfSome o (HasNothingNext gate body.now self.now)) }
     {
         if is_checkpoint(alloc, &self.board, head, body)? {
+            let next = gate + head.n + 1;
             judge.mark(alloc, gate, next)?;
             Ok(None)
         } else {
@@ -122,9 +120,7 @@ impl Loader {
         requires body { IsBody body.now head.now }
         requires few { self.old.board.entries < 2 ^ 64 - 1 }
         requires room { gate + need body.now < 2 ^ 33 }
-        requires content { HasContent (self.old.board.entries + 1) entry.now head.now.root (node_blocks_of head.now body.now) body.now }
-        requires may { HasRoomFor self.old.board entry.now }
-        requires allowed { FitsRoll (rolled self.old.board) entry.now }
+        requires next { IsNextEntry self.old entry.now head.now body.now }
         requires read { WasReadTo gate self.old }
         ensures added { IfOk result (λ o. IfNone o (HasAdded gate body.now entry.now head.now.root self.old self.new)) }
         ensures damaged { IfOk result (λ o. IfSome o
@@ -133,15 +129,7 @@ impl Loader {
         let content = blocks_of_content(head.length);
         let first = gate + 1 + content;
         let pages = node_blocks(head, body);
-        let wrong = wrong_root(
-            &self.board,
-            &self.nodes,
-            entry,
-            head.root,
-            gate,
-            first,
-            pages,
-        );
+        let wrong = wrong_root(self, entry, head.root, gate, first, pages);
         if let Some(block) = wrong {
             return Ok(Some(block));
         }

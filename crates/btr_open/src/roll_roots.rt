@@ -1,11 +1,6 @@
 //! The roots of the versions of a checkpoint, and the trees of the pages to which they lead.
-ghost use Rattle.std.specs.Prelude.{◌≡◌, ◌++◌, ◌<◌, ◌≤◌, ◌^◌, ℕ, [], IfErr, IfOk, OnOk, slice_get, Some};
-ghost use Rattle.btr_open.specs.Reads.{OnlyReads};
-ghost use Rattle.btr_open.specs.Loading.{IsReaderOf, AddsBelow, GrowsBelow, StaysPart};
-ghost use Rattle.std.specs.Prelude.{IsSome};
-ghost use Rattle.btr_pages.specs.Pages.{Pages};
-ghost use Rattle.btr_pages.specs.Known.{AreKnown, node_at};
-ghost use Rattle.btr_open.specs.Below.{StandBelow};
+ghost use Rattle.std.specs.Prelude.{◌≡◌, ◌++◌, ◌<◌, ◌≤◌, ℕ, [], IfErr, IfOk, OnOk, slice_get, Some};
+ghost use Rattle.btr_open.specs.Loading.{CanRead, HasReadBelow, AreOfDevice, GrowsBelow, FetchesPage};
 ghost use Rattle.btr_open.specs.Checkpoint.{AreOfSome, AreRootsBelow, AreRootsFetched, RootCause, RootsCause, roots_in, roots_among};
 
 use crate::below::{BlockReader, Fetched};
@@ -56,34 +51,28 @@ fn push_roots(roots: &mut Vec<u64>, versions: &[RollVersion], limit: u64) -> Res
 
 /// Makes the trees of the pages at these roots, with those of the pages below them.
 pub(crate) fn fetch_roots<D: Disk>(
-    alloc: Global,
     disk: &mut D,
     reader: &mut BlockReader,
     nodes: &mut Nodes,
     steps: &mut Steps<OpenWalk>,
     roots: &[u64],
 ) -> Result<(), OpenCause>
+    requires reader { CanRead ⟦<D as Disk>⟧ reader.old disk.old }
     requires roots { (n root : ℕ) → slice_get roots.now n ≡ Some root → (1 ≤ root) × (root < reader.old.limit) }
     requires nodes { nodes.old ≡ [] }
-    requires inside { reader.old.limit ≤ D.size disk.old }
-    requires addressable { reader.old.limit ≤ 2 ^ 32 }
-    requires holds { D.is_observable → IsReaderOf (D.contents disk.old) reader.old }
-    ensures limit { reader.new.limit ≡ reader.old.limit }
-    ensures reads { OnlyReads ⟦<D as Disk>⟧ disk.old disk.new }
-    ensures holds { D.is_observable → IsReaderOf (D.contents disk.new) reader.new }
+    ensures reads { HasReadBelow ⟦<D as Disk>⟧ reader.old reader.new disk.old disk.new }
     ensures grown { OnOk result (AreOfSome reader.old.limit nodes.new) }
     ensures fetched { D.is_observable → OnOk result (AreRootsFetched (D.contents disk.old) reader.old.limit roots.now nodes.new) }
     ensures cause { IfErr result (RootsCause ⟦<D as Disk>⟧ roots.now disk.old disk.new) }
 {
     for root in roots {
-        fetch_root(alloc, disk, reader, nodes, steps, *root)?;
+        fetch_root(disk, reader, nodes, steps, *root)?;
     }
     Ok(())
 }
 
 /// Makes the tree of the page at this root, with those of the pages below it.
 fn fetch_root<D: Disk>(
-    alloc: Global,
     disk: &mut D,
     reader: &mut BlockReader,
     nodes: &mut Nodes,
@@ -92,20 +81,15 @@ fn fetch_root<D: Disk>(
 ) -> Result<(), OpenCause>
     requires some { 1 ≤ root }
     requires below { root < reader.old.limit }
-    requires inside { reader.old.limit ≤ D.size disk.old }
-    requires addressable { reader.old.limit ≤ 2 ^ 32 }
-    requires holds { D.is_observable → IsReaderOf (D.contents disk.old) reader.old }
-    requires own { D.is_observable → (own : Pages) × StandBelow (D.contents disk.old) reader.old.limit own × AreKnown own nodes.old }
-    ensures limit { reader.new.limit ≡ reader.old.limit }
-    ensures reads { OnlyReads ⟦<D as Disk>⟧ disk.old disk.new }
-    ensures holds { D.is_observable → IsReaderOf (D.contents disk.new) reader.new }
+    requires reader { CanRead ⟦<D as Disk>⟧ reader.old disk.old }
+    requires own { D.is_observable → AreOfDevice (D.contents disk.old) reader.old.limit nodes.old }
+    ensures reads { HasReadBelow ⟦<D as Disk>⟧ reader.old reader.new disk.old disk.new }
     ensures grows { OnOk result (GrowsBelow reader.old.limit nodes.old nodes.new) }
-    ensures adds { D.is_observable → OnOk result (AddsBelow (D.contents disk.old) reader.old.limit nodes.old nodes.new) }
-    ensures part { D.is_observable → OnOk result (StaysPart (D.contents disk.old) reader.old.limit root nodes.old nodes.new) }
-    ensures fetched { D.is_observable → OnOk result (IsSome (node_at nodes.new root)) }
+    ensures fetches { D.is_observable
+        → OnOk result (FetchesPage (D.contents disk.old) reader.old.limit root nodes.old nodes.new Fetched.Known) }
     ensures cause { IfErr result (RootCause ⟦<D as Disk>⟧ root disk.old disk.new) }
 {
-    match reader.fetch(alloc, disk, nodes, steps, root)? {
+    match reader.fetch(disk, nodes, steps, root)? {
         Fetched::Known => Ok(()),
         Fetched::NoPage => Err(OpenCause::Damaged { block: root }),
         Fetched::Broken { block } => Err(OpenCause::Damaged { block }),

@@ -6,9 +6,8 @@ ghost use Rattle.btr_open.specs.Start.{place_of_root};
 ghost use Rattle.btr_open.specs.Checkpoint.{IsVersionTree, MayBeRootOf, IsWrongRootOf, AreFirstTrees, AreAllTrees, TreesCause};
 
 use crate::opening::OpenCause;
-use crate::roll_lengths::{kind_length, streams_length, versions_length};
 use btr_pages::Nodes;
-use btr_roll::RollStream;
+use btr_roll::{RollStream, kind_length, streams_length, versions_length};
 use btr_tree::Tree;
 use std::alloc::{AllocError, Global};
 

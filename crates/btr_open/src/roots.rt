@@ -4,11 +4,11 @@ ghost use Rattle.std.specs.Prelude.{IfSome, IsNone, IsTrue, true, false};
 ghost use Rattle.btr_node.specs.Page.{Keeps};
 ghost use Rattle.btr_pages.specs.Pages.{Pages, IsRootPage};
 ghost use Rattle.btr_pages.specs.Known.{AreKnown};
-ghost use Rattle.btr_engine.specs.Rolling.{rolled};
+ghost use Rattle.btr_streams.specs.Rolling.{rolled};
 ghost use Rattle.btr_open.specs.RootTest.{IsNamedRoot, IsNoPageIn, MayBeRootIn, MayLeadIn};
 
+use crate::loading::Loader;
 use btr_base::ROOT_HEIGHT;
-use btr_engine::Board;
 use btr_hist::Entry;
 use btr_node::{NodePage, PAGE, decode};
 use btr_pages::Nodes;
@@ -26,11 +26,20 @@ enum RootTest {
     Wrong,
 }
 
+/// The version that a commit makes.
+#[derive(Clone, Copy)]
+struct NewVersion {
+    stream: u32,
+    version: u64,
+
+    /// Whether the commit adds a point.
+    some: bool,
+}
+
 /// Returns the block that is damaged if the root of an entry is wrong, or `None` if the root is right. The entry's extent begins with
 /// the gate at block `gate`, and its node blocks, which have these bytes, begin at block `first`.
 pub(crate) fn wrong_root(
-    board: &Board,
-    nodes: &Nodes,
+    loader: &Loader,
     entry: &Entry,
     root: u64,
     gate: u64,
@@ -39,10 +48,10 @@ pub(crate) fn wrong_root(
 ) -> Option<u64>
     requires gate { gate < 2 ^ 64 - 1 }
     requires whole { length bytes.now % 4096 ≡ 0 }
-    ensures right { (pages : Pages) → AreKnown pages nodes.now
-        → IsNone result → MayLeadIn pages (rolled board.now) entry.now first bytes.now root }
-    ensures wrong { (pages : Pages) → AreKnown pages nodes.now
-        → IfSome result (λ block. MayLeadIn pages (rolled board.now) entry.now first bytes.now root → ⊥) }
+    ensures right { (pages : Pages) → AreKnown pages loader.now.nodes
+        → IsNone result → MayLeadIn pages (rolled loader.now.board) entry.now first bytes.now root }
+    ensures wrong { (pages : Pages) → AreKnown pages loader.now.nodes
+        → IfSome result (λ block. MayLeadIn pages (rolled loader.now.board) entry.now first bytes.now root → ⊥) }
     ensures named { IfSome result (IsNamedRoot gate entry.now first bytes.now root) }
 {
     let (stream, some) = match entry {
@@ -53,37 +62,35 @@ pub(crate) fn wrong_root(
             (*stream, !added.as_slice().is_empty())
         }
     };
-    let version = board.latest(stream).unwrap_or(0) + 1;
-    match test_root(nodes, stream, version, some, root, first, bytes) {
+    let version = loader.board.latest(stream).unwrap_or(0) + 1;
+    let made = NewVersion {
+        stream,
+        version,
+        some,
+    };
+    match test_root(&loader.nodes, made, root, first, bytes) {
         RootTest::Right => None,
         RootTest::NoPage => Some(root),
         RootTest::Wrong => Some(gate + 1),
     }
 }
 
-/// Tests the root of a commit that makes this version of a stream. `some` says whether the commit adds a point.
-fn test_root(
-    nodes: &Nodes,
-    stream: u32,
-    version: u64,
-    some: bool,
-    root: u64,
-    first: u64,
-    bytes: &[u8],
-) -> RootTest
+/// Tests the root of a commit that makes this version.
+fn test_root(nodes: &Nodes, made: NewVersion, root: u64, first: u64, bytes: &[u8]) -> RootTest
     requires whole { length bytes.now % 4096 ≡ 0 }
     ensures right { (pages : Pages) → AreKnown pages nodes.now → result ≡ RootTest.Right
-        → MayBeRootIn pages first bytes.now stream version some root }
+        → MayBeRootIn pages first bytes.now made.stream made.version made.some root }
     ensures not_right { (pages : Pages) → AreKnown pages nodes.now → result ≢ RootTest.Right
-        → MayBeRootIn pages first bytes.now stream version some root → ⊥ }
+        → MayBeRootIn pages first bytes.now made.stream made.version made.some root → ⊥ }
     ensures no_page { result ≡ RootTest.NoPage → IsNoPageIn first bytes.now root }
     ensures wrong { result ≡ RootTest.Wrong → IsNoPageIn first bytes.now root → ⊥ }
 {
+    let some = made.some;
     if root == 0 && !some {
         return RootTest::Right;
     }
     if root < first {
-        return test(nodes.is_root(root, stream, version));
+        return test(nodes.is_root(root, made.stream, made.version));
     }
     let place = (root - first) as usize;
     if place >= bytes.len() / PAGE {
@@ -91,7 +98,7 @@ fn test_root(
     }
     match decode(&block_at(bytes, PAGE * place)) {
         None => RootTest::NoPage,
-        Some(page) => test(is_root_page(&page, stream, version)),
+        Some(page) => test(is_root_page(&page, made.stream, made.version)),
     }
 }
 

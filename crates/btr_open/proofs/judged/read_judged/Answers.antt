@@ -1,18 +1,27 @@
-use Rattle.std.proofs.Common.{refl}
+use Rattle.std.proofs.Common.{refl, subst}
 use Rattle.btr_log.specs.Log.{log_device}
+use Rattle.btr_open.specs.Reading.{LogCause}
 use Rattle.btr_open.proofs.FirstReading.{first-table, log-judged, cause-judged}
+use Rattle.btr_open.proofs.LogWalkLemmas.{walked-of}
 use Rattle.btr_open.proofs.judged.read_judged.Goals as goal
 
-pub read_log-read-requires-clause-table : goal.read_log-read-requires-clause-table
-read_log-read-requires-clause-table g c =
-    rw c.at-log.ensures.same_device (first-table (g.D.Disk.size c.args.disk) c.args.found c.requires.table)
+pub new-walk-requires : goal.new-walk-requires
+new-walk-requires g c = record { table = first-table (g.D.Disk.size c.args.disk) c.args.found c.requires.table }
 
 pub returns-in-Ok-clause-read : goal.returns-in-Ok-clause-read
 returns-in-Ok-clause-read g c reported =
-    let read = c.in-Ok.ensures in
-    log-judged g.D.Disk g.J.Judge c.args.found c.args.disk (log_device c.at-log.result) c.at-log.ensures.same_device c.read_log-read.new.loader c.read_log-read.new.judge (record { nodes = c.read_log-read.new.loader.nodes; tail = c.in-Ok.place.gate }) read.read read.closed read.place.inside refl reported
+    let made = c.new-walk.ensures in
+    let d = log_device c.new-walk.result.log in
+    let new = c.read_log-read.new.self in
+    let judge = c.read_log-read.new.judge in
+    let read = c.in-Ok.ensures.walked in
+    let is = walked-of c.new-walk.result new judge _ made.same_super read in
+    log-judged g.D.Disk g.J.Judge c.args.found c.args.disk d made.device new.loader judge (record { nodes = new.loader.nodes; tail = new.place.gate }) is.1 read.closed is.0.inside refl reported
 
-pub returns-in-Err-clause-cause : goal.returns-in-Err-clause-cause
-returns-in-Err-clause-cause g c =
-    let here = c.in-Err.ensures.cause in
-    rw c.into_disk-disk.ensures (cause-judged g.D.Disk g.J.Judge c.args.found c.args.disk (log_device c.at-log.result) c.at-log.ensures.same_device (log_device c.read_log-read.new.log) c.in-Err.cause here)
+pub returns-clause-cause : goal.returns-clause-cause
+returns-clause-cause g c =
+    let made = c.new-walk.ensures in
+    let d = log_device c.new-walk.result.log in
+    let after = log_device c.read_log-read.new.self.log in
+    let here = subst (λ s. LogCause g.D.Disk g.J.Judge s d after c.in-Err.cause) made.same_super c.in-Err.ensures.cause in
+    rw c.into_disk-disk.ensures (cause-judged g.D.Disk g.J.Judge c.args.found c.args.disk d made.device after c.in-Err.cause here)

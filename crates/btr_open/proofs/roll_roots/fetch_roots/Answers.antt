@@ -3,7 +3,8 @@ use Rattle.std.proofs.Common.{refl, arith, sym, subst, get_or}
 use Rattle.std.proofs.lemmas.List.{take_more}
 use Rattle.std.proofs.lemmas.Option.{slice_get-get_or}
 use Rattle.std.proofs.lemmas.Result.{err_from_is_err_and}
-use Rattle.btr_open.proofs.StartRoots.{IsFetchedSo, grown-none, fetched-none, no-calls, own-so, fetched-on, cause-so}
+use Rattle.btr_open.proofs.OnlyReading.{no-calls}
+use Rattle.btr_open.proofs.StartRoots.{IsFetchedSo, grown-none, fetched-none, own-so, fetched-on, cause-so}
 use Rattle.btr_open.proofs.roll_roots.fetch_roots.Goals as goal
 
 pub loop-root-init : goal.loop-root-init
@@ -12,8 +13,8 @@ loop-root-init g c =
     let d = c.args.disk.now in
     record {
       limit_is = refl;
-      reads = no-calls disk d (λ reported. g.met.D.Disk.only_now reported d);
-      holds = c.requires.holds;
+      reads = no-calls d (λ reported. g.met.D.Disk.only_now reported d);
+      holds = c.requires.reader.holds;
       grown = grown-none c.args.reader.now.limit c.args.nodes.now c.requires.nodes;
       fetched = λ reported. fetched-none (disk.contents d) c.args.reader.now.limit c.args.nodes.now c.requires.nodes;
     }
@@ -28,6 +29,16 @@ fetch_root-requires-clause-below g c =
     let i = c.loop-root.root-index in
     let low = (c.requires.roots i (get_or c.args.roots.now i 0) (slice_get-get_or c.args.roots.now i 0 c.loop-root-test.true)).1 in
     omega (arith, low, c.loop-root.invariant.limit_is)
+
+pub fetch_root-requires-clause-reader : goal.fetch_root-requires-clause-reader
+fetch_root-requires-clause-reader g c =
+    let so = c.loop-root.invariant in
+    let can = c.requires.reader in
+    record {
+      inside = omega (arith, so.limit_is, so.reads.counts.same_size, can.inside);
+      addressable = omega (arith, so.limit_is, can.addressable);
+      holds = so.holds;
+    }
 
 pub fetch_root-requires-clause-own : goal.fetch_root-requires-clause-own
 fetch_root-requires-clause-own g c =
@@ -46,5 +57,5 @@ loop-root-preserved g c =
     let l = c.loop-root in
     let i = l.root-index in
     let e = c.in_ok-fetch_root.ensures in
-    let next = fetched-on g.D.Disk c.args.disk.now l.disk c.args.reader.now.limit l.reader (take i c.args.roots.now) l.nodes l.invariant c.fetch_root.new.disk (get_or c.args.roots.now i 0) c.fetch_root.new.reader c.fetch_root.new.nodes e.limit e.reads e.holds e.grows e.adds e.part e.fetched in
+    let next = fetched-on g.D.Disk c.args.disk.now l.disk c.args.reader.now.limit l.reader (take i c.args.roots.now) l.nodes l.invariant c.fetch_root.new.disk (get_or c.args.roots.now i 0) c.fetch_root.new.reader c.fetch_root.new.nodes c.fetch_root.ensures.reads e.grows e.fetches in
     subst (λ xs. IsFetchedSo g.D.Disk c.args.disk.now c.fetch_root.new.disk c.args.reader.now.limit c.fetch_root.new.reader xs c.fetch_root.new.nodes) (sym (take_more c.args.roots.now i 0 c.loop-root-test.true)) next

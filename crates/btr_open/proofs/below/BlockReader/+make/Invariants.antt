@@ -7,10 +7,10 @@ abbrev pub decreases-make : goal.decreases-make
 decreases-make g l = 3 * (front l.page.now).height + 2
 
 abbrev pub decreases-make_child : goal.decreases-make_child
-decreases-make_child g l = 3 * (front l.page.now).height + 1
+decreases-make_child g l = 3 * (front l.at.page.now).height + 1
 
 abbrev pub decreases-make_unknown : goal.decreases-make_unknown
-decreases-make_unknown g l = 3 * (front l.page.now).height
+decreases-make_unknown g l = 3 * (front l.at.page.now).height
 
 -- The children of the slots so far are known.
 abbrev pub invariant-make-loop-i : goal.invariant-make-loop-i

@@ -42,21 +42,10 @@ loop-i-preserved g c =
           (fetched-same disk c.args.disk.now l.disk c.args.self.now l.self (IsNeededTo n bytes root) (IsNeededTo (n + 1) bytes root) c.args.nodes.now l.nodes l.invariant (needed-before n bytes root) (needed-only n bytes root none))
     ]
 
-pub returns-clause-adds : goal.returns-clause-adds
-returns-clause-adds g c reported = (c.loop-i.invariant.all reported).adds
-
-pub returns-clause-part : goal.returns-clause-part
-returns-clause-part g c reported =
+pub returns-clause-all : goal.returns-clause-all
+returns-clause-all g c reported =
     let l = c.loop-i in
     let bytes = c.args.bytes.now in
     let root = c.args.root in
     let size : length bytes ≡ 4096 * l.i = omega (arith, c.requires.whole, c.loop-i-test.false, l.auto.i-end) in
-    (fetches-same (g.D.Disk.contents c.args.disk.now) c.args.self.now.limit (IsNeededTo l.i bytes root) (IsNeeded bytes root) c.args.nodes.now l.nodes (l.invariant.all reported) (needed-of l.i bytes root (omega arith)) (needed-all l.i bytes root (omega arith))).part
-
-pub returns-clause-fetched : goal.returns-clause-fetched
-returns-clause-fetched g c reported =
-    let l = c.loop-i in
-    let bytes = c.args.bytes.now in
-    let root = c.args.root in
-    let size : length bytes ≡ 4096 * l.i = omega (arith, c.requires.whole, c.loop-i-test.false, l.auto.i-end) in
-    (fetches-same (g.D.Disk.contents c.args.disk.now) c.args.self.now.limit (IsNeededTo l.i bytes root) (IsNeeded bytes root) c.args.nodes.now l.nodes (l.invariant.all reported) (needed-of l.i bytes root (omega arith)) (needed-all l.i bytes root (omega arith))).fetched
+    fetches-same (g.D.Disk.contents c.args.disk.now) c.args.self.now.limit (IsNeededTo l.i bytes root) (IsNeeded bytes root) c.args.nodes.now l.nodes (l.invariant.all reported) (needed-of l.i bytes root (omega arith)) (needed-all l.i bytes root (omega arith))

@@ -19,10 +19,10 @@ is-allowed c =
     let are = c.node_blocks-pages.ensures in
     record {
       whole = c.requires.body;
-      content = subst (λ xs. HasContent (c.args.self.now.board.entries + 1) c.args.entry.now c.args.head.now.root xs c.args.body.now) (sym are) c.requires.content;
+      content = subst (λ xs. HasContent (c.args.self.now.board.entries + 1) c.args.entry.now c.args.head.now.root xs c.args.body.now) (sym are) c.requires.next.content;
       first_is = ap (λ n. c.args.gate + 1 + n) c.blocks_of_content-content.ensures;
       nodes_are = are;
-      allowed = c.requires.allowed;
+      allowed = c.requires.next.allowed;
     }
 
 pub returns-in-Some-clause-damaged : goal.returns-in-Some-clause-damaged
@@ -49,4 +49,4 @@ pub returns-clause-added : goal.returns-clause-added
 returns-clause-added c =
     let at = (goal.at.returns-clause-added c).After-wrong_root-wrong in
     let right : MayLeadRead (first at) (nodes at) c.args.self.now c.args.head.now.root c.args.entry.now = λ pages known. c.in_default.ensures.right pages known refl in
-    body-added c.args.gate (first at) (nodes at) c.args.body.now c.args.self.now c.args.head.now c.args.entry.now (is-allowed at) right c.add_blocks.new.self (c.in_ok-damaged.ensures.added (ap Ok c.in_default-damaged.is)) _ c.add_tree.new.self refl refl c.requires.may c.in_ok-add_tree.ensures c.requires.read c.in_ok-damaged.ensures.above
+    body-added c.args.gate (first at) (nodes at) c.args.body.now c.args.self.now c.args.head.now c.args.entry.now (is-allowed at) right c.add_blocks.new.self (c.in_ok-damaged.ensures.added (ap Ok c.in_default-damaged.is)) _ c.add_tree.new.self refl refl c.requires.next.may c.in_ok-add_tree.ensures c.requires.read c.in_ok-damaged.ensures.above

@@ -1,5 +1,5 @@
 use Rattle.std.proofs.Common.{refl, sym, ap, ◌∙◌, subst}
-use Rattle.btr_engine.specs.Board.{Kept, IsBoardOf}
+use Rattle.btr_streams.specs.Board.{Kept, IsBoardOf}
 use Rattle.btr_open.specs.Loading.{IsTreeOfRoot}
 use Rattle.btr_open.proofs.loading.Loader.add_tree.Goals.{In_ok-tree}
 use Rattle.btr_open.proofs.loading.Loader.add_tree.Goals as goal
@@ -15,7 +15,7 @@ pub returns : goal.returns
 returns c =
     record {
       same = refl;
-      counted = ap (λ (b : Kept). b.entries) c.accept.ensures.next ∙ c.in_ok-staged.ensures.counted;
+      counted = ap (λ (b : Kept). b.entries) c.accept.ensures.next ∙ c.in_ok-staged.ensures.numbered.entries;
       tree = c.in_ok-tree.tree;
       is = tree-of (goal.at.returns c).In_ok-tree;
       staged = c.in_ok-staged.staged;

@@ -1,0 +1,89 @@
+-- What holds of a walk over the log of a superblock between its steps, and what a step does.
+use Rattle.std.specs.Prelude.{◌≡◌, ℕ, ◌+◌, ◌≤◌, List, []}
+use Rattle.btr_disk.specs.declared.disk.Disk.{Ghosts}
+use Rattle.btr_disk.specs.Gate.{IsClosed}
+use Rattle.btr_log.specs.declared.head.Head.{Head}
+use Rattle.btr_log.specs.Log.{log_device, log_blocks}
+use Rattle.btr_log.specs.Piece.{IsPieceOf, bytes_at}
+use Rattle.btr_log.specs.Ahead.{HoldsExtent}
+use Rattle.btr_super.specs.Super.{IsSuper}
+use Rattle.btr_streams.specs.Board.{IsBoardOf}
+use Rattle.btr_open.specs.declared.judge.Judge.{Ghosts as Judging}
+use Rattle.btr_open.specs.declared.loading.Loader.{Loader}
+use Rattle.btr_open.specs.declared.log_walk.LogWalk.{LogWalk}
+use Rattle.btr_open.specs.Place.{IsPlaceIn}
+use Rattle.btr_open.specs.Reading.{ReadsLog, WasReadTo, WasJudged}
+use Rattle.btr_open.specs.Loading.{IsReaderOf, ReadsThrough, ReadsBody, BreaksAfter}
+
+module _ {D : Type 0} {disk : Ghosts D} where
+  -- The device of a walk.
+  abbrev pub walked_device : LogWalk D disk → D
+  walked_device w = log_device w.log
+
+  -- The walk is over the log of its superblock, and the blocks that it holds are those of its device.
+  pub record IsWalkOver (w : LogWalk D disk) : Type 0 where
+    pub table : IsSuper (disk.size (walked_device w)) w.found
+    pub same_blocks : log_blocks w.log ≡ w.found.blocks
+    pub limit : w.reader.limit ≡ w.found.checkpoint
+    pub ahead : disk.is_observable → IsPieceOf (disk.contents (walked_device w)) w.piece
+    pub holds : disk.is_observable → IsReaderOf (disk.contents (walked_device w)) w.reader
+
+  -- Nothing was read yet.
+  pub record IsNewWalk (w : LogWalk D disk) : Type 0 where
+    pub over : IsWalkOver w
+    pub board : IsBoardOf [] w.loader.board
+    pub nodes : w.loader.nodes ≡ []
+
+  -- The walk is over the same log as before, and its calls only read.
+  pub record WalksOn (old new : LogWalk D disk) : Type 0 where
+    pub over : IsWalkOver new
+    pub same_super : new.found ≡ old.found
+    pub reads : ReadsLog old.log new.log
+
+  -- The body of the extent at the walk's gate, which has this head, as the piece holds it.
+  abbrev pub body_ahead : LogWalk D disk → Head → List ℕ
+  body_ahead w head = bytes_at w.piece (w.place.gate + 1) head.n
+
+  -- The piece holds the extent at the walk's gate, which has this head.
+  abbrev pub HoldsNext : LogWalk D disk → Head → Type 0
+  HoldsNext w head = HoldsExtent (log_blocks w.log) w.place.gate w.piece head
+
+  -- The walk is after the extent at the gate where it was. An extent has at least two blocks, and one entry or none.
+  pub record IsAfterExtent (old new : LogWalk D disk) : Type 0 where
+    pub after : old.place.gate + 2 ≤ new.place.gate
+    pub extents : new.place.extents ≡ old.place.extents + 1
+    pub counted : new.loader.board.entries ≤ old.loader.board.entries + 1
+
+  module _ {J : Type 0} (by : Judging J) where
+    -- The log was read up to the walk's place, and the judge has seen its entries.
+    pub record IsWalked (w : LogWalk D disk) (judge : J) : Type 0 where
+      pub over : IsWalkOver w
+      pub at : IsPlaceIn w.found w.loader.board.entries w.place
+      pub into : WasReadTo w.place.gate w.loader
+      pub read : WasJudged disk by (walked_device w) w.found w.place.gate w.loader judge
+
+    -- The walk is at a closed gate, and read nothing more.
+    pub record IsAtEnd (old new : LogWalk D disk) (before after : J) : Type 0 where
+      pub place : new.place ≡ old.place
+      pub loader : new.loader ≡ old.loader
+      pub judge : after ≡ before
+      pub closed : disk.is_observable → IsClosed (disk.contents (walked_device old)) old.place.gate
+
+    -- The log of the old walk's superblock was read up to a closed gate. It is said of the device as it was before.
+    pub record WasWalked (old new : LogWalk D disk) (judge : J) : Type 0 where
+      pub at : IsPlaceIn old.found new.loader.board.entries new.place
+      pub into : WasReadTo new.place.gate new.loader
+      pub read : WasJudged disk by (walked_device old) old.found new.place.gate new.loader judge
+      pub closed : disk.is_observable → IsClosed (disk.contents (walked_device old)) new.place.gate
+
+    -- The body of the extent with this head was read.
+    pub record ReadsExtent (old : LogWalk D disk) (new : Loader) (head : Head) (before after : J) : Type 0 where
+      pub through : ReadsThrough old.place.gate (body_ahead old head) old.loader new
+      pub read : disk.is_observable
+          → ReadsBody by (disk.contents (walked_device old)) old.reader.limit old.place.gate (body_ahead old head) old.loader new before after
+
+    -- This block of the body of the extent with this head breaks the format or the rule.
+    abbrev pub BreaksExtent : LogWalk D disk → Head → J → ℕ → Type 0
+    BreaksExtent old head before block =
+        disk.is_observable
+        → BreaksAfter by (disk.contents (walked_device old)) old.reader.limit old.place.gate (body_ahead old head) old.loader before block

@@ -1,0 +1,133 @@
+//! A walk over the log of a superblock: from the start that the superblock names, extent by extent, up to the first closed gate.
+ghost use Rattle.std.specs.Prelude.{◌≡◌, IfErr, IfNone, IfOk, IfSome, OnOk, false, true};
+ghost use Rattle.btr_log.specs.Log.{log_device as disk_of};
+ghost use Rattle.btr_super.specs.Super.{IsSuper};
+ghost use Rattle.btr_open.specs.LogWalk.{IsNewWalk, WalksOn, IsWalked, IsAfterExtent, IsAtEnd, WasWalked, HoldsNext, ReadsExtent, BreaksExtent};
+ghost use Rattle.btr_open.specs.Reading.{LogCause, BlockCause};
+ghost use Rattle.btr_open.specs.Seen.{nothing_seen};
+
+use crate::below::BlockReader;
+use crate::judge::Judge;
+use crate::loading::{Loader, node_blocks};
+use crate::opening::{OpenCause, cause_of};
+use crate::place::Place;
+use btr_disk::Disk;
+use btr_log::{Head, Log, Piece};
+use btr_super::Super;
+use std::alloc::Global;
+
+/// A walk over the log of a superblock on a device. It only reads.
+#[derive(Drop)]
+pub(crate) struct LogWalk<D: Disk> {
+    /// The allocator.
+    pub(crate) alloc: Global,
+
+    /// The superblock whose log is read.
+    pub(crate) found: Super,
+
+    /// The log, with the device.
+    pub(crate) log: Log<D>,
+
+    /// What is held of the blocks below the checkpoint that the superblock names.
+    pub(crate) reader: BlockReader,
+
+    /// The blocks of the log that were read last.
+    pub(crate) piece: Piece,
+
+    /// What was read of the log.
+    pub(crate) loader: Loader,
+
+    /// How far the log was read.
+    pub(crate) place: Place,
+}
+
+impl<D: Disk> LogWalk<D> {
+    /// A walk that has read nothing. It takes no memory.
+    pub(crate) fn new(alloc: Global, disk: D, found: Super) -> LogWalk<D>
+        requires table { IsSuper (D.size disk) found }
+        ensures new { IsNewWalk result }
+        ensures same_super { result.found ≡ found }
+        ensures device { disk_of result.log ≡ disk }
+    {
+        LogWalk {
+            alloc,
+            found,
+            log: Log::at(disk, found.tail, found.blocks, 0),
+            reader: BlockReader::new(alloc, found.checkpoint),
+            piece: Piece::new(alloc),
+            loader: Loader::empty(alloc),
+            place: Place {
+                gate: found.tail,
+                extents: 0,
+            },
+        }
+    }
+
+    /// Reads the log from where the superblock says, up to the first closed gate. Each entry is judged.
+    pub(crate) fn read_log<J: Judge>(&mut self, judge: &mut J) -> Result<(), OpenCause>
+        requires new { IsNewWalk self.old }
+        requires judge { J.is_after nothing_seen judge.old }
+        ensures walks { WalksOn self.old self.new }
+        ensures walked { OnOk result (WasWalked ⟦<J as Judge>⟧ self.old self.new judge.new) }
+        ensures cause { IfErr result (LogCause ⟦<D as Disk>⟧ ⟦<J as Judge>⟧ self.old.found (disk_of self.old.log) (disk_of self.new.log)) }
+    {
+        self.read_start()?;
+        while self.read_next(judge)? {}
+        Ok(())
+    }
+
+    /// Reads the extent at the gate, and goes to the gate after it. It returns whether there is one: `false` exactly if the gate is closed.
+    fn read_next<J: Judge>(&mut self, judge: &mut J) -> Result<bool, OpenCause>
+        requires walked { IsWalked ⟦<J as Judge>⟧ self.old judge.old }
+        ensures walks { WalksOn self.old self.new }
+        ensures walked { OnOk result (IsWalked ⟦<J as Judge>⟧ self.new judge.new) }
+        ensures next { IfOk result (λ more. more ≡ true → IsAfterExtent self.old self.new) }
+        ensures end { IfOk result (λ more. more ≡ false → IsAtEnd ⟦<J as Judge>⟧ self.old self.new judge.old judge.new) }
+        ensures cause { IfErr result (LogCause ⟦<D as Disk>⟧ ⟦<J as Judge>⟧ self.old.found (disk_of self.old.log) (disk_of self.new.log)) }
+    {
+        let gate = self.place.gate;
+        let found_there = match self.log.read_ahead(gate, &mut self.piece) {
+            Ok(found_there) => found_there,
+            Err(fault) => return Err(cause_of(fault)),
+        };
+        let Some(head) = found_there else {
+            return Ok(false);
+        };
+        let next = gate + head.n + 1;
+        match self.read_body(judge, &head)? {
+            Some(block) => Err(OpenCause::Damaged { block }),
+            None => {
+                self.place = self.place.after(next);
+                Ok(true)
+            }
+        }
+    }
+
+    /// Reads the body of the extent at the gate, which has this head: tests it if it is that of a checkpoint, or else adds its entry, and
+    /// says it to the judge. Returns the first block of the body that breaks the format, if there is one. The pages that the entry needs
+    /// below the checkpoint are read before.
+    fn read_body<J: Judge>(&mut self, judge: &mut J, head: &Head) -> Result<Option<u64>, OpenCause>
+        requires walked { IsWalked ⟦<J as Judge>⟧ self.old judge.old }
+        requires holds { HoldsNext self.old head.now }
+        ensures walks { WalksOn self.old self.new }
+        ensures place { self.new.place ≡ self.old.place }
+        ensures read { IfOk result (λ o. IfNone o (ReadsExtent ⟦<J as Judge>⟧ self.old self.new.loader head.now judge.old judge.new)) }
+        ensures damaged { IfOk result (λ o. IfSome o (BreaksExtent ⟦<J as Judge>⟧ self.old head.now judge.old)) }
+        ensures cause { IfErr result (BlockCause ⟦<D as Disk>⟧ (disk_of self.old.log) (disk_of self.new.log)) }
+    {
+        let gate = self.place.gate;
+        let body = self.piece.blocks(gate + 1, head.n);
+        if head.kind == 2 {
+            return Ok(self.loader.pass(self.alloc, judge, head, body, gate)?);
+        }
+        let nodes = node_blocks(head, body);
+        self.reader.fetch_needed(
+            &mut self.log.disk,
+            &mut self.loader.nodes,
+            &mut self.loader.steps,
+            head.root,
+            nodes,
+        )?;
+        Ok(self.loader.add(self.alloc, judge, head, body, gate)?)
+    }
+}
