@@ -17,19 +17,19 @@ lines_with() {
 expect 'types with Label stand in these files alone' "$(lines_with '\bimpl\b.*\bLabel\b.*\bfor\b')" \
     'crates/btr_distil/src/changed.rt impl Label for InputWalk {}
 crates/btr_distil/src/split_times.rt impl Label for CountWalk {}
-crates/btr_engine/src/answering.rt impl Label for AnswerWalk {}
-crates/btr_engine/src/staging.rt impl Label for StageWalk {}
 crates/btr_open/src/loading.rt impl Label for OpenWalk {}
 crates/btr_scan/src/range_walk.rt impl Label for RangeWalk {}
+crates/btr_streams/src/answering.rt impl Label for AnswerWalk {}
+crates/btr_streams/src/next_tree.rt impl Label for StageWalk {}
 crates/btr_verify/src/judging.rt impl Label for JudgeWalk {}
 crates/btr_window/src/window_walk.rt impl Label for WindowWalk {}'
 expect 'no other file names Label' "$(lines_with '\bLabel\b' | cut -d ' ' -f 1 | uniq)" \
     'crates/btr_distil/src/changed.rt
 crates/btr_distil/src/split_times.rt
-crates/btr_engine/src/answering.rt
-crates/btr_engine/src/staging.rt
 crates/btr_open/src/loading.rt
 crates/btr_scan/src/range_walk.rt
+crates/btr_streams/src/answering.rt
+crates/btr_streams/src/next_tree.rt
 crates/btr_tree/src/lib.rt
 crates/btr_tree/src/steps.rt
 crates/btr_tree/src/uncounted.rt
@@ -42,12 +42,12 @@ expect 'counters are made in these lines alone' "$(lines_with '\b(Steps|Fork)\b.
 crates/btr_distil/src/changed.rt old.uncounted::<InputWalk>(),
 crates/btr_distil/src/split_times.rt let mut steps = Steps::<CountWalk>::new();
 crates/btr_distil/src/split_times.rt let mut steps = Steps::<CountWalk>::new();
-crates/btr_engine/src/answering.rt let mut steps = Steps::<AnswerWalk>::new();
-crates/btr_engine/src/answering.rt let mut steps = Steps::<AnswerWalk>::new();
-crates/btr_engine/src/answering.rt let older = older.uncounted::<AnswerWalk>();
-crates/btr_engine/src/staging.rt let mut steps = Steps::<StageWalk>::new();
 crates/btr_open/src/loading.rt steps: Steps::new(),
 crates/btr_scan/src/range_walk.rt let mut steps = Steps::<RangeWalk>::new();
+crates/btr_streams/src/answering.rt let mut steps = Steps::<AnswerWalk>::new();
+crates/btr_streams/src/answering.rt let mut steps = Steps::<AnswerWalk>::new();
+crates/btr_streams/src/answering.rt let older = older.uncounted::<AnswerWalk>();
+crates/btr_streams/src/next_tree.rt let mut steps = Steps::<StageWalk>::new();
 crates/btr_tree/src/shared.rt let mut fork = Fork::new();
 crates/btr_tree/src/shared.rt let mut fork = Fork::new();
 crates/btr_verify/src/marking.rt let mut steps = Steps::<JudgeWalk>::new();
@@ -68,10 +68,10 @@ crates/btr_scan/src/nearest_walk.rt pub fn nearest
 crates/btr_stored/src/finding.rt pub fn find
 crates/btr_stored/src/own.rt pub fn is_own
 crates/btr_window/src/range_aggregate.rt pub fn aggregate'
-walks='crates/btr_scan/src/backward.rt crates/btr_scan/src/forward.rt crates/btr_scan/src/nearest_walk.rt
-crates/btr_window/src/inside.rt crates/btr_window/src/range_aggregate.rt crates/btr_stored/src/finding.rt crates/btr_stored/src/own.rt
-crates/btr_diff/src/comparing.rt crates/btr_diff/src/comparison.rt crates/btr_diff/src/gathering.rt crates/btr_diff/src/leaf_walk.rt
-crates/btr_diff/src/points.rt crates/btr_diff/src/tree_walk.rt'
+walks='crates/btr_diff/src/comparing.rt crates/btr_diff/src/comparison.rt crates/btr_diff/src/gathering.rt crates/btr_diff/src/leaf_walk.rt
+crates/btr_diff/src/points.rt crates/btr_diff/src/tree_walk.rt
+crates/btr_scan/src/backward.rt crates/btr_scan/src/forward.rt crates/btr_scan/src/nearest_walk.rt
+crates/btr_window/src/inside.rt crates/btr_window/src/range_aggregate.rt crates/btr_stored/src/finding.rt crates/btr_stored/src/own.rt'
 # shellcheck disable=SC2086
 expect 'walks with a bound call no walk without one' \
     "$(cd "$top" && grep -vhE '^ *//|^ghost use ' $walks | sed 's/pub(crate)//' |
@@ -87,7 +87,8 @@ crate::inside
 crate::leaf_walk
 crate::points
 crate::tree_walk'
-expect 'who builds a part visits no node' "$(grep -nE '\bvisit\b|outside|uncounted' "$top/crates/btr_tree/src/shared.rt")" ''
+expect 'who builds a part visits no node' \
+    "$(grep -nE '\bvisit\b|outside|uncounted' "$top/crates/btr_tree/src/shared.rt" "$top/crates/btr_tree/src/node_count.rt")" ''
 # Each node is made by one function, which counts it.
 expect 'nodes of trees are made in one place' \
     "$(grep -rnoE 'Arc::(new|try_new|from)\b' "$top/crates/btr_tree/src" | sed "s|^$top/||; s|:[0-9]*:| |")" 'crates/btr_tree/src/node.rt Arc::new'
