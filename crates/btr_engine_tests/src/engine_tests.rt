@@ -195,8 +195,8 @@ fn rolled_streams(alloc: Global) -> Result<Option<[Option<Rolled>; 2]>, Fail> {
 
 #[test]
 fn a_board_has_a_roll_of_its_streams(rt: HostRuntime) -> Result<(), Fail> {
-    // the commit was staged after the gate 4: its head is block 5, its leaf block 6
-    let second = (8, 2, Some((3, 6)));
+    // the nodes of each entry are staged for the blocks from 4 on, so the leaf of the commit is block 4
+    let second = (8, 2, Some((3, 4)));
     assert!(rt; rolled_streams(rt.alloc())? == Some([Some((7, 1, None)), Some(second)]));
     Ok(())
 }
