@@ -2,6 +2,7 @@
 use Rattle.std.specs.Prelude.{◌≡◌, ℕ, ◌+◌, ◌≤◌, Bool, true, false, List, [], length, Option, Some, None, Result, Ok, Err}
 use Rattle.std.specs.declared.alloc.AllocError.{AllocError}
 use Rattle.std.specs.List.{AllByRecursion}
+use Rattle.std.specs.Option.{is_some}
 use Rattle.btr_hist.specs.declared.entry.Entry.{Entry}
 use Rattle.btr_hist.specs.Legal.{Follows}
 use Rattle.btr_text.specs.declared.script.ScriptLine.{ScriptLine}
@@ -21,6 +22,11 @@ LastRound start log low false (Some result) own = ⊥
 LastRound start log low true None own = ⊥
 LastRound start log low true (Some (Err e)) own = (n : ℕ) → times n own ≡ 0
 LastRound start log low true (Some (Ok report)) own = Refreshes start log low report own
+
+-- There is a reply to each line of a script, and the result of a last round exactly if one was wanted.
+pub record HasReplyEach (materialize : Bool) (script : List ScriptLine) (report : LiveReport) : Type 0 where
+  pub one_each : length report.replies.items ≡ length script
+  pub last : is_some report.last ≡ materialize
 
 -- A script ran in a session that had seen `low`. `middle` is the log when all lanes had ended, of which their replies are said. With
 -- `materialize` one party was beside them at most, and made at most as many rounds as the script has lines. The last round had seen

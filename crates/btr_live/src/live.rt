@@ -1,9 +1,10 @@
 //! A script runs: its lanes beside each other, rounds beside them, and a last round after them.
 ghost use Rattle.std.specs.Prelude.{◌≡◌, ◌≤◌, IfOk, OnErr};
+ghost use Rattle.std.specs.Option.{is_some};
 ghost use Rattle.btr_base.specs.declared.limits.TheConstants.{MAX_COMMIT_POINTS};
 ghost use Rattle.btr_text.specs.Input.{HaveLanes};
 ghost use Rattle.btr_jobs.specs.Jobs.{IsAt, Does};
-ghost use Rattle.btr_live.specs.Live.{LastRound, RunsLive};
+ghost use Rattle.btr_live.specs.Live.{HasReplyEach, LastRound, RunsLive};
 
 use crate::order::in_order;
 use crate::prepare::{LANES, Prepared, prepare};
@@ -38,6 +39,9 @@ pub struct LiveReport {
 /// The turns of `pace` are the lanes, 0 to 7, and 8 for the rounds. No thread is started if all lines are of one lane and no rounds are
 /// wanted.
 ///
+/// Each line has a reply, at whatever hall the lines run, and there was a last round exactly if one was wanted. What the replies say is
+/// said if the hall was opened on a history.
+///
 /// Memory for the lines and the replies is taken before anything runs: after an `Err`, which means out of memory, nothing was done. If
 /// memory runs out later, the reply to the line says so.
 ///
@@ -57,6 +61,7 @@ pub fn lanes<R: Threads + Wait + Sync, D: Disk + Send, P: Pace + Sync>(
     requires batch { (1 ≤ batch) × (batch ≤ MAX_COMMIT_POINTS) }
     ensures at { IsAt hall.now session.new }
     ensures refused { OnErr result (session.new ≡ session.old) }
+    ensures each { IfOk result (HasReplyEach materialize script.items) }
     ensures runs { IfOk result (λ report. Does hall.now session.old session.new
         (λ start log low own. RunsLive batch materialize start log low script.items report own)) }
 {
@@ -105,6 +110,7 @@ fn last_round<R: Threads + Wait + Sync, D: Disk + Send>(
 ) -> Option<Result<Report, AllocError>>
     requires at { IsAt hall.now session.old }
     ensures at { IsAt hall.now session.new }
+    ensures wanted { is_some result ≡ materialize }
     ensures last { Does hall.now session.old session.new (λ start log low own. LastRound start log low materialize result own) }
 {
     if !materialize {

@@ -13,6 +13,7 @@ mod Benign
 mod StreamLemmas
 -- the work of each command
 mod FewVersions
+mod OutputLineLemmas
 mod DistilCompletes
 pub mod DistilLemmas
 mod LoadLineLemmas

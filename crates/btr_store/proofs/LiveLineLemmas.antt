@@ -1,5 +1,6 @@
 -- What is said of a script: a line for each output that the last round refused, and the status of the device.
-use Rattle.std.specs.Prelude.{◌≡◌, ℕ, Bool, true, false, ◌||◌, List, if◌then◌else◌, Some, None}
+use Rattle.std.specs.Prelude.{◌≡◌, ◌⊎◌, ℕ, Bool, true, false, ◌||◌, List, ◌++◌, if◌then◌else◌, Some, None, Result, Ok, Err, IfOk}
+use Rattle.std.specs.declared.alloc.AllocError.{AllocError}
 use Rattle.std.specs.Option.{is_some}
 use Rattle.std.proofs.Common.{refl, sym, ap, ◌∙◌, subst}
 use Rattle.btr_disk.specs.declared.disk.Disk.{Ghosts}
@@ -13,14 +14,38 @@ use Rattle.btr_jobs.proofs.StateLemmas.{log_at, failed_halt}
 use Rattle.btr_work.specs.declared.report.ReportLine as refreshed
 use Rattle.btr_store.specs.declared.status.Status.TheVariants.{Done, DeviceFault}
 use Rattle.btr_store.specs.declared.transcript.Transcript.{Transcript}
-use Rattle.btr_store.specs.Streams.{id_of_stream}
-use Rattle.btr_store.specs.Transcript.{AddsLines}
-use Rattle.btr_store.specs.Live.{round_line, log_status}
-use Rattle.btr_store.specs.LiveLines.{refused_line}
+use Rattle.btr_live.specs.declared.live.LiveReport.{LiveReport}
+use Rattle.btr_live.specs.Live.{HasReplyEach}
+use Rattle.btr_text.specs.declared.script.ScriptLine.{ScriptLine}
+use Rattle.btr_report.specs.declared.line.ReportLine.{ReportLine}
+use Rattle.btr_store.specs.declared.status.Status.{Status}
+use Rattle.btr_store.specs.Status.{greater}
+use Rattle.btr_live.specs.Script.{text_of_replies}
+use Rattle.btr_store.specs.Replies.{IsTranscript, status_of_replies}
+use Rattle.btr_store.specs.Transcript.{AddsLines, SaysLines}
+use Rattle.btr_store.specs.Live.{AreRoundLines, SaysSomeLive, SaysSomeScript, log_status, refused_by, round_line, round_status}
 
 -- The line of an output, by its id.
-pub refused_adds : (h : List Entry) (line : refreshed.ReportLine) (id : ℕ) (old new : Transcript) → id ≡ id_of_stream h line.output → AddsLines (round_line id line.result) old new → AddsLines (refused_line h line) old new
-refused_adds h line id old new named adds = subst (λ (i : ℕ). AddsLines (round_line i line.result) old new) named adds
+pub refused_adds : (ids : ℕ → ℕ) (line : refreshed.ReportLine) (id : ℕ) (old new : Transcript) → id ≡ ids line.output → AddsLines (round_line id line.result) old new → AddsLines (refused_by ids line) old new
+refused_adds ids line id old new named adds = subst (λ (i : ℕ). AddsLines (round_line i line.result) old new) named adds
+
+-- What was said of a script, with the status of the device.
+pub some_live : (report : LiveReport) (said : List ReportLine) (device : Status) (first second : Transcript) → AreRoundLines report.last said → (device ≡ Done) ⊎ (device ≡ DeviceFault) → IsTranscript report.replies.items first → SaysLines said second → (r : Result Transcript AllocError) → IfOk r (λ t. t.text.items ≡ first.text.items ++ second.text.items) → IfOk r (λ t. t.status ≡ greater (greater first.status second.status) (greater (round_status report.last) device)) → IfOk r (SaysSomeLive report)
+some_live report said device first second of_round either replies lines (Ok t) text status = record {
+  said = said;
+  of_round = of_round;
+  device = device;
+  failed_or_not = either;
+  same_text = text ∙ ap (λ x. x ++ second.text.items) replies.same_text ∙ ap (λ x. text_of_replies report.replies.items ++ x) lines.same_text;
+  same_status = status ∙ ap (λ s. greater (greater s second.status) (greater (round_status report.last) device)) replies.same_status
+      ∙ ap (λ s. greater (greater (status_of_replies report.replies.items) s) (greater (round_status report.last) device)) lines.same_status;
+}
+some_live report said device first second of_round either replies lines (Err error) text status = tt
+
+-- Each line of the script has a reply.
+pub some_script : (materialize : Bool) (script : List ScriptLine) (report : LiveReport) (said : Result Transcript AllocError) → HasReplyEach materialize script report → IfOk said (SaysSomeLive report) → IfOk said (SaysSomeScript materialize script)
+some_script materialize script report (Ok t) each says = record { report = report; each = each; says = says }
+some_script materialize script report (Err error) each says = tt
 
 -- ---- whether the device failed
 

@@ -1,6 +1,6 @@
 -- Lemmas on the lines of a sample.
 use Rattle.std.specs.Prelude.{◌≡◌, ℕ, zero, suc, ◌+◌, ◌<◌, ◌≤◌, Bool, false, nat_le, nat_lt, List, [], ◌∷◌, ◌++◌, take, length, map, flat_map, get_or, if◌then◌else◌, Option}
-use Rattle.std.specs.List.{range_with_len}
+use Rattle.std.specs.List.{AllByRecursion, range_with_len}
 use Rattle.std.proofs.Common.{sym, ap, ◌∙◌, subst, arith, append_assoc}
 use Rattle.std.proofs.lemmas.List.{append-nil, take_more, take_all, map_push}
 use Rattle.std.proofs.lemmas.Bool.{lt-leb, le-ltb}
@@ -22,8 +22,7 @@ use Rattle.btr_report.specs.declared.line.ReportLine.{ReportLine}
 use Rattle.btr_report.specs.declared.line.ReportLine.TheVariants as lines
 use Rattle.btr_store.specs.declared.transcript.Transcript.{Transcript}
 use Rattle.btr_store.specs.Transcript.{SaysLines, AddsLine, AddsLines}
-use Rattle.btr_store.specs.Streams.{id_of_stream}
-use Rattle.btr_store.specs.SampleLines.{refusal_line, landing_refusal, landing_line, summary_line}
+use Rattle.btr_store.specs.SampleLines.{IsSummary, refusal_line, landing_refusal, landing_by, summary_line}
 use Rattle.btr_store.proofs.TranscriptLemmas.{adds_then}
 
 -- ---- the lines of a list
@@ -44,8 +43,8 @@ pub adds_whole : {A : Type 0} (f : A → List ReportLine) (l : List A) (i : ℕ)
 adds_whole f l i old new le adds = subst (λ m. AddsLines (flat_map f m) old new) (take_all i l le) adds
 
 -- The line of an output of a report.
-pub landing_adds : (h : List Entry) (line : refreshed.ReportLine) (id : ℕ) (refused : Option Reason) (old new : Transcript) → id ≡ id_of_stream h line.output → refused ≡ landing_refusal line.result → AddsLines (refusal_line id refused) old new → AddsLines (landing_line h line) old new
-landing_adds h line id refused old new named why adds =
+pub landing_adds : (ids : ℕ → ℕ) (line : refreshed.ReportLine) (id : ℕ) (refused : Option Reason) (old new : Transcript) → id ≡ ids line.output → refused ≡ landing_refusal line.result → AddsLines (refusal_line id refused) old new → AddsLines (landing_by ids line) old new
+landing_adds ids line id refused old new named why adds =
     subst (λ (i : ℕ). AddsLines (refusal_line i (landing_refusal line.result)) old new) named
     (subst (λ (r : Option Reason). AddsLines (refusal_line id r) old new) why adds)
 
@@ -66,6 +65,15 @@ adds_next f n line old mid new is before one =
     let items : map f (range_with_len 0 (n + 1)) ≡ map f (range_with_len 0 n) ++ line ∷ [] =
     ap (map f) range ∙ map_push f (range_with_len 0 n) n ∙ ap (λ x. map f (range_with_len 0 n) ++ x ∷ []) (sym is) in
     subst (λ (more : List ReportLine). AddsLines more old new) (sym items) (adds_then (map f (range_with_len 0 n)) (line ∷ []) old mid new before one)
+
+-- The line of one stream more.
+pub summaries_more : (line : ReportLine) (old mid new : Transcript) → (said : List ReportLine) × AllByRecursion IsSummary said × AddsLines said old mid → IsSummary line → AddsLine line mid new → (said : List ReportLine) × AllByRecursion IsSummary said × AddsLines said old new
+summaries_more line old mid new before is one =
+    (before.0 ++ line ∷ [], all_push before.0 before.1, adds_then before.0 (line ∷ []) old mid new before.2 one)
+  where
+    all_push : (said : List ReportLine) → AllByRecursion IsSummary said → AllByRecursion IsSummary (said ++ line ∷ [])
+    all_push [] all = (is, tt)
+    all_push (first ∷ said) all = (all.0, all_push said all.1)
 
 -- ---- the line of a stream
 

@@ -1,4 +1,5 @@
 -- Lemmas on transcripts: a line that is added is the last one.
+use Rattle.std.specs.declared.alloc.AllocError.{AllocError}
 use Rattle.std.specs.Prelude.{◌≡◌, ℕ, List, [], ◌∷◌, ◌++◌, Result, Ok, Err, OnOk, IfOk}
 use Rattle.std.proofs.Common.{refl, sym, ◌∙◌, ap, append_assoc, subst}
 use Rattle.std.proofs.lemmas.List.{append-nil}
@@ -56,3 +57,8 @@ on_ok (Err e) P Q along p = tt
 pub if_ok : {T E : Type 0} (result : Result T E) (P Q : T → Type 0) → ((x : T) → P x → Q x) → IfOk result P → IfOk result Q
 if_ok (Ok x) P Q along p = along x p
 if_ok (Err e) P Q along p = tt
+
+-- What is said in the end is what was said.
+pub still_said : (P : Transcript → Type 0) (said reported : Result Transcript AllocError) → IfOk reported (λ t. said ≡ Ok t) → IfOk said P → IfOk reported P
+still_said P said (Ok t) is says = subst (λ (r : Result Transcript AllocError). IfOk r P) is says
+still_said P said (Err error) is says = tt

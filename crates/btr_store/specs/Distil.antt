@@ -1,5 +1,5 @@
 -- What bringing each output up to date once does, and what it says of each.
-use Rattle.std.specs.Prelude.{◌≡◌, ℕ, ◌≤◌, List, map, Option, Some, None, Result, Ok, Err, IfSome}
+use Rattle.std.specs.Prelude.{◌≡◌, ℕ, ◌≤◌, List, [], ◌∷◌, map, Option, Some, None, Result, Ok, Err, IfSome}
 use Rattle.std.specs.List.{AllByRecursion}
 use Rattle.std.specs.Option.{unwrap_or}
 use Rattle.std.specs.declared.alloc.AllocError.{AllocError}
@@ -50,6 +50,33 @@ line_of_output h id output (results.Refused fault) = lines.OutputRefused id (rea
 -- The line of an output after this history.
 abbrev pub output_line : List Entry → refreshed.ReportLine → ReportLine
 output_line h line = line_of_output h (id_of_stream h line.output) line.output line.result
+
+-- ---- the lines on each device
+
+-- The line of an output that is up to date: some version, and what it has read.
+abbrev pub IsCurrentLine : ReportLine → Type 0
+IsCurrentLine line = (id version : ℕ) × (reads : Reads) × (line ≡ lines.OutputCurrent id version reads)
+
+-- The line of an output of which this became.
+abbrev pub IsOutputLine : Refreshed → ReportLine → Type 0
+IsOutputLine (results.Landed version) line = IsCurrentLine line
+IsOutputLine (results.Current version) line = IsCurrentLine line
+IsOutputLine (results.Refused fault) line = (id : ℕ) × (line ≡ lines.OutputRefused id (reason_of_landing fault))
+
+-- One line for each output of a report, in order.
+abbrev pub AreOutputLines : List refreshed.ReportLine → List ReportLine → Type 0
+AreOutputLines [] [] = Unit {0}
+AreOutputLines [] (line ∷ said) = ⊥
+AreOutputLines (output ∷ report) [] = ⊥
+AreOutputLines (output ∷ report) (line ∷ said) = IsOutputLine output.result line × AreOutputLines report said
+
+-- The transcript has a line for each output of the report.
+abbrev pub SaysOutputs : List refreshed.ReportLine → Transcript → Type 0
+SaysOutputs report transcript = (said : List ReportLine) × AreOutputLines report said × SaysLines said transcript
+
+-- The transcript has the lines of a report, whatever became of its outputs.
+abbrev pub SaysSomeReport : Transcript → Type 0
+SaysSomeReport transcript = (report : List refreshed.ReportLine) × SaysOutputs report transcript
 
 -- ---- the work
 

@@ -1,5 +1,5 @@
 -- What a script did on a store, and what is written of it.
-use Rattle.std.specs.Prelude.{◌≡◌, ℕ, Bool, false, List, [], ◌∷◌, ◌++◌, flat_map, if◌then◌else◌}
+use Rattle.std.specs.Prelude.{◌≡◌, ◌⊎◌, ℕ, Bool, false, List, [], ◌∷◌, ◌++◌, flat_map, if◌then◌else◌}
 use Rattle.std.specs.Prelude.{Option, Some, None, Result, Ok, Err, IfSome}
 use Rattle.std.specs.Option.{is_some}
 use Rattle.std.specs.List.{AllByRecursion}
@@ -14,7 +14,7 @@ use Rattle.btr_work.specs.Laws.{IsCurrentIn}
 use Rattle.btr_report.specs.declared.line.ReportLine.{ReportLine}
 use Rattle.btr_report.specs.declared.line.ReportLine.TheVariants as lines
 use Rattle.btr_live.specs.declared.live.LiveReport.{LiveReport}
-use Rattle.btr_live.specs.Live.{RunsLive}
+use Rattle.btr_live.specs.Live.{HasReplyEach, RunsLive}
 use Rattle.btr_live.specs.OneHistory.{OneHistory}
 use Rattle.btr_live.specs.Script.{text_of_replies}
 use Rattle.btr_live.specs.OneLane.{AreInLane, RunsAlone}
@@ -38,6 +38,10 @@ abbrev pub round_line : ℕ → Refreshed → List ReportLine
 round_line id (results.Landed version) = []
 round_line id (results.Current version) = []
 round_line id (results.Refused fault) = lines.RoundRefused id (reason_of_landing fault) ∷ []
+
+-- The line of an output, if a round refused it, by ids of outputs.
+abbrev pub refused_by : (ℕ → ℕ) → refreshed.ReportLine → List ReportLine
+refused_by ids line = round_line (ids line.output) line.result
 
 -- The lines of the last round, after this history.
 abbrev pub round_lines : List Entry → LastResult → List ReportLine
@@ -66,6 +70,31 @@ abbrev pub SaysScript : LogState → Option LiveReport → Result Transcript All
 SaysScript log report (Err error) = Unit {0}
 SaysScript log None (Ok transcript) = ⊥
 SaysScript log (Some report) (Ok transcript) = SaysLive log report transcript
+
+-- ---- what is written on each device
+
+-- These are the lines of the last round, by some ids of its outputs.
+abbrev pub AreRoundLines : LastResult → List ReportLine → Type 0
+AreRoundLines None said = said ≡ []
+AreRoundLines (Some (Err error)) said = said ≡ []
+AreRoundLines (Some (Ok report)) said = (ids : ℕ → ℕ) × (said ≡ flat_map (refused_by ids) report)
+
+-- The transcript has the replies in the order of the script, and then the lines of the last round. Its status is the greatest, also of one
+-- that says whether the device failed.
+pub record SaysSomeLive (report : LiveReport) (t : Transcript) : Type 0 where
+  pub said : List ReportLine
+  pub of_round : AreRoundLines report.last said
+  pub device : Status
+  pub failed_or_not : (device ≡ Done) ⊎ (device ≡ DeviceFault)
+  pub same_text : t.text.items ≡ text_of_replies report.replies.items ++ text_of_lines said
+  pub same_status : t.status ≡ greater (greater (status_of_replies report.replies.items) (status_of_lines said))
+      (greater (round_status report.last) device)
+
+-- The transcript has a reply to each line of the script, and then the lines of a last round if one was wanted.
+pub record SaysSomeScript (materialize : Bool) (script : List ScriptLine) (t : Transcript) : Type 0 where
+  pub report : LiveReport
+  pub each : HasReplyEach materialize script report
+  pub says : SaysSomeLive report t
 
 -- ---- what is done
 

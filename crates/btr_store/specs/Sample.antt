@@ -1,5 +1,5 @@
 -- What filling an empty store with a sample does, and what it says.
-use Rattle.std.specs.Prelude.{◌≡◌, ℕ, ◌+◌, List, [], ◌∷◌, length, Option, Some, None, Result, Ok, Err, IfOk}
+use Rattle.std.specs.Prelude.{◌≡◌, ◌⊎◌, ℕ, ◌+◌, List, [], ◌∷◌, length, Option, Some, None, Result, Ok, Err, IfOk}
 use Rattle.std.specs.declared.alloc.AllocError.{AllocError}
 use Rattle.btr_hist.specs.declared.entry.Entry.{Entry}
 use Rattle.btr_rows.specs.Rows.{rows_of}
@@ -18,7 +18,7 @@ use Rattle.btr_store.specs.Transcript.{SaysLines}
 use Rattle.btr_store.specs.Distil.{RefreshesIf}
 use Rattle.btr_store.specs.Load.{LoadsIf}
 use Rattle.btr_store.specs.Define.{DefinesEach}
-use Rattle.btr_store.specs.SampleLines.{SaysAll}
+use Rattle.btr_store.specs.SampleLines.{SaysAll, SaysSomeFilled}
 
 -- ---- what is done
 
@@ -75,6 +75,12 @@ pub record LeavesUsed (log : LogState) (low : List Entry) (said : Result Transcr
 abbrev pub Samples : ℕ → ℕ → ℕ → StoreState → LogState → List Entry → Result Transcript AllocError → List ℕ → Type 0
 Samples number streams points start log [] said own = Fills number streams points start log [] said own
 Samples number streams points start log (e ∷ low) said own = LeavesUsed log (e ∷ low) said own
+
+-- The transcript has the lines of a sample on each device: that the store is used, or what was done to it, with an output for each stream.
+abbrev pub SaysSomeSample : ℕ → Transcript → Type 0
+SaysSomeSample streams t =
+    ((entries : ℕ) × SaysLines (lines.Used entries ∷ []) t)
+    ⊎ ((filled : Filled) × (length filled.outputs.items ≡ streams) × SaysSomeFilled filled t)
 
 -- ---- what private functions promise
 

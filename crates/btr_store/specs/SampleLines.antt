@@ -1,8 +1,8 @@
 -- The lines of a sample.
-use Rattle.std.specs.Prelude.{ℕ, List, [], ◌∷◌, ◌++◌, map, flat_map, length, Option, Some, None}
-use Rattle.std.specs.List.{range_with_len}
+use Rattle.std.specs.Prelude.{◌≡◌, ℕ, List, [], ◌∷◌, ◌++◌, map, flat_map, length, Option, Some, None}
+use Rattle.std.specs.List.{AllByRecursion, range_with_len}
 use Rattle.btr_base.specs.declared.limits.TheConstants.{FIRST, END}
-use Rattle.btr_base.specs.Agg.{agg_within}
+use Rattle.btr_base.specs.Agg.{AggValue, agg_within}
 use Rattle.btr_hist.specs.declared.entry.Entry.{Entry}
 use Rattle.btr_hist.specs.History.{ids, latest, bag}
 use Rattle.btr_text.specs.declared.reply.Reason.{Reason}
@@ -38,9 +38,13 @@ landing_refusal (results.Landed version) = None
 landing_refusal (results.Current version) = None
 landing_refusal (results.Refused fault) = Some (reason_of_landing fault)
 
+-- The line of an output, if it was not brought up to date, by ids of outputs.
+abbrev pub landing_by : (ℕ → ℕ) → refreshed.ReportLine → List ReportLine
+landing_by ids line = refusal_line (ids line.output) (landing_refusal line.result)
+
 -- The line of an output after this history, if it was not brought up to date.
 abbrev pub landing_line : List Entry → refreshed.ReportLine → List ReportLine
-landing_line h line = refusal_line (id_of_stream h line.output) (landing_refusal line.result)
+landing_line h line = landing_by (id_of_stream h) line
 
 -- ---- the streams at the end
 
@@ -64,3 +68,19 @@ SaysAll h loaded outputs report t =
 
 abbrev pub SaysFilled : List Entry → Filled → Transcript → Type 0
 SaysFilled h filled t = SaysAll h filled.loaded filled.outputs.items filled.report t
+
+-- ---- the lines on each device
+
+-- The line of a stream: some version, and an aggregate.
+abbrev pub IsSummary : ReportLine → Type 0
+IsSummary line = (id version : ℕ) × (agg : AggValue) × (line ≡ lines.StreamSummary id version agg)
+
+-- The transcript has the lines of what was done to a store, and then lines of streams.
+pub record SaysSomeFilled (filled : Filled) (t : Transcript) : Type 0 where
+  pub rows : List RefusedNumber
+  pub refused : AreRefused filled.loaded rows
+  pub ids : ℕ → ℕ
+  pub streams : List ReportLine
+  pub summaries : AllByRecursion IsSummary streams
+  pub says : SaysLines (map row_line rows ++ flat_map stream_spans filled.loaded.streams ++ flat_map define_line filled.outputs.items
+      ++ flat_map (landing_by ids) filled.report ++ streams) t

@@ -1,5 +1,5 @@
 -- The streams of a history, by their numbers.
-use Rattle.std.specs.Prelude.{◌≡◌, ℕ, List, slice_index_or}
+use Rattle.std.specs.Prelude.{◌≡◌, ℕ, List, slice_get, slice_index_or, Option, Some, None}
 use Rattle.std.specs.Option.{unwrap_or}
 use Rattle.btr_disk.specs.declared.disk.Disk.{Ghosts}
 use Rattle.btr_hist.specs.declared.entry.Entry.{Entry}
@@ -17,6 +17,15 @@ AreStreams h rows = rows ≡ rows_from h 0 (ids h)
 -- The id of the stream with this number.
 abbrev pub id_of_stream : List Entry → ℕ → ℕ
 id_of_stream h stream = slice_index_or (ids h) stream 0
+
+-- The id of a row that was looked up, or 0 if there is none.
+abbrev pub id_of_row : Option StreamRow → ℕ
+id_of_row None = 0
+id_of_row (Some row) = row.id
+
+-- The id of the stream with this number, by the rows of all streams.
+abbrev pub id_in : List StreamRow → ℕ → ℕ
+id_in rows stream = id_of_row (slice_get rows stream)
 
 -- The latest version of the stream with this number.
 abbrev pub version_of_stream : List Entry → ℕ → ℕ

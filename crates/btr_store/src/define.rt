@@ -35,6 +35,7 @@ pub(crate) fn define_outputs<R: Threads + Wait + Sync, D: Disk>(
     requires alone { IsAlone session.old }
     ensures at { IsAt hall.now session.new }
     ensures alone { IsAlone session.new }
+    ensures each { IfOk result (λ outputs. length outputs.items ≡ streams) }
     ensures does { Does hall.now session.old session.new
         (λ start log low own. DefinesAll streams start log low result own) }
 {

@@ -11,6 +11,7 @@ ghost use Rattle.btr_store.specs.Work.{DoesRightly, IfHolds, IsPlainWork};
 ghost use Rattle.btr_store.specs.Transcript.{SaysLines};
 ghost use Rattle.btr_store.specs.Streams.{AreStreams, Stays};
 ghost use Rattle.btr_store.specs.Distil.{Distils, DistilsInTurn, DistilsStore, output_line, current_line, nothing_of};
+ghost use Rattle.btr_store.specs.Distil.{IsCurrentLine, IsOutputLine, SaysOutputs, SaysSomeReport};
 
 use crate::streams::{all_streams, id_of};
 use crate::transcript::Transcript;
@@ -43,8 +44,9 @@ use std::thread::Threads;
 /// It costs the reading of the store, logarithmic time for each stream, and what the outputs need. If there is no memory for the
 /// lines, all outputs may have been brought up to date, or none.
 ///
-/// What is said of histories holds if the device can be observed and held one when it was opened. On each device the store was sound when
-/// it was opened, if the device can be observed; and if the status or `failed` says that the device failed, its count of faults rose.
+/// What is said of histories holds if the device can be observed and held one when it was opened. On each device there is a line for each
+/// output of a report. On each device the store was sound when it was opened, if the device can be observed; and if the status or `failed`
+/// says that the device failed, its count of faults rose.
 pub fn distil_store<R: Threads + Wait + Sync, D: Disk + Send, P: Pace + Sync>(
     rt: &R,
     alloc: Global,
@@ -53,6 +55,7 @@ pub fn distil_store<R: Threads + Wait + Sync, D: Disk + Send, P: Pace + Sync>(
     disk: D,
 ) -> Result<Worked<D>, OpenFault<D>>
     ensures plain { IfOk result (λ w. IsPlainWork ⟦<D as Disk>⟧ disk w.said w.failed w.disk) }
+    ensures says { IfOk result (λ w. IfOk w.said SaysSomeReport) }
     ensures done { IfOk result (λ w. IfHolds ⟦<D as Disk>⟧ disk (DoesRightly ⟦<D as Disk>⟧
         (λ start log own. DistilsStore start log workers w.said own) w.failed disk w.disk)) }
     ensures refused { IfErr result (IsNotOpened ⟦<D as Disk>⟧ disk) }
@@ -75,6 +78,7 @@ fn distil<R: Threads + Wait + Sync, D: Disk + Send, P: Pace + Sync>(
     requires alone { IsAlone session.old }
     ensures at { IsAt hall.now session.new }
     ensures alone { IsAlone session.new }
+    ensures says { IfOk result SaysSomeReport }
     ensures does { Does hall.now session.old session.new (λ start log low own. Distils start log low result own) }
     ensures in_turn { workers ≤ 1 → Does hall.now session.old session.new
         (λ start log low own. DistilsInTurn start log low result own) }
@@ -97,6 +101,7 @@ fn say_report<R: Wait, D: Disk>(
     requires alone { IsAlone session.old }
     ensures at { IsAt hall.now session.new }
     ensures stays { Stays session.old session.new }
+    ensures some { IfOk result (SaysOutputs report.now) }
     ensures says { (h : List EntrySpec) → IsEngineOf h (opening_of hall.now)
         → IfOk result (SaysLines (map (output_line (history_of h (seen_of session.old))) report.now)) }
 {
@@ -110,7 +115,8 @@ fn output_lines(
     snapshot: &Snapshot,
     report: &Report,
 ) -> Result<Transcript, AllocError>
-    ensures { (h : List EntrySpec) → IsSnapshotOf h snapshot.now → IfOk result (SaysLines (map (output_line h) report.now)) }
+    ensures some { IfOk result (SaysOutputs report.now) }
+    ensures says { (h : List EntrySpec) → IsSnapshotOf h snapshot.now → IfOk result (SaysLines (map (output_line h) report.now)) }
 {
     let streams = all_streams(alloc, snapshot)?;
     let mut transcript = Transcript::new(alloc);
@@ -122,7 +128,8 @@ fn output_lines(
 
 /// Returns the line of an output of this snapshot, which has these streams.
 fn output_line(snapshot: &Snapshot, streams: &[StreamRow], line: RefreshLine) -> ReportLine
-    ensures { (h : List EntrySpec) → IsSnapshotOf h snapshot.now → AreStreams h streams.now → result ≡ output_line h line }
+    ensures some { IsOutputLine line.result result }
+    ensures line { (h : List EntrySpec) → IsSnapshotOf h snapshot.now → AreStreams h streams.now → result ≡ output_line h line }
 {
     let id = id_of(streams, line.output);
     match line.result {
@@ -138,7 +145,8 @@ fn output_line(snapshot: &Snapshot, streams: &[StreamRow], line: RefreshLine) ->
 
 /// Returns the line of an output that is up to date.
 fn current_line(snapshot: &Snapshot, id: u128, output: u32) -> ReportLine
-    ensures { (h : List EntrySpec) → IsSnapshotOf h snapshot.now → result ≡ current_line h id output }
+    ensures some { IsCurrentLine result }
+    ensures line { (h : List EntrySpec) → IsSnapshotOf h snapshot.now → result ≡ current_line h id output }
 {
     let version = snapshot.latest(output).unwrap_or(0);
     let reads = match snapshot.reads(output, version) {

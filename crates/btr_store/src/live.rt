@@ -7,7 +7,7 @@ ghost use Rattle.btr_open.specs.Opening.{IsNotOpened};
 ghost use Rattle.btr_hall.specs.Session.{IsAlone, opening_of};
 ghost use Rattle.btr_jobs.specs.Jobs.{IsAt, Does};
 ghost use Rattle.btr_store.specs.Work.{DoesRightly, IfHolds, IsPlainWork};
-ghost use Rattle.btr_store.specs.Live.{LivesStore};
+ghost use Rattle.btr_store.specs.Live.{LivesStore, SaysSomeScript};
 ghost use Rattle.btr_store.specs.LiveLines.{Lives};
 
 use crate::live_lines::say_live;
@@ -34,8 +34,9 @@ use std::thread::Threads;
 /// It costs the reading of the store, time linear in the script, and what its lines and rounds need. If there is no memory for the
 /// replies, no line ran; if there is none for their text, all lines ran.
 ///
-/// What is said of histories holds if the device can be observed and held one when it was opened. On each device the store was sound when
-/// it was opened, if the device can be observed; and if the status or `failed` says that the device failed, its count of faults rose.
+/// What is said of histories holds if the device can be observed and held one when it was opened. On each device there is a reply for each
+/// line, and then the lines of a last round, if one was wanted. On each device the store was sound when it was opened, if the device can be
+/// observed; and if the status or `failed` says that the device failed, its count of faults rose.
 pub fn live_store<R: Threads + Wait + Sync, D: Disk + Send, P: Pace + Sync>(
     rt: &R,
     alloc: Global,
@@ -48,6 +49,7 @@ pub fn live_store<R: Threads + Wait + Sync, D: Disk + Send, P: Pace + Sync>(
     requires batch { (1 ≤ batch) × (batch ≤ MAX_COMMIT_POINTS) }
     requires lanes { HaveLanes lines.items }
     ensures plain { IfOk result (λ w. IsPlainWork ⟦<D as Disk>⟧ disk w.said w.failed w.disk) }
+    ensures says { IfOk result (λ w. IfOk w.said (SaysSomeScript materialize lines.items)) }
     ensures done { IfOk result (λ w. IfHolds ⟦<D as Disk>⟧ disk (DoesRightly ⟦<D as Disk>⟧
         (λ start log own. LivesStore batch materialize lines.items start log w.said own) w.failed disk w.disk)) }
     ensures refused { IfErr result (IsNotOpened ⟦<D as Disk>⟧ disk) }
@@ -84,10 +86,10 @@ fn live<R: Threads + Wait + Sync, D: Disk + Send, P: Pace + Sync>(
     requires runs { is_stopped (opening_of hall.now) ≡ false }
     requires at { IsAt hall.now session.old }
     requires alone { IsAlone session.old }
-    requires lanes { HaveLanes lines.items }
-    requires batch { (1 ≤ batch) × (batch ≤ MAX_COMMIT_POINTS) }
+    requires script { HaveLanes lines.items × (1 ≤ batch) × (batch ≤ MAX_COMMIT_POINTS) }
     ensures at { IsAt hall.now session.new }
     ensures alone { IsAlone session.new }
+    ensures says { IfOk result (SaysSomeScript materialize lines.items) }
     ensures does { Does hall.now session.old session.new
         (λ start log low own. Lives batch materialize lines.items start log low result own) }
 {

@@ -1,5 +1,5 @@
 //! What `live` says of a script that ran: the replies, and the outputs that the last round refused.
-ghost use Rattle.std.specs.Prelude.{◌≡◌, ◌++◌, false, List, flat_map, IfOk, OnOk};
+ghost use Rattle.std.specs.Prelude.{◌≡◌, ◌⊎◌, ℕ, ◌++◌, false, List, flat_map, IfOk, OnOk};
 ghost use Rattle.btr_hist.specs.declared.entry.Entry.{Entry as EntrySpec};
 ghost use Rattle.btr_engine.specs.Engine.{is_stopped, IsEngineOf};
 ghost use Rattle.btr_streams.specs.Snapshot.{IsSnapshotOf};
@@ -8,10 +8,12 @@ ghost use Rattle.btr_hall.specs.Session.{IsAlone, opening_of, seen_of};
 ghost use Rattle.btr_jobs.specs.States.{log_seen};
 ghost use Rattle.btr_jobs.specs.Jobs.{IsAt};
 ghost use Rattle.btr_store.specs.Status.{greater};
-ghost use Rattle.btr_store.specs.Streams.{AreStreams, Stays};
+ghost use Rattle.btr_report.specs.declared.line.ReportLine.{ReportLine as LineSpec};
+ghost use Rattle.btr_store.specs.declared.status.Status.TheVariants.{Done, DeviceFault};
+ghost use Rattle.btr_store.specs.Streams.{Stays, id_in};
 ghost use Rattle.btr_store.specs.Transcript.{AddsLines, SaysLines};
 ghost use Rattle.btr_store.specs.Replies.{IsTranscript};
-ghost use Rattle.btr_store.specs.Live.{SaysLive, log_status, round_line, round_lines, round_status};
+ghost use Rattle.btr_store.specs.Live.{AreRoundLines, SaysLive, SaysSomeLive, log_status, refused_by, round_line, round_lines, round_status};
 ghost use Rattle.btr_store.specs.LiveLines.{refused_line};
 
 use crate::replies::{add_reply, no_replies};
@@ -44,6 +46,7 @@ pub(crate) fn say_live<R: Wait, D: Disk>(
     requires alone { IsAlone session.old }
     ensures at { IsAt hall.now session.new }
     ensures stays { Stays session.old session.new }
+    ensures some { IfOk result (SaysSomeLive report.now) }
     ensures says { (h : List EntrySpec) → IsEngineOf h (opening_of hall.now) → IfOk result (SaysLive (log_seen h session.old) report.now) }
 {
     let said = say_replies(alloc, &report.replies)?;
@@ -75,6 +78,7 @@ fn say_last<R: Wait, D: Disk>(
     requires alone { IsAlone session.old }
     ensures at { IsAt hall.now session.new }
     ensures stays { Stays session.old session.new }
+    ensures some { IfOk result (λ t. (said : List LineSpec) × AreRoundLines last.now said × SaysLines said t) }
     ensures says { (h : List EntrySpec) → IsEngineOf h (opening_of hall.now)
         → IfOk result (SaysLines (round_lines (history_of h (seen_of session.old)) last.now)) }
 {
@@ -93,7 +97,8 @@ fn refused_lines(
     snapshot: &Snapshot,
     report: &Report,
 ) -> Result<Transcript, AllocError>
-    ensures { (h : List EntrySpec) → IsSnapshotOf h snapshot.now → IfOk result (SaysLines (flat_map (refused_line h) report.now)) }
+    ensures some { IfOk result (λ t. (ids : ℕ → ℕ) × SaysLines (flat_map (refused_by ids) report.now) t) }
+    ensures says { (h : List EntrySpec) → IsSnapshotOf h snapshot.now → IfOk result (SaysLines (flat_map (refused_line h) report.now)) }
 {
     let streams = all_streams(alloc, snapshot)?;
     let mut transcript = Transcript::new(alloc);
@@ -107,8 +112,7 @@ fn add_refused(
     streams: &[StreamRow],
     report: &[RefreshLine],
 ) -> Result<(), AllocError>
-    ensures { (h : List EntrySpec) → AreStreams h streams.now
-        → OnOk result (AddsLines (flat_map (refused_line h) report.now) transcript.old transcript.new) }
+    ensures { OnOk result (AddsLines (flat_map (refused_by (id_in streams.now)) report.now) transcript.old transcript.new) }
 {
     for line in report {
         add_if_refused(transcript, id_of(streams, line.output), line.result)?;
@@ -150,6 +154,7 @@ fn device_status<R: Wait, D: Disk>(rt: &R, hall: &Hall<D>, session: &mut Session
     requires alone { IsAlone session.old }
     ensures at { IsAt hall.now session.new }
     ensures stays { Stays session.old session.new }
+    ensures some { (result ≡ Done) ⊎ (result ≡ DeviceFault) }
     ensures status { (h : List EntrySpec) → IsEngineOf h (opening_of hall.now) → result ≡ log_status (log_seen h session.old) }
 {
     match session.stopped(rt, hall) {

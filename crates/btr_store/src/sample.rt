@@ -1,5 +1,5 @@
 //! The work of `sample`: an empty store is filled with the points of a generator, and with an output for each stream.
-ghost use Rattle.std.specs.Prelude.{◌≡◌, ℕ, List, [], ◌∷◌, IfErr, IfOk};
+ghost use Rattle.std.specs.Prelude.{◌≡◌, ℕ, List, [], ◌∷◌, length, IfErr, IfOk};
 ghost use Rattle.btr_hist.specs.declared.entry.Entry.{Entry as EntrySpec};
 ghost use Rattle.btr_engine.specs.Engine.{IsEngineOf};
 ghost use Rattle.btr_open.specs.Opening.{IsNotOpened};
@@ -10,9 +10,9 @@ ghost use Rattle.btr_report.specs.declared.line.ReportLine.TheVariants as lines;
 ghost use Rattle.btr_store.specs.Work.{DoesRightly, IfHolds, IsPlainWork};
 ghost use Rattle.btr_store.specs.Transcript.{SaysLines};
 ghost use Rattle.btr_store.specs.Streams.{Stays};
-ghost use Rattle.btr_store.specs.Sample.{IsFilledInPart, Samples, rows_of_sample};
+ghost use Rattle.btr_store.specs.Sample.{IsFilledInPart, Samples, SaysSomeSample, rows_of_sample};
 ghost use Rattle.btr_store.specs.SampleLaw.{SamplesStore};
-ghost use Rattle.btr_store.specs.SampleLines.{SaysFilled};
+ghost use Rattle.btr_store.specs.SampleLines.{SaysFilled, SaysSomeFilled};
 
 use crate::define::{DefinedOutput, define_outputs};
 use crate::sample_lines::filled_lines;
@@ -77,8 +77,9 @@ pub(crate) struct Filled {
 /// It costs the reading of the store, time and memory linear in the points, and what the entries need. If there is no memory for the
 /// lines, or for a part of the work, what was done before stays.
 ///
-/// What is said of histories holds if the device can be observed and held one when it was opened. On each device the store was sound when
-/// it was opened, if the device can be observed; and if the status or `failed` says that the device failed, its count of faults rose.
+/// What is said of histories holds if the device can be observed and held one when it was opened. On each device the lines say that the
+/// store is used, or what was done to it. On each device the store was sound when it was opened, if the device can be observed; and if the
+/// status or `failed` says that the device failed, its count of faults rose.
 pub fn sample_store<R: Threads + Wait + Sync, D: Disk + Send, P: Pace + Sync>(
     rt: &R,
     alloc: Global,
@@ -89,6 +90,7 @@ pub fn sample_store<R: Threads + Wait + Sync, D: Disk + Send, P: Pace + Sync>(
     disk: D,
 ) -> Result<Worked<D>, OpenFault<D>>
     ensures plain { IfOk result (λ w. IsPlainWork ⟦<D as Disk>⟧ disk w.said w.failed w.disk) }
+    ensures says { IfOk result (λ w. IfOk w.said (SaysSomeSample streams)) }
     ensures done { IfOk result (λ w. IfHolds ⟦<D as Disk>⟧ disk (DoesRightly ⟦<D as Disk>⟧
         (λ start log own. SamplesStore number streams points start log w.said own) w.failed disk w.disk)) }
     ensures refused { IfErr result (IsNotOpened ⟦<D as Disk>⟧ disk) }
@@ -116,6 +118,7 @@ fn sample<R: Threads + Wait + Sync, D: Disk + Send, P: Pace + Sync>(
     requires alone { IsAlone session.old }
     ensures at { IsAt hall.now session.new }
     ensures alone { IsAlone session.new }
+    ensures says { IfOk result (SaysSomeSample parameters.streams) }
     ensures does { Does hall.now session.old session.new
         (λ start log low own. Samples parameters.number parameters.streams parameters.points start log low result own) }
 {
@@ -151,6 +154,7 @@ fn fill<R: Threads + Wait + Sync, D: Disk + Send, P: Pace + Sync>(
     requires alone { IsAlone session.old }
     ensures at { IsAt hall.now session.new }
     ensures alone { IsAlone session.new }
+    ensures each { IfOk result (λ filled. length filled.outputs.items ≡ parameters.streams) }
     ensures does { Does hall.now session.old session.new
         (λ start log low own. IsFilledInPart parameters.number parameters.streams parameters.points start log low result own) }
 {
@@ -190,6 +194,7 @@ fn say_filled<R: Wait, D: Disk>(
     requires alone { IsAlone session.old }
     ensures at { IsAt hall.now session.new }
     ensures stays { Stays session.old session.new }
+    ensures some { IfOk result (SaysSomeFilled filled.now) }
     ensures says { (h : List EntrySpec) → IsEngineOf h (opening_of hall.now)
         → IfOk result (SaysFilled (history_of h (seen_of session.old)) filled.now) }
 {

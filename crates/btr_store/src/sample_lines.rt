@@ -1,13 +1,15 @@
 //! The lines of `sample`.
 ghost use Rattle.std.specs.Prelude.{◌≡◌, ◌<◌, List, length, flat_map, IfOk, OnOk};
+ghost use Rattle.std.specs.List.{AllByRecursion};
 ghost use Rattle.btr_hist.specs.declared.entry.Entry.{Entry as EntrySpec};
 ghost use Rattle.btr_hist.specs.History.{ids};
 ghost use Rattle.btr_streams.specs.Snapshot.{IsSnapshotOf};
 ghost use Rattle.btr_store.specs.Transcript.{AddsLines};
-ghost use Rattle.btr_store.specs.Streams.{AreStreams};
+ghost use Rattle.btr_report.specs.declared.line.ReportLine.{ReportLine as LineSpec};
+ghost use Rattle.btr_store.specs.Streams.{AreStreams, id_in};
 ghost use Rattle.btr_store.specs.LoadLines.{stream_spans};
-ghost use Rattle.btr_store.specs.SampleLines.{SaysFilled, summary_line, summary_lines, define_line, landing_line, landing_refusal};
-ghost use Rattle.btr_store.specs.SampleLines.{refusal_line};
+ghost use Rattle.btr_store.specs.SampleLines.{SaysFilled, summary_line, summary_lines, define_line, landing_by, landing_refusal};
+ghost use Rattle.btr_store.specs.SampleLines.{IsSummary, SaysSomeFilled, refusal_line};
 
 use crate::define::DefinedOutput;
 use crate::load_lines::{add_spans, refused_lines};
@@ -29,7 +31,8 @@ pub(crate) fn filled_lines(
     snapshot: &Snapshot,
     filled: &Filled,
 ) -> Result<Transcript, AllocError>
-    ensures { (h : List EntrySpec) → IsSnapshotOf h snapshot.now → IfOk result (SaysFilled h filled.now) }
+    ensures some { IfOk result (SaysSomeFilled filled.now) }
+    ensures says { (h : List EntrySpec) → IsSnapshotOf h snapshot.now → IfOk result (SaysFilled h filled.now) }
 {
     let streams = all_streams(alloc, snapshot)?;
     let mut transcript = refused_lines(alloc, &filled.loaded)?;
@@ -66,8 +69,7 @@ fn add_landings(
     report: &[RefreshLine],
     transcript: &mut Transcript,
 ) -> Result<(), AllocError>
-    ensures { (h : List EntrySpec) → AreStreams h streams.now
-        → OnOk result (AddsLines (flat_map (landing_line h) report.now) transcript.old transcript.new) }
+    ensures { OnOk result (AddsLines (flat_map (landing_by (id_in streams.now)) report.now) transcript.old transcript.new) }
 {
     for line in report {
         add_if_refused(
@@ -110,7 +112,8 @@ fn add_summaries(
     streams: &[StreamRow],
     transcript: &mut Transcript,
 ) -> Result<(), AllocError>
-    ensures { (h : List EntrySpec) → IsSnapshotOf h snapshot.now → AreStreams h streams.now
+    ensures some { OnOk result ((said : List LineSpec) × AllByRecursion IsSummary said × AddsLines said transcript.old transcript.new) }
+    ensures says { (h : List EntrySpec) → IsSnapshotOf h snapshot.now → AreStreams h streams.now
         → OnOk result (AddsLines (summary_lines h) transcript.old transcript.new) }
 {
     for stream in 0..snapshot.streams() {
@@ -127,7 +130,8 @@ fn summary(
     id: u128,
     stream: u32,
 ) -> Result<ReportLine, AllocError>
-    ensures { (h : List EntrySpec) → IsSnapshotOf h snapshot.now → stream < length (ids h)
+    ensures some { IfOk result IsSummary }
+    ensures line { (h : List EntrySpec) → IsSnapshotOf h snapshot.now → stream < length (ids h)
         → IfOk result (λ line. line ≡ summary_line h id stream) }
 {
     let query = Query::Info {

@@ -177,7 +177,7 @@ module _ {S D : Type 0} (source : SourceGhosts S) (disk : Ghosts D) (given rest 
   cause_fault (Some (Format blocks)) e why five = format_fault disk old new blocks e why.1 five
   cause_fault (Some (Live batch materialize)) e why five =
       read_fault (λ input. ScriptCause disk batch materialize (script_of input)) e
-      (λ input. work_fault disk old new (λ said start log own. LivesStore batch materialize (script_of input) start log said own) e) why five
+      (λ input cause. work_fault disk old new (λ said start log own. LivesStore batch materialize (script_of input) start log said own) e cause.0) why five
   cause_fault (Some Ask) e why five =
       read_fault (λ input. QuestionsCause disk (questions_of input)) e (λ input. asked_fault disk old new (questions_of input) e) why five
   cause_fault (Some (Load workers batch)) e why five =
@@ -186,9 +186,9 @@ module _ {S D : Type 0} (source : SourceGhosts S) (disk : Ghosts D) (given rest 
       (λ input cause. work_fault disk old new (λ said start log own. LoadsStore start log (list_of (rows_of input)) batch workers said own) e cause.1.0)
       why five
   cause_fault (Some (Distil workers)) e why five =
-      work_fault disk old new (λ said start log own. DistilsStore start log workers said own) e why.1 five
+      work_fault disk old new (λ said start log own. DistilsStore start log workers said own) e why.1.0 five
   cause_fault (Some (Sample number streams points)) e why five =
-      work_fault disk old new (λ said start log own. SamplesStore number streams points start log said own) e why.1 five
+      work_fault disk old new (λ said start log own. SamplesStore number streams points start log said own) e why.1.0 five
   cause_fault (Some Checkpoint) e why five = checkpoint_fault disk old new e why.1 five
   cause_fault (Some Check) e why five = check_fault disk old new e why.1.cause five
 

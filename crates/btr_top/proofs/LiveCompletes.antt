@@ -155,7 +155,7 @@ module _ {S D : Type 0} (source : SourceGhosts S) (disk : Ghosts D) (batch : ℕ
       plain_work disk old new can.1.history can.1.blocks can.1.tail can.1.holds sound one reported device_works
       (λ said start log own. LivesStore batch materialize lines start log said own)
       (λ transcript failed does. benign_transcript lines all transcript failed does)
-      e why
+      e why.0
 
   pub benign_live : (e : Ending) → LiveCause source disk batch materialize given rest old new e → IsPlainStatus (status_of e)
   benign_live e why =

@@ -163,7 +163,7 @@ module _ {D : Type 0} (disk : Ghosts D) (only_now : disk.is_observable → (d : 
     cause_refused (Some (Format blocks)) e opens why = absurd opens
     cause_refused (Some (Live batch materialize)) e opens why =
         read_refused (λ input. ScriptCause disk batch materialize (script_of input)) e
-        (λ input. work_refused (λ said start log own. LivesStore batch materialize (script_of input) start log said own) e) why
+        (λ input cause. work_refused (λ said start log own. LivesStore batch materialize (script_of input) start log said own) e cause.0) why
     cause_refused (Some Ask) e opens why =
         read_refused (λ input. QuestionsCause disk (questions_of input)) e (λ input. asked_refused (questions_of input) e) why
     cause_refused (Some (Load workers batch)) e opens why =
@@ -172,9 +172,9 @@ module _ {D : Type 0} (disk : Ghosts D) (only_now : disk.is_observable → (d : 
         (λ input cause. work_refused (λ said start log own. LoadsStore start log (list_of (rows_of input)) batch workers said own) e cause.1.0)
         why
     cause_refused (Some (Distil workers)) e opens why =
-        work_refused (λ said start log own. DistilsStore start log workers said own) e why.1
+        work_refused (λ said start log own. DistilsStore start log workers said own) e why.1.0
     cause_refused (Some (Sample number streams points)) e opens why =
-        work_refused (λ said start log own. SamplesStore number streams points start log said own) e why.1
+        work_refused (λ said start log own. SamplesStore number streams points start log said own) e why.1.0
     cause_refused (Some Checkpoint) e opens why = checkpoint_refused e why.1
     cause_refused (Some Check) e opens why = absurd opens
 

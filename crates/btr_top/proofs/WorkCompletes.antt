@@ -36,7 +36,7 @@ module _ {D : Type 0} (disk : Ghosts D) (workers : ℕ) (old new : D) (sound : H
   pub benign_distil : (e : Ending) → DistilCause disk workers old new e → IsPlainStatus (status_of e)
   benign_distil e why =
       plain_work disk old new can.history can.blocks can.tail can.holds sound one reported device_works
-      (λ said start log own. DistilsStore start log workers said own) benign_refreshed e why
+      (λ said start log own. DistilsStore start log workers said own) benign_refreshed e why.0
 
 module _ {D : Type 0} (disk : Ghosts D) (number streams points : ℕ) (old new : D) (sound : HeldIsSound) (one : OneHistoryIsHeld) (can : CanSample disk number streams points old) (reported : disk.is_observable) (device_works : Rose (disk.faults old) (disk.faults new) → ⊥) where
   benign_sampled : (transcript : Transcript) (failed : Bool) → DoesRightly disk (λ start log own. SamplesStore number streams points start log (Ok transcript) own) failed old new → IsBenign transcript.status
@@ -49,7 +49,7 @@ module _ {D : Type 0} (disk : Ghosts D) (number streams points : ℕ) (old new :
   pub benign_sample : (e : Ending) → SampleCause disk number streams points old new e → IsPlainStatus (status_of e)
   benign_sample e why =
       plain_work disk old new can.history can.blocks can.tail can.holds sound one reported device_works
-      (λ said start log own. SamplesStore number streams points start log said own) benign_sampled e why
+      (λ said start log own. SamplesStore number streams points start log said own) benign_sampled e why.0
 
 module _ {S D : Type 0} (source : SourceGhosts S) (disk : Ghosts D) (workers batch : ℕ) (given rest : S) (old new : D) (sound : HeldIsSound) (one : OneHistoryIsHeld) (can : CanLoad source disk batch given old) (source_reported : source.is_observable) (reported : disk.is_observable) (source_works : StreamRose (source.faults given) (source.faults rest) → ⊥) (device_works : Rose (disk.faults old) (disk.faults new) → ⊥) where
   not_too_long : ExceedsInputLimit source given rest → ⊥

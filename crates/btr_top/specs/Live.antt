@@ -4,17 +4,18 @@ use Rattle.btr_io.specs.declared.source.Source.{Ghosts as SourceGhosts}
 use Rattle.btr_disk.specs.declared.disk.Disk.{Ghosts}
 use Rattle.btr_text.specs.Input.{script_of}
 use Rattle.btr_text.specs.declared.script.ScriptLine.{ScriptLine}
-use Rattle.btr_store.specs.Live.{LivesStore}
+use Rattle.btr_store.specs.Live.{LivesStore, SaysSomeScript}
 use Rattle.btr_top.specs.declared.ending.Ending.{Ending}
 use Rattle.btr_top.specs.Command.{HoldsStoreWith, IsWithinLimit, CommandCause}
 use Rattle.btr_top.specs.Room.{HasRoomForScript}
-use Rattle.btr_top.specs.Work.{WorkCause}
+use Rattle.btr_top.specs.Work.{IfReplied, WorkCause}
 
 module _ {D : Type 0} (disk : Ghosts D) where
-  -- Why `live` ends so, after its lines were read.
+  -- Why `live` ends so, after its lines were read. On each device it says a reply for each line.
   abbrev pub ScriptCause : ℕ → Bool → List ScriptLine → D → D → Ending → Type 0
   ScriptCause batch materialize script old new e =
       WorkCause disk (λ said start log own. LivesStore batch materialize script start log said own) old new e
+      × IfReplied (SaysSomeScript materialize script) e
 
 module _ {S D : Type 0} (source : SourceGhosts S) (disk : Ghosts D) where
   -- Why `live` ends so.

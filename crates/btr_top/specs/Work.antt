@@ -11,7 +11,8 @@ use Rattle.btr_store.specs.declared.transcript.Transcript.{Transcript}
 use Rattle.btr_store.specs.Completes.{HasRoomForRows, HasRoomForOutputs}
 use Rattle.btr_store.specs.Work.{DoesRightly, IfHolds, IsPlainWork}
 use Rattle.btr_store.specs.Load.{LoadsStore, SaysSomeLoad}
-use Rattle.btr_store.specs.Distil.{DistilsStore}
+use Rattle.btr_store.specs.Distil.{DistilsStore, SaysSomeReport}
+use Rattle.btr_store.specs.Sample.{SaysSomeSample}
 use Rattle.btr_store.specs.SampleRoom.{HasRoomForSample}
 use Rattle.btr_store.specs.SampleLaw.{SamplesStore}
 use Rattle.btr_top.specs.declared.ending.Ending.{Ending}
@@ -53,14 +54,16 @@ module _ {D : Type 0} (disk : Ghosts D) where
   WorkCause What old new NoDevice = (OpeningCause disk old new NoDevice × IsKept disk old new) ⊎ DidUnsaid What true old new
   WorkCause What old new e = OpeningCause disk old new e × IsKept disk old new
 
-  -- Why `distil` ends so.
+  -- Why `distil` ends so. On each device it says the lines of a report.
   abbrev pub DistilCause : ℕ → D → D → Ending → Type 0
-  DistilCause workers old new e = WorkCause (λ said start log own. DistilsStore start log workers said own) old new e
+  DistilCause workers old new e =
+      WorkCause (λ said start log own. DistilsStore start log workers said own) old new e × IfReplied SaysSomeReport e
 
-  -- Why `sample` ends so.
+  -- Why `sample` ends so. On each device it says the lines of a sample.
   abbrev pub SampleCause : ℕ → ℕ → ℕ → D → D → Ending → Type 0
   SampleCause number streams points old new e =
       WorkCause (λ said start log own. SamplesStore number streams points start log said own) old new e
+      × IfReplied (SaysSomeSample streams) e
 
   -- Why `load` ends so, after its rows were read. On each device it says the lines of a load.
   abbrev pub RowsCause : ℕ → ℕ → RowListValue → D → D → Ending → Type 0

@@ -45,3 +45,11 @@ returns-clause-runs g c =
     (reported (left_each batch script before after have lines lanes same start early low a starts did)) start early low a starts did) last)
     c.run_jobs.ensures.does
     c.last_round-last.ensures.last
+
+pub returns-clause-each : goal.returns-clause-each
+returns-clause-each g c =
+    let script = c.args.script.items in
+    let same : c.as_slice-lanes.result.now ≡ lanes_of script = c.as_slice-lanes.ensures.value ∙ c.in_ok-lanes.ensures.lanes in record {
+      one_each = c.in_order.ensures.each ∙ ap length same ∙ length-map script (λ (line : ScriptLine). line.lane);
+      last = c.last_round-last.ensures.wanted;
+    }

@@ -15,3 +15,9 @@ pub returns-clause-last : goal.returns-clause-last
 returns-clause-last g c =
     subst (λ m. Does c.args.hall.now c.args.session.now c.bring_current.new.session (λ start log low own. LastRound start log low m (Some c.bring_current.result) own)) (sym c.if-not-materialize.false)
     (round_is_last c.args.hall.now c.args.session.now c.bring_current.new.session c.bring_current.result c.bring_current.ensures.refused c.bring_current.ensures.refreshes)
+
+pub returns-then-not-materialize-clause-wanted : goal.returns-then-not-materialize-clause-wanted
+returns-then-not-materialize-clause-wanted g c = sym c.if-not-materialize.true
+
+pub returns-clause-wanted : goal.returns-clause-wanted
+returns-clause-wanted g c = sym c.if-not-materialize.false

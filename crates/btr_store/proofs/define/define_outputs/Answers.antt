@@ -51,3 +51,7 @@ returns-clause-does g c =
     let inv = c.loop-stream.invariant in
     all_defined c.args.hall.now c.args.session.now c.loop-stream.session c.args.streams c.loop-stream.outputs
     (omega (arith, inv.long, c.loop-stream-test.false, c.loop-stream.auto.stream-end)) inv.does
+
+pub returns-clause-each : goal.returns-clause-each
+returns-clause-each g c =
+    omega (arith, c.loop-stream.invariant.long, c.loop-stream-test.false, c.loop-stream.auto.stream-end)

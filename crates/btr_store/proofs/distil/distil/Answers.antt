@@ -1,6 +1,8 @@
 -- The session is alone again, and what is said is what was done.
 use Rattle.btr_hall.proofs.SessionLemmas.{alone_alike}
 use Rattle.btr_store.proofs.DistilLemmas.{stays_alone, distils_said, distils_none, turn_said, turn_none}
+use Rattle.btr_store.specs.Distil.{SaysOutputs, SaysSomeReport}
+use Rattle.btr_store.proofs.TranscriptLemmas.{if_ok}
 use Rattle.btr_store.proofs.distil.distil.Goals as goal
 
 pub say_report-requires-clause-alone : goal.say_report-requires-clause-alone
@@ -31,3 +33,7 @@ returns-in-Ok-clause-in_turn g c =
 pub returns-in-Err-clause-in_turn : goal.returns-in-Err-clause-in_turn
 returns-in-Err-clause-in_turn g c =
     λ few. turn_none c.args.hall.now c.args.session.now c.bring_current.new.session c.in-Err.error c.in-Err.ensures.refused
+
+pub returns-in-Ok-clause-says : goal.returns-in-Ok-clause-says
+returns-in-Ok-clause-says g c =
+    if_ok c.say_report.result (SaysOutputs c.in-Ok.report) SaysSomeReport (λ t says. (c.in-Ok.report, says)) c.say_report.ensures.some

@@ -1,13 +1,18 @@
 -- The work was done on the device, what it added is allowed, and the laws of reports hold of it.
 use Rattle.std.proofs.Common.{inl, inr}
 use Rattle.std.proofs.lemmas.Bool.{cases_lt}
-use Rattle.btr_store.specs.Distil.{Distils, DistilsInTurn, DistilsStore}
+use Rattle.btr_store.specs.Distil.{Distils, DistilsInTurn, DistilsStore, SaysSomeReport}
+use Rattle.btr_store.proofs.TranscriptLemmas.{still_said}
 use Rattle.btr_store.proofs.WorkLemmas.{does_rightly, does_more}
 use Rattle.btr_store.proofs.DistilLemmas.{distils_allowed, distils_reported, turn_reported, distils_store, distils_store_in_order}
 use Rattle.btr_store.proofs.distil.distil_store.Goals as goal
 
 pub returns-clause-plain : goal.returns-clause-plain
 returns-clause-plain g c = c.close_hall.ensures.plain c.args.disk c.in_ok-hall.ensures.begun.opened
+
+pub returns-clause-says : goal.returns-clause-says
+returns-clause-says g c =
+    still_said SaysSomeReport c.distil-said.result c.close_hall.result.said c.close_hall.ensures.said c.distil-said.ensures.says
 
 pub returns-clause-done : goal.returns-clause-done
 returns-clause-done g c = λ seen h held.

@@ -2,6 +2,7 @@
 use Rattle.btr_jobs.proofs.DoesLemmas.{stays_alone}
 use Rattle.btr_store.proofs.DistilLemmas.{stays_alone as still_alone}
 use Rattle.btr_store.proofs.LiveLemmas.{lives_said, lives_none}
+use Rattle.btr_store.proofs.LiveLineLemmas.{some_script}
 use Rattle.btr_store.proofs.live.live.Goals as goal
 
 pub say_live-requires-clause-alone : goal.say_live-requires-clause-alone
@@ -20,3 +21,7 @@ returns-in-Ok-clause-does g c =
 pub returns-in-Err-clause-does : goal.returns-in-Err-clause-does
 returns-in-Err-clause-does g c =
     lives_none c.args.batch c.args.materialize c.args.lines.items c.args.hall.now c.args.session.now c.lanes.new.session c.in-Err.error c.in-Err.ensures.refused
+
+pub returns-in-Ok-clause-says : goal.returns-in-Ok-clause-says
+returns-in-Ok-clause-says g c =
+    some_script c.args.materialize c.args.lines.items c.in-Ok.report c.say_live.result c.in-Ok.ensures.each c.say_live.ensures.some

@@ -1,12 +1,17 @@
 -- The script ran on the device, what it added is allowed, and the laws of scripts hold of it.
-use Rattle.btr_store.specs.Live.{LivesStore}
+use Rattle.btr_store.specs.Live.{LivesStore, SaysSomeScript}
 use Rattle.btr_store.specs.LiveLines.{Lives}
 use Rattle.btr_store.proofs.WorkLemmas.{does_rightly, does_more}
+use Rattle.btr_store.proofs.TranscriptLemmas.{still_said}
 use Rattle.btr_store.proofs.LiveLemmas.{lives_allowed, lives_reported, lives_store}
 use Rattle.btr_store.proofs.live.live_store.Goals as goal
 
 pub returns-clause-plain : goal.returns-clause-plain
 returns-clause-plain g c = c.close_hall.ensures.plain c.args.disk c.in_ok-hall.ensures.begun.opened
+
+pub returns-clause-says : goal.returns-clause-says
+returns-clause-says g c =
+    still_said (SaysSomeScript c.args.materialize c.args.lines.items) c.live-said.result c.close_hall.result.said c.close_hall.ensures.said c.live-said.ensures.says
 
 pub returns-clause-done : goal.returns-clause-done
 returns-clause-done g c = λ seen h held.

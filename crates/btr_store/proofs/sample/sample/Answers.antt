@@ -1,7 +1,12 @@
 -- The session is alone, so a store that is empty when it is looked at is so when it is filled. What is said is what was done.
-use Rattle.std.proofs.Common.{◌≡◌, ◌≤◌, length, arith}
+use Rattle.std.proofs.Common.{◌≡◌, ◌≤◌, [], ◌∷◌, length, inl, inr, arith}
 use Rattle.btr_load.proofs.LoadLemmas.{look_alone}
 use Rattle.btr_store.proofs.SampleLemmas.{fills_said, fills_none, sampled_none, sampled_used, sampled_empty}
+use Rattle.btr_report.specs.declared.line.ReportLine.TheVariants as lines
+use Rattle.btr_store.specs.Transcript.{SaysLines}
+use Rattle.btr_store.specs.SampleLines.{SaysSomeFilled}
+use Rattle.btr_store.specs.Sample.{SaysSomeSample}
+use Rattle.btr_store.proofs.TranscriptLemmas.{if_ok}
 use Rattle.btr_store.proofs.sample.sample.Goals as goal
 
 pub returns-in_err-filled-in-0-clause-does : goal.returns-in_err-filled-in-0-clause-does
@@ -46,3 +51,13 @@ returns-clause-does g c =
     let some : 1 ≤ entries = omega (arith, c.in_default) in
     sampled_used p.number p.streams p.points hall old new entries c.used_line.result some c.used_line.ensures
     (look_alone hall old new c.in_ok-snapshot.ensures.looks c.requires.alone (λ h. entries ≡ length h) (λ h of. c.entries.ensures _ (c.in_ok-snapshot.ensures.snapshot h of)))
+
+pub returns-in-0-clause-says : goal.returns-in-0-clause-says
+returns-in-0-clause-says g c =
+    let filled = c.in_ok-filled-in-0.filled in
+    if_ok c.say_filled.result (SaysSomeFilled filled) (SaysSomeSample c.args.parameters.streams) (λ t says. inr (filled, c.in_ok-filled-in-0.ensures.each, says)) c.say_filled.ensures.some
+
+pub returns-clause-says : goal.returns-clause-says
+returns-clause-says g c =
+    let entries = c.entries.result in
+    if_ok c.used_line.result (SaysLines (lines.Used entries ∷ [])) (SaysSomeSample c.args.parameters.streams) (λ t says. inl (entries, says)) c.used_line.ensures

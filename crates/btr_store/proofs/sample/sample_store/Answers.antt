@@ -1,5 +1,6 @@
 -- The work was done on the device, what it added is allowed, and the laws of loads and reports hold of it.
-use Rattle.btr_store.specs.Sample.{Samples}
+use Rattle.btr_store.specs.Sample.{Samples, SaysSomeSample}
+use Rattle.btr_store.proofs.TranscriptLemmas.{still_said}
 use Rattle.btr_store.specs.SampleLaw.{SamplesStore}
 use Rattle.btr_store.proofs.WorkLemmas.{does_rightly, does_more}
 use Rattle.btr_store.proofs.SampleLemmas.{samples_allowed, samples_reported}
@@ -8,6 +9,10 @@ use Rattle.btr_store.proofs.sample.sample_store.Goals as goal
 
 pub returns-clause-plain : goal.returns-clause-plain
 returns-clause-plain g c = c.close_hall.ensures.plain c.args.disk c.in_ok-hall.ensures.begun.opened
+
+pub returns-clause-says : goal.returns-clause-says
+returns-clause-says g c =
+    still_said (SaysSomeSample c.args.streams) c.sample-said.result c.close_hall.result.said c.close_hall.ensures.said c.sample-said.ensures.says
 
 pub returns-clause-done : goal.returns-clause-done
 returns-clause-done g c = λ seen h held.

@@ -6,13 +6,13 @@ use Rattle.btr_hist.specs.History.{ids}
 use Rattle.btr_store.proofs.StreamLemmas.{rows_length, row_at, no_row}
 use Rattle.btr_store.proofs.streams.id_of.Goals as goal
 
-pub returns-in-None : goal.returns-in-None
-returns-in-None c = λ h are.
+pub returns-in-None-clause-stream : goal.returns-in-None-clause-stream
+returns-in-None-clause-stream c = λ h are.
     let long : length c.args.streams.now ≡ length (ids h) = ap (length {A = StreamRow}) are ∙ rows_length h 0 (ids h) in
     no_row (ids h) c.args.stream (omega (arith, c.in-None.ensures.lookup.3, long))
 
-pub returns-in-Some : goal.returns-in-Some
-returns-in-Some c = λ h are.
+pub returns-in-Some-clause-stream : goal.returns-in-Some-clause-stream
+returns-in-Some-clause-stream c = λ h are.
     let x = c.in-Some.ensures.lookup in
     let row = c.in-Some.row.now in
     let long : length c.args.streams.now ≡ length (ids h) = ap (length {A = StreamRow}) are ∙ rows_length h 0 (ids h) in
