@@ -58,20 +58,19 @@ crates/btr_tree/src/shared.rt let build_back = || -> (Result<Part, TreeFault>, F
 crates/btr_tree/src/shared.rt let build_front = || -> (Result<Part, TreeFault>, Fork)
 crates/btr_tree/src/steps.rt pub fn new() -> Steps<L>
 crates/btr_tree/src/steps.rt pub(crate) fn new() -> Fork'
-# The walks whose steps a clause bounds stand in files that name nothing but one another, btr_base and btr_tree. Of the public calls of these
-# two only `Steps::new` makes a counter, and only `Tree::uncounted` a tree that is walked without one.
+# The walks whose steps a clause bounds, and those of btr_verify by which a stored node is judged, stand in files that name nothing but one
+# another, btr_base and btr_tree. Of the public calls of these two only `Steps::new` makes a counter, and only `Tree::uncounted` a tree that is
+# walked without one.
 expect 'walks with a bound stand in these files' \
-    "$(lines_with '\bpub fn [a-z_]+<.*\bL>' | grep -E '^crates/btr_(diff|scan|stored|window)/' | cut -d '<' -f 1)" \
+    "$(lines_with '\bpub fn [a-z_]+<.*\bL>' | grep -E '^crates/btr_(diff|scan|window)/' | cut -d '<' -f 1)" \
     'crates/btr_diff/src/comparing.rt pub fn changes
 crates/btr_diff/src/comparing.rt pub fn changes_with_lead
 crates/btr_scan/src/nearest_walk.rt pub fn nearest
-crates/btr_stored/src/finding.rt pub fn find
-crates/btr_stored/src/own.rt pub fn is_own
 crates/btr_window/src/range_aggregate.rt pub fn aggregate'
 walks='crates/btr_diff/src/comparing.rt crates/btr_diff/src/comparison.rt crates/btr_diff/src/gathering.rt crates/btr_diff/src/leaf_walk.rt
 crates/btr_diff/src/points.rt crates/btr_diff/src/tree_walk.rt
 crates/btr_scan/src/backward.rt crates/btr_scan/src/forward.rt crates/btr_scan/src/nearest_walk.rt
-crates/btr_window/src/inside.rt crates/btr_window/src/range_aggregate.rt crates/btr_stored/src/finding.rt crates/btr_stored/src/own.rt'
+crates/btr_window/src/inside.rt crates/btr_window/src/range_aggregate.rt crates/btr_verify/src/finding.rt crates/btr_verify/src/own.rt'
 # shellcheck disable=SC2086
 expect 'walks with a bound call no walk without one' \
     "$(cd "$top" && grep -vhE '^ *//|^ghost use ' $walks | sed 's/pub(crate)//' |

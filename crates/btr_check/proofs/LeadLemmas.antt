@@ -28,9 +28,9 @@ use Rattle.btr_streams.specs.Past.{with_commits, commits_to}
 use Rattle.btr_engine.specs.Roots.{LeadsToLatest, IsRootOf}
 use Rattle.btr_streams.specs.Stage.{change}
 use Rattle.btr_streams.proofs.BoardTrees.{made_by, bag-commits_to, before-with_commits, before-nothing, up_to-commits_to}
-use Rattle.btr_stored.specs.Judged.{IsRising}
-use Rattle.btr_stored.specs.FirstWrong.{IsFirstWrongIn}
-use Rattle.btr_stored.proofs.FirstWrongLemmas.{wrong-leads_not, one-wrong_in}
+use Rattle.btr_verify.specs.Judged.{IsRising}
+use Rattle.btr_verify.specs.FirstWrong.{IsFirstWrongIn}
+use Rattle.btr_verify.proofs.FirstWrongLemmas.{wrong-leads_not, one-wrong_in}
 use Rattle.btr_open.specs.Reached.{next_version}
 use Rattle.btr_open.specs.RootTest.{adds, MayLead}
 use Rattle.btr_open.proofs.ListLemmas.{take-on}

@@ -23,7 +23,7 @@ use Rattle.btr_streams.specs.Board.{HasVersion}
 use Rattle.btr_streams.specs.Past.{with_commits, commits_to}
 use Rattle.btr_engine.specs.Roots.{IsRootOf}
 use Rattle.btr_streams.specs.Snapshot.{IsSnapshotOf}
-use Rattle.btr_stored.specs.FirstWrong.{IsFirstWrongIn}
+use Rattle.btr_verify.specs.FirstWrong.{IsFirstWrongIn}
 use Rattle.btr_open.specs.Reached.{Reached}
 use Rattle.btr_open.specs.Seen.{Seen}
 use Rattle.btr_open.proofs.HeldPages.{if-each, if-at}

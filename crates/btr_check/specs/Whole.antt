@@ -11,7 +11,7 @@ use Rattle.btr_hist.specs.declared.entry.Entry.TheVariants.{Create, Define, Comm
 use Rattle.btr_hist.specs.History.{latest}
 use Rattle.btr_streams.specs.Past.{commits_to}
 use Rattle.btr_engine.specs.Roots.{IsRootOf}
-use Rattle.btr_stored.specs.FirstWrong.{IsFirstWrongIn}
+use Rattle.btr_verify.specs.FirstWrong.{IsFirstWrongIn}
 use Rattle.btr_open.specs.Reached.{Reached}
 use Rattle.btr_open.specs.Walk.{IsWalk}
 use Rattle.btr_open.specs.Seen.{Mark, Seen, KeepsRule, first_reading}

@@ -13,8 +13,8 @@ use Rattle.btr_node.specs.Page.{front, span_of_page, slots_of_page}
 use Rattle.btr_node.specs.declared.page.NodePage.{NodePage}
 use Rattle.btr_pages.specs.Pages.{Pages, nodes_in, node_of_page, slot_of_page}
 use Rattle.btr_hist.specs.declared.entry.Entry.{Entry}
-use Rattle.btr_stored.specs.Judged.{IsOwn, IsRight}
-use Rattle.btr_stored.specs.FirstWrong.{IsFirstWrongOn}
+use Rattle.btr_verify.specs.Judged.{IsOwn, IsRight}
+use Rattle.btr_verify.specs.FirstWrong.{IsFirstWrongOn}
 use Rattle.btr_verify.specs.declared.judging.Mark.{Mark}
 use Rattle.btr_verify.specs.declared.judging.Mark.TheVariants.{Right, WrongBelow, Wrong}
 use Rattle.btr_verify.specs.Trees.{ReadsDevice, past_of}

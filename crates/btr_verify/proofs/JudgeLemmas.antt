@@ -18,13 +18,13 @@ use Rattle.btr_node.specs.declared.page.PageSlot.{PageSlot}
 use Rattle.btr_pages.specs.Pages.{Pages, slot_of_page, node_of_page, node_of_stream, nodes_in, HasChildPage, IsPageAt}
 use Rattle.btr_hist.specs.declared.entry.Entry.{Entry}
 use Rattle.btr_streams.specs.Board.{HasVersion}
-use Rattle.btr_stored.specs.Judged.{IsRising, IsIn, IsOwn, IsRight, HasRight, IsRightSlot, AreRightBelow, IsPlacedNode}
-use Rattle.btr_stored.proofs.OwnLemmas.{right-own, own-right}
+use Rattle.btr_verify.specs.Judged.{IsRising, IsIn, IsOwn, IsRight, HasRight, IsRightSlot, AreRightBelow, IsPlacedNode}
+use Rattle.btr_verify.proofs.OwnLemmas.{right-own, own-right}
 use Rattle.btr_verify.specs.declared.judging.Mark.{Mark}
 use Rattle.btr_verify.specs.declared.judging.Mark.TheVariants.{Right, WrongBelow, Wrong}
 use Rattle.btr_verify.specs.Trees.{IsStoredAt, AreStoredAt, past_of}
 use Rattle.btr_verify.specs.Judging.{IsJudged, HasPageVersion, IsMarkOf, AreMarked, IsMarkedRight, AreMarkedRight, IsFirstNotRight}
-use Rattle.btr_verify.proofs.PastLemmas.{past-rising}
+use Rattle.btr_verify.proofs.StreamPastLemmas.{past-rising}
 
 -- ---- a page and its node
 

@@ -33,16 +33,16 @@ use Rattle.btr_hist.specs.declared.entry.Entry.{Entry}
 use Rattle.btr_streams.specs.declared.snapshot.Snapshot.{Snapshot}
 use Rattle.btr_streams.specs.Past.{commits_to}
 use Rattle.btr_streams.specs.Board.{HasVersion, IsTreeOf}
-use Rattle.btr_stored.specs.Judged.{version_in, IsIn, IsRight, HasRight}
-use Rattle.btr_stored.specs.FirstWrong.{IsFirstWrong, IsFirstWrongIn, IsRootOfNone, IsWrongRoot}
-use Rattle.btr_stored.proofs.AboveLemmas.{root-above}
-use Rattle.btr_stored.proofs.OwnLemmas.{right-from, leads-from}
+use Rattle.btr_verify.specs.Judged.{version_in, IsIn, IsRight, HasRight}
+use Rattle.btr_verify.specs.FirstWrong.{IsFirstWrong, IsFirstWrongIn, IsRootOfNone, IsWrongRoot}
+use Rattle.btr_verify.proofs.AboveLemmas.{root-above}
+use Rattle.btr_verify.proofs.OwnLemmas.{right-from, leads-from}
 use Rattle.btr_verify.specs.declared.verifying.Made.{Made}
 use Rattle.btr_verify.specs.declared.judging.Mark.{Mark}
 use Rattle.btr_verify.specs.declared.judging.Mark.TheVariants.{Right}
 use Rattle.btr_verify.specs.Trees.{past_of, version_points, IsCommitOf, LeadsToTree, IsFirstThatFails, IsFirstWrongNode}
 use Rattle.btr_verify.specs.Judging.{HasPageVersion, WereJudged, HasTreeVersion, IsFirstWrongFrom, IsPageNotRight}
-use Rattle.btr_verify.proofs.PastLemmas.{past-rising, past-to}
+use Rattle.btr_verify.proofs.StreamPastLemmas.{past-rising, past-to}
 use Rattle.btr_verify.proofs.JudgeLemmas.{page-aligned, node-version, stored-page, node-here, one-in, page-right, right-marked}
 
 -- ---- the version of a tree's root

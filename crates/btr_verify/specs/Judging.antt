@@ -17,8 +17,8 @@ use Rattle.btr_streams.specs.declared.snapshot.Snapshot.{Snapshot}
 use Rattle.btr_streams.specs.Board.{HasVersion}
 use Rattle.btr_streams.specs.Past.{commits_to}
 use Rattle.btr_streams.specs.Snapshot.{IsSnapshotOf}
-use Rattle.btr_stored.specs.Judged.{version_in, IsOwn, IsRight}
-use Rattle.btr_stored.specs.FirstWrong.{IsFirstWrong}
+use Rattle.btr_verify.specs.Judged.{version_in, IsOwn, IsRight}
+use Rattle.btr_verify.specs.FirstWrong.{IsFirstWrong}
 use Rattle.btr_verify.specs.declared.verifying.Made.{Made}
 use Rattle.btr_verify.specs.declared.judging.Mark.{Mark}
 use Rattle.btr_verify.specs.declared.judging.Mark.TheVariants.{Right, WrongBelow, Wrong}

@@ -20,7 +20,7 @@ use Rattle.btr_streams.specs.declared.snapshot.Snapshot.{Snapshot}
 use Rattle.btr_streams.specs.Past.{commits_to}
 use Rattle.btr_streams.specs.Board.{HasVersion}
 use Rattle.btr_streams.specs.Snapshot.{IsSnapshotOf}
-use Rattle.btr_stored.specs.FirstWrong.{IsFirstWrongIn}
+use Rattle.btr_verify.specs.FirstWrong.{IsFirstWrongIn}
 use Rattle.btr_verify.specs.declared.verifying.Made.{Made}
 use Rattle.btr_verify.specs.declared.verifying.VerifyFault.{VerifyFault}
 use Rattle.btr_verify.specs.declared.verifying.VerifyFault.TheVariants.{Fault, Want}

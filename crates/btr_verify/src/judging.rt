@@ -6,15 +6,15 @@ ghost use Rattle.btr_pages.specs.Pages.{Pages, node_of_page, slot_of_page};
 ghost use Rattle.btr_hist.specs.declared.entry.Entry.{Entry as EntrySpec};
 ghost use Rattle.btr_streams.specs.Board.{HasVersion};
 ghost use Rattle.btr_streams.specs.Snapshot.{IsSnapshotOf};
-ghost use Rattle.btr_stored.specs.Judged.{IsOwn};
-ghost use Rattle.btr_stored.specs.Same.{stored_node};
+ghost use Rattle.btr_verify.specs.Judged.{IsOwn};
+ghost use Rattle.btr_verify.specs.Same.{stored_node};
 ghost use Rattle.btr_verify.specs.declared.judging.Mark.TheVariants.{Right as RightMark, WrongBelow as WrongBelowMark};
 ghost use Rattle.btr_verify.specs.Trees.{past_of};
 ghost use Rattle.btr_verify.specs.Judging.{AreMarkedRight, CanJudge, HasPageVersion, IsFirstNotRight, IsMarkOf};
 
+use crate::own::is_own;
 use btr_base::{Agg, Point, Span};
 use btr_node::{Front, NodePage, PageSlot, SLOTS};
-use btr_stored::is_own;
 use btr_streams::Snapshot;
 use btr_tree::{Label, Slot, Steps};
 

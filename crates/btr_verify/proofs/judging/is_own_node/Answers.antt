@@ -1,5 +1,5 @@
 use Rattle.btr_verify.specs.Trees.{past_of}
-use Rattle.btr_verify.proofs.PastLemmas.{tree-to}
+use Rattle.btr_verify.proofs.StreamPastLemmas.{tree-to}
 use Rattle.btr_verify.proofs.judging.is_own_node.Goals as goal
 
 pub returns-in-Some : goal.returns-in-Some

@@ -9,8 +9,8 @@ use Rattle.btr_node.specs.declared.page.NodePage.{NodePage}
 use Rattle.btr_pages.specs.Pages.{node_of_page, slot_of_page}
 use Rattle.btr_hist.specs.declared.entry.Entry.{Entry}
 use Rattle.btr_streams.specs.Board.{HasVersion}
-use Rattle.btr_stored.specs.Judged.{IsOwn}
-use Rattle.btr_stored.specs.Same.{stored_node}
+use Rattle.btr_verify.specs.Judged.{IsOwn}
+use Rattle.btr_verify.specs.Same.{stored_node}
 use Rattle.btr_verify.specs.Trees.{past_of}
 use Rattle.btr_verify.specs.Judging.{HasPageVersion}
 use Rattle.btr_verify.proofs.judging.is_own_page.Goals as goal

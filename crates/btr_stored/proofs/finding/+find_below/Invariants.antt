@@ -1,4 +1,0 @@
-use Rattle.btr_stored.proofs.finding.+find_below.Given as goal
-
-abbrev pub decreases-find_below : goal.decreases-find_below
-decreases-find_below over l = l.at.height

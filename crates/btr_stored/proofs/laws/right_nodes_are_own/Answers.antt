@@ -1,5 +1,0 @@
-use Rattle.btr_stored.proofs.OwnLemmas.{right-own}
-use Rattle.btr_stored.proofs.laws.right_nodes_are_own.Goals as goal
-
-pub returns : goal.returns
-returns c store h block node rising aligned right = right-own store h rising block node aligned right

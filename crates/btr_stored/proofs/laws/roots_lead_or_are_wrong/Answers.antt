@@ -1,5 +1,0 @@
-use Rattle.btr_stored.proofs.WrongLemmas.{known-root}
-use Rattle.btr_stored.proofs.laws.roots_lead_or_are_wrong.Goals as goal
-
-pub returns : goal.returns
-returns c store h version block rising placed = known-root store h rising placed version block

@@ -1,5 +1,0 @@
-use Rattle.btr_stored.proofs.SameLemmas.{same-slot}
-use Rattle.btr_stored.proofs.own.is_same_slot.Goals as goal
-
-pub returns-then-eq : goal.returns-then-eq
-returns-then-eq c = same-slot c.args.one.now c.args.other.now c.if-eq.ensures
