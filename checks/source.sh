@@ -50,7 +50,7 @@ crates/btr_streams/src/answering.rt let older = older.uncounted::<AnswerWalk>();
 crates/btr_streams/src/next_tree.rt let mut steps = Steps::<StageWalk>::new();
 crates/btr_tree/src/shared.rt let mut fork = Fork::new();
 crates/btr_tree/src/shared.rt let mut fork = Fork::new();
-crates/btr_verify/src/marking.rt let mut steps = Steps::<JudgeWalk>::new();
+crates/btr_verify/src/judging.rt let mut steps = Steps::<JudgeWalk>::new();
 crates/btr_window/src/window_walk.rt match visit(child, &mut Steps::<WindowWalk>::new()) {'
 expect 'no other call hands a counter out' "$(lines_with '(->|\btype\b) .*\b(Steps|Fork)\b')" \
     'crates/btr_tree/src/shared.rt ) -> (Result<Part, TreeFault>, Fork)

@@ -130,9 +130,7 @@ module _ (image : Image) (log : Reached) (seen : Seen) (made : List Made) (read 
 
   pub to-verify : (nodes : NodesValue) (snapshot : Snapshot) → AreKnown log.pages nodes → IsSnapshotOf h snapshot → AreToVerify image log.pages h nodes snapshot made
   to-verify nodes snapshot known of = record {
-    known = known;
-    stored = read.stored;
-    of = of;
+    trees = record { known = known; stored = read.stored; of = of };
     each = λ n. if-each (slice_get made n) (IsCommitOf log.pages h) (λ m at.
         let it = made-at n m at in
         subst (IsCommitOf log.pages h) it.its (is-made n it.entry it.there));

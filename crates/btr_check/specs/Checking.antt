@@ -1,6 +1,7 @@
 -- What the functions promise that a check is made of: the verdict on a part of a device, and what was found out of the trees.
 use Rattle.std.specs.Prelude.{ℕ, List, Result, Ok, Err, Option, Some, None, MatchOption}
 use Rattle.btr_disk.specs.declared.disk.Disk.{Ghosts}
+use Rattle.btr_disk.specs.Bytes.{Image}
 use Rattle.btr_super.specs.declared.superblock.Super.{Super}
 use Rattle.btr_super.specs.declared.choosing.ChooseFault.{ChooseFault}
 use Rattle.btr_super.specs.declared.choosing.ChooseFault.TheVariants as choice
@@ -42,6 +43,10 @@ verdict_of_trees entries (Ok (Some block)) = Wrong block
 verdict_of_trees entries (Err verify.Fault) = Fault
 verdict_of_trees entries (Err verify.Want) = Want
 
+-- The log of a superblock was read whole on a device with these bytes, and the checker has seen its entries.
+abbrev pub IsCheckedLog : Image → Super → Checker → WholeLog → Type 0
+IsCheckedLog image found c w = IsJudgedLog MayStand HasSeen image (first_reading found) c w
+
 module _ {D : Type 0} (disk : Ghosts D) where
   -- The verdict is right of the device as it was before the calls between two states of it.
   abbrev pub VerdictBetween : D → D → Verdict → Type 0
@@ -50,7 +55,7 @@ module _ {D : Type 0} (disk : Ghosts D) where
 
   -- The log of a superblock was read whole, and the checker has seen its entries.
   abbrev pub WasChecked : D → Super → Checker → WholeLog → Type 0
-  WasChecked old found c w = disk.is_observable → IsJudgedLog MayStand HasSeen (disk.contents old) (first_reading found) c w
+  WasChecked old found c w = disk.is_observable → IsCheckedLog (disk.contents old) found c w
 
 -- ---- the trees
 

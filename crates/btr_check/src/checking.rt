@@ -4,15 +4,13 @@ ghost use Rattle.btr_super.specs.declared.superblock.Super.{Super as SuperSpec};
 ghost use Rattle.btr_super.specs.Super.{IsSuper};
 ghost use Rattle.btr_super.specs.Choose.{IsChosen};
 ghost use Rattle.btr_open.specs.Reads.{OnlyReads};
-ghost use Rattle.btr_open.specs.Seen.{EndsInside, IsJudgedLog, first_reading};
+ghost use Rattle.btr_open.specs.Seen.{EndsInside};
 ghost use Rattle.btr_verify.specs.Trees.{VerifyCause};
 ghost use Rattle.btr_check.specs.declared.verdict.Verdict.{Verdict as VerdictSpec};
-ghost use Rattle.btr_check.specs.Rule.{MayStand};
 ghost use Rattle.btr_check.specs.Verdict.{IsVerdict};
 ghost use Rattle.btr_check.specs.Check.{VerdictHolds, IsUnlessEnded};
-ghost use Rattle.btr_check.specs.Checker.{HasSeen};
 ghost use Rattle.btr_check.specs.Checking.{verdict_of_choice, verdict_of_cause, verdict_of_trees};
-ghost use Rattle.btr_check.specs.Checking.{VerdictBetween, WasChecked, AreTreesFound};
+ghost use Rattle.btr_check.specs.Checking.{VerdictBetween, IsCheckedLog, WasChecked, AreTreesFound};
 
 use crate::checker::Checker;
 use crate::checkpoints::is_named;
@@ -129,8 +127,7 @@ fn judge_trees<D: Disk>(
     requires ends { EndsInside (D.size disk.old) whole.now }
     requires addressable { whole.now.tail ≤ 2 ^ 32 }
     ensures reads { OnlyReads ⟦<D as Disk>⟧ disk.old disk.new }
-    ensures found { D.is_observable → (s : SuperSpec)
-        → (l : IsJudgedLog MayStand HasSeen (D.contents disk.old) (first_reading s) checker.now whole.now)
+    ensures found { D.is_observable → (s : SuperSpec) (l : IsCheckedLog (D.contents disk.old) s checker.now whole.now)
         → IfOk result (AreTreesFound l.log.pages l.seen.entries l.seen.roots) }
     ensures cause { IfErr result (VerifyCause ⟦<D as Disk>⟧ disk.old disk.new) }
 {

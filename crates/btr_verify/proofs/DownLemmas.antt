@@ -1,5 +1,5 @@
 -- Lemmas on the way from a page that is not right to the first wrong node.
-use Rattle.std.specs.Prelude.{◌≡◌, ℕ, ◌<◌, ◌≤◌, List, [], ◌∷◌, slice_get, Some}
+use Rattle.std.specs.Prelude.{◌≡◌, ℕ, ◌<◌, ◌≤◌, List, [], ◌∷◌, slice_get, Some, None}
 use Rattle.std.proofs.Common.{refl, sym, ap, ◌∙◌, subst, arith}
 use Rattle.std.proofs.lemmas.Option.{same_Some}
 use Rattle.btr_base.specs.Span.{SpanValue, slot_of}
@@ -18,7 +18,7 @@ use Rattle.btr_verify.specs.FirstWrong.{IsFirstWrongOn}
 use Rattle.btr_verify.specs.declared.judging.Mark.{Mark}
 use Rattle.btr_verify.specs.declared.judging.Mark.TheVariants.{Right, WrongBelow, Wrong}
 use Rattle.btr_verify.specs.Trees.{ReadsDevice, past_of}
-use Rattle.btr_verify.specs.Judging.{CanReadTo, IsJudged, IsFirstWrongFrom, IsPageNotRight, GoesDown, AreMarkedRight, IsFirstNotRight}
+use Rattle.btr_verify.specs.Judging.{CanReadTo, IsJudged, IsFirstWrongFrom, IsPageNotRight, GoesDown, IsNamedFrom, IsNextFrom, AreMarkedRight, IsFirstNotRight}
 use Rattle.btr_verify.proofs.JudgeLemmas.{HasMark, node-span, node-version, slot-there, stored-page, child-page, has-mark, one-in, page-in, child-has, slot-marked, right-here}
 use Rattle.btr_verify.proofs.ReadLemmas.{reads-trans, same-bytes}
 
@@ -120,20 +120,15 @@ module _ {D : Type 0} (disk : Ghosts D) where
     pub can : CanReadTo disk tail piece new
     pub down : disk.is_observable → (pages : Pages) (h : List Entry) (page : NodePage) → IsPageNotRight pages h (disk.contents old) tail marks block page → GoesDown pages h (disk.contents old) tail marks block page at
 
-  -- What is found in the page at the end of the way, by the bytes of the device then.
-  abbrev pub IsAfter : ℕ → List Mark → ℕ → D → (Pages → List Entry → NodePage → Type 0) → Type 0
-  IsAfter tail marks at mid Found =
-      (pages : Pages) (h : List Entry) (page : NodePage) → IsPageNotRight pages h (disk.contents mid) tail marks at page → Found pages h page
-
   -- The first wrong node is that at the end of the way.
-  pub gone-end : (tail : ℕ) (marks : List Mark) (block at : ℕ) (old mid : D) (piece : PieceValue) → HasGone tail marks block at old mid piece → disk.is_observable → IsAfter tail marks at mid (λ pages h page. IsFirstWrongFrom pages h page at at) → IsAfter tail marks block old (λ pages h page. IsFirstWrongFrom pages h page block at)
+  pub gone-end : (tail : ℕ) (marks : List Mark) (block at : ℕ) (old mid : D) (piece : PieceValue) → HasGone tail marks block at old mid piece → disk.is_observable → IsNextFrom (disk.contents mid) tail marks at None → IsNamedFrom (disk.contents old) tail marks block at
   gone-end tail marks block at old mid piece gone reported found pages h page wrong =
       let down = gone.down reported pages h page wrong in
       let same = same-bytes disk old mid gone.reads reported in
       down.on at (found pages h down.below (subst (λ image. IsPageNotRight pages h image tail marks at down.below) (sym same) down.wrong))
 
   -- The way goes on to the next block.
-  pub gone-more : (tail : ℕ) (marks : List Mark) (block at next : ℕ) (old mid new : D) (piece after : PieceValue) → HasGone tail marks block at old mid piece → next < at → ReadsDevice disk mid new → CanReadTo disk tail after new → (disk.is_observable → IsAfter tail marks at mid (λ pages h page. GoesDown pages h (disk.contents mid) tail marks at page next)) → HasGone tail marks block next old new after
+  pub gone-more : (tail : ℕ) (marks : List Mark) (block at next : ℕ) (old mid new : D) (piece after : PieceValue) → HasGone tail marks block at old mid piece → next < at → ReadsDevice disk mid new → CanReadTo disk tail after new → (disk.is_observable → IsNextFrom (disk.contents mid) tail marks at (Some next)) → HasGone tail marks block next old new after
   gone-more tail marks block at next old mid new piece after gone lower reads can found = record {
     below = let low = gone.below in omega arith;
     reads = reads-trans disk old mid new gone.reads reads;

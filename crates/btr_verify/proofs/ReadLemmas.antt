@@ -1,29 +1,20 @@
 -- Lemmas on calls of a device that only read, and on the page that is read from a block.
-use Rattle.std.specs.Prelude.{◌≡◌, ℕ, ◌+◌, ◌-◌, ◌*◌, ◌^◌, ◌≤◌, min, List, [], ◌∷◌, length, take, drop, Option, Some}
+use Rattle.std.specs.Prelude.{◌≡◌, ℕ, ◌+◌, ◌-◌, ◌*◌, ◌≤◌, List, [], ◌∷◌, length, take, drop, Option, Some}
 use Rattle.std.proofs.Common.{refl, sym, ap, ◌∙◌, subst, arith, length-drop}
 use Rattle.std.proofs.lemmas.List.{append-nil, length-take-le, take-append-drop}
 use Rattle.std.proofs.lemmas.List.Concat.{flat_map-cons}
 use Rattle.btr_disk.specs.declared.disk.Disk.{Ghosts}
 use Rattle.btr_disk.specs.Bytes.{Image, Has}
 use Rattle.btr_disk.proofs.ByteLemmas.{Has-one, Has-append, Has-take, Same-is}
-use Rattle.btr_disk.specs.Causes.{Rose}
 use Rattle.btr_disk.proofs.MomentLemmas.{none_written, nothing_composes}
 use Rattle.btr_log.specs.Piece.{PieceValue, IsPieceOf, HoldsBlocks, bytes_at}
 use Rattle.btr_node.specs.Page.{page_bytes, Fits, Spells}
 use Rattle.btr_node.specs.declared.page.NodePage.{NodePage}
 use Rattle.btr_pages.proofs.BlockLemmas.{length-pages, each-places}
-use Rattle.btr_verify.specs.declared.verifying.VerifyFault.{VerifyFault}
-use Rattle.btr_verify.specs.declared.verifying.VerifyFault.TheVariants.{Fault, Want}
-use Rattle.btr_verify.specs.Trees.{ReadsDevice, VerifyCause}
+use Rattle.btr_verify.specs.Trees.{ReadsDevice}
 use Rattle.btr_verify.specs.Judging.{IsPageRead}
 
 -- ---- the device
-
-rose-by : (limit old mid new : ℕ) → old ≤ mid → min (mid + 1) limit ≤ new → min (old + 1) limit ≤ new
-rose-by limit old mid new le rose = omega arith
-
-rose-later : (old mid new : ℕ) → old ≤ mid → Rose mid new → Rose old new
-rose-later old mid new le rose = rose-by (2 ^ 64 - 1) old mid new le rose
 
 module _ {D : Type 0} (disk : Ghosts D) where
   -- Calls that only read, followed by others that only read.
@@ -47,11 +38,6 @@ module _ {D : Type 0} (disk : Ghosts D) where
   -- The device has the same bytes.
   pub same-bytes : (old new : D) → ReadsDevice disk old new → disk.is_observable → disk.contents new ≡ disk.contents old
   same-bytes old new reads reported = Same-is (disk.contents old) (disk.contents new) (reads.nothing reported).same
-
-  -- A fault of later calls has its cause in all of them.
-  pub cause-later : (old mid new : D) (fault : VerifyFault) → ReadsDevice disk old mid → VerifyCause disk mid new fault → VerifyCause disk old new fault
-  cause-later old mid new Fault reads cause = rose-later (disk.faults old) (disk.faults mid) (disk.faults new) reads.counts.more_faults cause
-  cause-later old mid new Want reads cause = tt
 
 -- ---- the block that a piece holds
 

@@ -7,7 +7,6 @@ use Rattle.std.proofs.lemmas.Option.{same_Some}
 use Rattle.btr_base.specs.declared.limits.TheConstants.{FIRST}
 use Rattle.btr_base.specs.declared.point.Point.{Point}
 use Rattle.btr_base.specs.Span.{SpanValue}
-use Rattle.btr_disk.specs.Bytes.{Image}
 use Rattle.btr_tree.specs.declared.node.Link.{Link}
 use Rattle.btr_tree.specs.declared.node.NodeData.{NodeData, out-NodeData}
 use Rattle.btr_tree.specs.declared.node.NodeData.TheOpen.{NodeData-F}
@@ -40,7 +39,7 @@ use Rattle.btr_verify.proofs.OwnLemmas.{right-from, leads-from}
 use Rattle.btr_verify.specs.declared.verifying.Made.{Made}
 use Rattle.btr_verify.specs.declared.judging.Mark.{Mark}
 use Rattle.btr_verify.specs.declared.judging.Mark.TheVariants.{Right}
-use Rattle.btr_verify.specs.Trees.{past_of, version_points, IsCommitOf, LeadsToTree, IsFirstThatFails, IsFirstWrongNode}
+use Rattle.btr_verify.specs.Trees.{past_of, version_points, IsCommitOf, AreCommitsOf, LeadsToTree, IsFirstThatFails, IsFirstWrongNode}
 use Rattle.btr_verify.specs.Judging.{HasPageVersion, WereJudged, HasTreeVersion, IsFirstWrongFrom, IsPageNotRight}
 use Rattle.btr_verify.proofs.StreamPastLemmas.{past-rising, past-to}
 use Rattle.btr_verify.proofs.JudgeLemmas.{page-aligned, node-version, stored-page, node-here, one-in, page-right, right-marked}
@@ -181,23 +180,23 @@ module _ (pages : Pages) (h : List Entry) (made : Made) (is : IsCommitOf pages h
 
   -- ---- its mark
 
-  module _ (image : Image) (tail : ℕ) (nodes : NodesValue) (snapshot : Snapshot) (marks : List Mark) (judged : WereJudged pages h image tail nodes snapshot marks) where
+  module _ (nodes : NodesValue) (snapshot : Snapshot) (marks : List Mark) (judged : WereJudged pages h nodes snapshot marks) where
     module _ (some : 0 < made.root) where
       abbrev p : HasRootPage pages made.stream made.version made.root
       p = is.page some
 
-      root-low : made.root < tail
-      root-low = judged.below made.root (judged.known.all made.root (subst IsSome (sym p.is) refl))
+      root-low : made.root < judged.tail
+      root-low = judged.below made.root (judged.trees.known.all made.root (subst IsSome (sym p.is) refl))
 
       root-keeps : Keeps p.page
-      root-keeps = (stored-page image pages made.root p.page judged.stored p.is).stands.keeps
+      root-keeps = (stored-page judged.image pages made.root p.page judged.trees.stored p.is).stands.keeps
 
       root-in : IsIn S made.root (node_of_page p.page)
       root-in = node-here pages made.root p.page made.stream p.is (sym p.fits.its_stream)
 
       root-marked : IsRight S P made.root (node_of_page p.page) ↔ (slice_get marks made.root ≡ Some Right)
       root-marked =
-          subst (λ s. IsRight (nodes_in pages s) (past_of h s) made.root (node_of_page p.page) ↔ (slice_get marks made.root ≡ Some Right)) p.fits.its_stream (right-marked image pages h tail marks made.root p.page judged.marked root-low (stored-page image pages made.root p.page judged.stored p.is) p.is (page-version p))
+          subst (λ s. IsRight (nodes_in pages s) (past_of h s) made.root (node_of_page p.page) ↔ (slice_get marks made.root ≡ Some Right)) p.fits.its_stream (right-marked judged.image pages h judged.tail marks made.root p.page judged.marked root-low (stored-page judged.image pages made.root p.page judged.trees.stored p.is) p.is (page-version p))
 
       -- A root leads to its tree exactly if its page has the version of the tree's root, and its mark says that it is right.
       root-by : LeadsToTree pages h made ↔ HasTreeVersion pages h made × (slice_get marks made.root ≡ Some Right)
@@ -240,7 +239,7 @@ module _ (pages : Pages) (h : List Entry) (made : Made) (is : IsCommitOf pages h
 
     -- A root with a page is not 0.
     pub root-some : HasTreeVersion pages h made → 0 < made.root
-    root-some has = (stored-page image pages made.root has.page judged.stored has.is).some
+    root-some has = (stored-page judged.image pages made.root has.page judged.trees.stored has.is).some
 
     -- ---- the root itself is the first wrong node
 
@@ -277,7 +276,7 @@ module _ (pages : Pages) (h : List Entry) (made : Made) (is : IsCommitOf pages h
 
 -- ---- the first root that fails
 
-module _ (pages : Pages) (h : List Entry) (image : Image) (tail : ℕ) (nodes : NodesValue) (snapshot : Snapshot) (marks : List Mark) (judged : WereJudged pages h image tail nodes snapshot marks) (mades : List Made) (each : (i : ℕ) → IfSome (slice_get mades i) (IsCommitOf pages h)) (first : Made) (fails : IsFirstThatFails pages h mades first) where
+module _ (pages : Pages) (h : List Entry) (nodes : NodesValue) (snapshot : Snapshot) (marks : List Mark) (judged : WereJudged pages h nodes snapshot marks) (mades : List Made) (each : AreCommitsOf pages h mades) (first : Made) (fails : IsFirstThatFails pages h mades first) where
   pub its-made : IsCommitOf pages h first
   its-made = subst (λ o. IfSome o (IsCommitOf pages h)) fails.is (each fails.at)
 
@@ -286,25 +285,25 @@ module _ (pages : Pages) (h : List Entry) (image : Image) (tail : ℕ) (nodes : 
   found-root other = record {
     first = first;
     fails = fails;
-    wrong = wrong-root pages h first its-made image tail nodes snapshot marks judged fails.fails other;
+    wrong = wrong-root pages h first its-made nodes snapshot marks judged fails.fails other;
   }
 
   module _ (has : HasTreeVersion pages h first) where
     its-root : 0 < first.root
-    its-root = root-some pages h first its-made image tail nodes snapshot marks judged has
+    its-root = root-some pages h first its-made nodes snapshot marks judged has
 
     -- The page of its root, from which the first wrong node is found.
     pub its-page : NodePage
     its-page = (its-made.page its-root).page
 
-    pub its-wrong : IsPageNotRight pages h image tail marks first.root its-page
+    pub its-wrong : IsPageNotRight pages h judged.image judged.tail marks first.root its-page
     unfolding its-page
     its-wrong = record {
-      stored = judged.stored;
+      stored = judged.trees.stored;
       marked = judged.marked;
       is = (its-made.page its-root).is;
       has = page-version pages h first its-made (its-made.page its-root);
-      not_right = not-marked pages h first its-made image tail nodes snapshot marks judged its-root has fails.fails;
+      not_right = not-marked pages h first its-made nodes snapshot marks judged its-root has fails.fails;
     }
 
     pub found-below : (named : ℕ) → IsFirstWrongFrom pages h its-page first.root named → IsFirstWrongNode pages h mades named
@@ -312,5 +311,5 @@ module _ (pages : Pages) (h : List Entry) (image : Image) (tail : ℕ) (nodes : 
     found-below named way = record {
       first = first;
       fails = fails;
-      wrong = wrong-below pages h first its-made image tail nodes snapshot marks judged its-root has named way;
+      wrong = wrong-below pages h first its-made nodes snapshot marks judged its-root has named way;
     }

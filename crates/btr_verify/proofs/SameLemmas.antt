@@ -1,5 +1,5 @@
 -- Lemmas on the comparison of a stored node with one that was visited.
-use Rattle.std.specs.Prelude.{◌≡◌, ◌↔◌, ℕ, ◌≤◌, nat_eq, ℤ, Bool, true, ◌&&◌, ◌==◌, cond, List, [], ◌∷◌, length, map, slice_get, Option, Some, None, IsTrue}
+use Rattle.std.specs.Prelude.{◌≡◌, ◌↔◌, ℕ, nat_eq, ℤ, Bool, true, ◌&&◌, ◌==◌, cond, List, [], ◌∷◌, length, map, slice_get, Option, Some, None, IsTrue}
 use Rattle.std.specs.Bool.{Decides}
 use Rattle.std.specs.Cmp.Lexicographic.{pointwise}
 use Rattle.std.specs.Option.{option_eq, option_map}
@@ -12,22 +12,21 @@ use Rattle.std.proofs.lemmas.Option.{slice_get-map, slice_get_past}
 use Rattle.std.proofs.lemmas.List.{length-map}
 use Rattle.std.proofs.lemmas.Slice.Eq.{slice_eq-Decides}
 use Rattle.btr_base.specs.Agg.{AggValue}
-use Rattle.btr_base.specs.declared.limits.TheConstants.{LEAF_POINTS}
 use Rattle.btr_base.specs.declared.point.Point.{Point}
 use Rattle.btr_base.specs.Point.{same_point}
 use Rattle.btr_base.specs.Span.{SpanValue}
 use Rattle.btr_base.proofs.PointLemmas.{same_point-true, same_point-refl}
 use Rattle.btr_tree.specs.declared.node.Node.{Node}
-use Rattle.btr_tree.specs.declared.node.Node.TheVariants.{Leaf, Inner}
+use Rattle.btr_tree.specs.declared.node.Node.TheVariants.{Inner}
 use Rattle.btr_tree.specs.declared.node.Slot.{Slot}
 use Rattle.btr_tree.specs.declared.slots.Slots.{Slots}
 use Rattle.btr_tree.specs.History.{Past, bag}
 use Rattle.btr_tree.specs.NewNodes.{NewNodeValue, bare, slots_of, new_node}
 use Rattle.btr_tree.specs.Nodes.{points_of}
 use Rattle.btr_tree.specs.Packed.{without_address}
-use Rattle.btr_tree.specs.Shape.{slot_start, slot_of_points, IsLeaf, IsInner, HasSlots}
-use Rattle.btr_tree.proofs.NewNodeLemmas.{new_node-by, few-inner}
-use Rattle.btr_tree.proofs.NodeLemmas.{IsBody, leaf-is, inner-is}
+use Rattle.btr_tree.specs.Shape.{slot_start, slot_of_points, IsInner, HasSlots}
+use Rattle.btr_tree.proofs.NewNodeLemmas.{new_node-by}
+use Rattle.btr_tree.proofs.NodeLemmas.{IsBody, inner-is}
 use Rattle.btr_tree.proofs.UntouchedNodeLemmas.{many-inner}
 use Rattle.btr_verify.specs.Found.{IsNodeIn}
 use Rattle.btr_verify.specs.Judged.{above_of}
@@ -99,30 +98,6 @@ leaf-fields own all version points slots r same none is =
 
 -- ---- the node of a span, and its fields
 
-bare-none : (slots : List Slot) → map without_address slots ≡ [] → slots ≡ []
-bare-none [] e = refl
-bare-none (x ∷ slots) e = absurd (cc)
-
-leaf-new : (k : ℕ) (s : ℤ) (above : List Point → Bool) (h : Past) (v : ℕ) (ps : List Point) → IsLeaf k s above h v ps → new_node k s above h ≡ record { span = record { start = s; height = k }; version = v; points = ps; slots = [] }
-leaf-new zero s above h v ps leaf = sym (new_node-by _ _ _ _ _ _ _ leaf.version leaf.same refl)
-leaf-new (suc k) s above h v ps leaf =
-    let few = few-inner (suc k) s (bag h) (subst (λ x. length x ≤ LEAF_POINTS) leaf.same leaf.few) in
-    sym (new_node-by _ _ _ _ _ _ _ leaf.version (leaf.same ∙ sym (ap (λ t. cond t [] (points_of (suc k) s (bag h))) few)) (sym (ap (λ t. cond t (slots_of k s h) []) few)))
-
--- A stored node is that of a leaf exactly if it has the leaf's fields.
-leaf-same : (k : ℕ) (s : ℤ) (above : List Point → Bool) (h : Past) (v : ℕ) (ps : List Point) (version : ℕ) (points : List Point) (slots : List Slot) → IsLeaf k s above h v ps → AreLeafFields v ps version points slots ↔ (bare (stored_node (record { start = s; height = k }) version points slots) ≡ new_node k s above h)
-leaf-same k s above h v ps version points slots leaf =
-    let is = leaf-new k s above h v ps leaf in (
-      λ fields. new_node-by _ _ _ _ _ _ _ (sym fields.same_version) (sym fields.same_points) (ap (map without_address) fields.none) ∙ sym is,
-      λ e.
-          let f = e ∙ is in
-          record {
-            same_version = sym (ap (λ (n : NewNodeValue). n.version) f);
-            same_points = sym (ap (λ (n : NewNodeValue). n.points) f);
-            none = bare-none slots (ap (λ (n : NewNodeValue). n.slots) f);
-          },
-    )
-
 inner-new : (k : ℕ) (s : ℤ) (above : List Point → Bool) (h : Past) (v : ℕ) (x : Slots) → IsInner k s above h v x → new_node (suc k) s above h ≡ record { span = record { start = s; height = suc k }; version = v; points = []; slots = slots_of k s h }
 inner-new k s above h v x is =
     let many = many-inner (suc k) s (bag h) is.many in
@@ -162,11 +137,7 @@ inner-same k s above h v x version points slots inner =
 both-ways : {P Q R : Type 0} → P ↔ Q → Q ↔ R → P ↔ R
 both-ways p q = (λ x. q.0 (p.0 x), λ z. p.1 (q.1 z))
 
--- What is said of a leaf that was visited, and of an inner node.
-pub leaf-decides : (span : SpanValue) (h : Past) (node : Node) (v : ℕ) (ps : Bor (List Point)) (version : ℕ) (points : List Point) (slots : List Slot) (r : Bool) → node ≡ Leaf v ps → IsNodeIn span h node → IsTrue r ↔ AreLeafFields v ps.now version points slots → IsTrue r ↔ IsSameNode span h version points slots
-leaf-decides span h node v ps version points slots r e is fields =
-    both-ways fields (leaf-same span.height span.start (above_of span) h v ps.now version points slots (leaf-is span.height span.start (above_of span) h node v ps e is.its_node))
-
+-- What is said of an inner node that was visited.
 inner-at : (k : ℕ) (s : ℤ) (above : List Point → Bool) (h : Past) (v : ℕ) (x : Slots) (version : ℕ) (points : List Point) (slots : List Slot) → IsBody k s above h v x → AreInnerFields v x version points slots ↔ (bare (stored_node (record { start = s; height = k }) version points slots) ≡ new_node k s above h)
 inner-at zero s above h v x version points slots body = absurd (let high = body.height in omega arith)
 inner-at (suc k) s above h v x version points slots body =

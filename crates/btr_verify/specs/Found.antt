@@ -1,5 +1,5 @@
 -- What is found of a span in a tree: its node, or none if the span is no node of the tree.
-use Rattle.std.specs.Prelude.{◌≡◌, ℕ, ◌≤◌, ◌≤ℤ◌, ◌<ℤ◌, true, false, Option, MatchOption}
+use Rattle.std.specs.Prelude.{◌≡◌, ◌≤◌, ◌≤ℤ◌, ◌<ℤ◌, true, false, Option, MatchOption}
 use Rattle.btr_base.specs.Span.{SpanValue}
 use Rattle.btr_tree.specs.declared.node.Node.{Node}
 use Rattle.btr_tree.specs.declared.node.NodeData.{NodeData}

@@ -1,5 +1,5 @@
 -- What the private functions promise: which pages were judged, and how.
-use Rattle.std.specs.Prelude.{◌≡◌, ℕ, ◌^◌, ◌<◌, ◌≤◌, List, length, slice_get, Option, Some, IfSome, IsSome}
+use Rattle.std.specs.Prelude.{◌≡◌, ℕ, ◌^◌, ◌<◌, ◌≤◌, List, length, slice_get, Option, Some, IfSome, IsSome, MatchOption}
 use Rattle.btr_disk.specs.declared.disk.Disk.{Ghosts}
 use Rattle.btr_disk.specs.Bytes.{Image}
 use Rattle.btr_log.specs.Piece.{PieceValue, IsPieceOf}
@@ -22,7 +22,7 @@ use Rattle.btr_verify.specs.FirstWrong.{IsFirstWrong}
 use Rattle.btr_verify.specs.declared.verifying.Made.{Made}
 use Rattle.btr_verify.specs.declared.judging.Mark.{Mark}
 use Rattle.btr_verify.specs.declared.judging.Mark.TheVariants.{Right, WrongBelow, Wrong}
-use Rattle.btr_verify.specs.Trees.{IsStoredAt, AreStoredAt, past_of, version_points}
+use Rattle.btr_verify.specs.Trees.{IsStoredAt, AreStoredAt, AreTreesOf, AllLead, IsFirstThatFails, past_of, version_points}
 
 -- ---- reading
 
@@ -36,6 +36,10 @@ module _ {D : Type 0} (disk : Ghosts D) where
 -- If the block has a page that stands rightly among others, it was read.
 abbrev pub IsPageRead : Image → ℕ → Option NodePage → Type 0
 IsPageRead image block read = (pages : Pages) (page : NodePage) → IsStoredAt image pages block page → read ≡ Some page
+
+-- What was read is the page that the block has among pages of which trees were made, or none.
+abbrev pub IsKnownPage : Image → NodesValue → ℕ → Option NodePage → Type 0
+IsKnownPage image nodes block read = (pages : Pages) → AreKnown pages nodes → AreStoredAt image pages → pages block ≡ read
 
 -- ---- marks
 
@@ -78,24 +82,32 @@ pub record IsFirstNotRight (marks : List Mark) (slots : List PageSlot) (child : 
   pub not_right : slice_get marks child ≡ Some Right → ⊥
   pub before : (i : ℕ) → i < at → IfSome (slice_get slots i) (IsMarkedRight marks)
 
--- The page in a block can be judged: the blocks below it have marks.
-pub record CanJudge (pages : Pages) (h : List Entry) (image : Image) (block : ℕ) (marks : List Mark) (snapshot : Snapshot) (page : NodePage)
-    : Type 0 where
+-- What page the block has, or none, can be judged: the blocks below it have marks.
+pub record CanJudge (pages : Pages) (h : List Entry) (image : Image) (block : ℕ) (marks : List Mark) (snapshot : Snapshot)
+    (page : Option NodePage) : Type 0 where
   pub of : IsSnapshotOf h snapshot
-  pub is : pages block ≡ Some page
+  pub is : pages block ≡ page
   pub stored : AreStoredAt image pages
   pub marked : AreMarked pages h block marks
+
+-- Of any pages and any history that the trees are of, the blocks below n have marks.
+abbrev pub AreMarksOf : Image → NodesValue → Snapshot → ℕ → List Mark → Type 0
+AreMarksOf image nodes snapshot n marks =
+    (pages : Pages) (h : List Entry) → AreTreesOf image pages h nodes snapshot → AreMarked pages h n marks
 
 -- ---- roots
 
 -- All pages were judged: the blocks below the tail have marks, and the pages are in these blocks.
-pub record WereJudged (pages : Pages) (h : List Entry) (image : Image) (tail : ℕ) (nodes : NodesValue) (snapshot : Snapshot)
-    (marks : List Mark) : Type 0 where
-  pub known : AreKnown pages nodes
-  pub stored : AreStoredAt image pages
-  pub of : IsSnapshotOf h snapshot
+pub record WereJudged (pages : Pages) (h : List Entry) (nodes : NodesValue) (snapshot : Snapshot) (marks : List Mark) : Type 0 where
+  pub image : Image
+  pub tail : ℕ
+  pub trees : AreTreesOf image pages h nodes snapshot
   pub below : (block : ℕ) → IsSome (node_at nodes block) → block < tail
   pub marked : AreMarked pages h tail marks
+
+-- Each root leads to the tree of its version, or the first one that does not is that of the commit that was found.
+abbrev pub IsFirstFailure : Pages → List Entry → List Made → Option Made → Type 0
+IsFirstFailure pages h made found = MatchOption found (AllLead pages h made) (IsFirstThatFails pages h made)
 
 -- The version of a commit has a point, and the page of the root has the version of the root of the version's tree.
 pub record HasTreeVersion (pages : Pages) (h : List Entry) (made : Made) : Type 0 where
@@ -126,3 +138,17 @@ pub record GoesDown (pages : Pages) (h : List Entry) (image : Image) (tail : ℕ
   pub below : NodePage
   pub wrong : IsPageNotRight pages h image tail marks next below
   pub on : (named : ℕ) → IsFirstWrongFrom pages h below next named → IsFirstWrongFrom pages h page block named
+
+-- From any page that the block may have and that is not right, the first wrong node is in the block that is named.
+abbrev pub IsNamedFrom : Image → ℕ → List Mark → ℕ → ℕ → Type 0
+IsNamedFrom image tail marks block named =
+    (pages : Pages) (h : List Entry) (page : NodePage)
+    → IsPageNotRight pages h image tail marks block page
+    → IsFirstWrongFrom pages h page block named
+
+-- From any page that the block may have and that is not right, the way goes on to the next block, or ends if there is none.
+abbrev pub IsNextFrom : Image → ℕ → List Mark → ℕ → Option ℕ → Type 0
+IsNextFrom image tail marks block next =
+    (pages : Pages) (h : List Entry) (page : NodePage)
+    → IsPageNotRight pages h image tail marks block page
+    → MatchOption next (IsFirstWrongFrom pages h page block block) (GoesDown pages h image tail marks block page)

@@ -59,14 +59,21 @@ abbrev pub LeadsToTree : Pages → List Entry → Made → Type 0
 LeadsToTree pages h made =
     Leads (Stand pages made.stream) 10 FIRST above_root (commits_to h made.stream made.version) made.root
 
--- The trees are those of these pages, which are stored on the device. The snapshot has the entries of this history, and these are
--- commits of it.
-pub record AreToVerify (image : Image) (pages : Pages) (h : List Entry) (nodes : NodesValue) (snapshot : Snapshot) (made : List Made)
-    : Type 0 where
+-- These are commits of the history.
+abbrev pub AreCommitsOf : Pages → List Entry → List Made → Type 0
+AreCommitsOf pages h made = (i : ℕ) → IfSome (slice_get made i) (IsCommitOf pages h)
+
+-- The trees are those of these pages, which are stored on the device. The snapshot has the entries of this history.
+pub record AreTreesOf (image : Image) (pages : Pages) (h : List Entry) (nodes : NodesValue) (snapshot : Snapshot) : Type 0 where
   pub known : AreKnown pages nodes
   pub stored : AreStoredAt image pages
   pub of : IsSnapshotOf h snapshot
-  pub each : (i : ℕ) → IfSome (slice_get made i) (IsCommitOf pages h)
+
+-- The trees are those of pages and of a history, and these are commits of the history.
+pub record AreToVerify (image : Image) (pages : Pages) (h : List Entry) (nodes : NodesValue) (snapshot : Snapshot) (made : List Made)
+    : Type 0 where
+  pub trees : AreTreesOf image pages h nodes snapshot
+  pub each : AreCommitsOf pages h made
 
 -- ---- what is found
 

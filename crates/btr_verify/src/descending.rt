@@ -1,10 +1,7 @@
 //! The way from a root that does not lead to its version's tree to the first wrong node.
-ghost use Rattle.std.specs.Prelude.{◌<◌, ℕ, List, IfErr, IfOk, IfSome, MatchOption};
-ghost use Rattle.btr_node.specs.declared.page.NodePage.{NodePage as PageSpec};
-ghost use Rattle.btr_pages.specs.Pages.{Pages};
-ghost use Rattle.btr_hist.specs.declared.entry.Entry.{Entry as EntrySpec};
+ghost use Rattle.std.specs.Prelude.{◌<◌, IfErr, IfOk, IfSome};
 ghost use Rattle.btr_verify.specs.Trees.{ReadsDevice, VerifyCause};
-ghost use Rattle.btr_verify.specs.Judging.{CanReadTo, GoesDown, IsFirstWrongFrom, IsPageNotRight};
+ghost use Rattle.btr_verify.specs.Judging.{CanReadTo, IsNamedFrom, IsNextFrom};
 
 use crate::judging::{Mark, first_not_right, is_wrong_below};
 use crate::reading::read_page;
@@ -23,8 +20,7 @@ pub(crate) fn descend<D: Disk>(
     requires below { block < tail }
     requires can { CanReadTo ⟦<D as Disk>⟧ tail piece.old disk.old }
     ensures reads { ReadsDevice ⟦<D as Disk>⟧ disk.old disk.new }
-    ensures named { D.is_observable → (pages : Pages) (h : List EntrySpec) (page : PageSpec)
-        → IsPageNotRight pages h (D.contents disk.old) tail marks.now block page → IfOk result (IsFirstWrongFrom pages h page block) }
+    ensures named { D.is_observable → IfOk result (IsNamedFrom (D.contents disk.old) tail marks.now block) }
     ensures cause { IfErr result (VerifyCause ⟦<D as Disk>⟧ disk.old disk.new) }
 {
     let mut at = block;
@@ -49,10 +45,7 @@ fn wrong_child<D: Disk>(
     ensures reads { ReadsDevice ⟦<D as Disk>⟧ disk.old disk.new }
     ensures can { CanReadTo ⟦<D as Disk>⟧ tail piece.new disk.new }
     ensures lower { IfOk result (λ o. IfSome o (λ child. child < block)) }
-    ensures child { D.is_observable → (pages : Pages) (h : List EntrySpec) (page : PageSpec)
-        → IsPageNotRight pages h (D.contents disk.old) tail marks.now block page
-        → IfOk result (λ o. MatchOption o (IsFirstWrongFrom pages h page block block)
-        (GoesDown pages h (D.contents disk.old) tail marks.now block page)) }
+    ensures child { D.is_observable → IfOk result (IsNextFrom (D.contents disk.old) tail marks.now block) }
     ensures cause { IfErr result (VerifyCause ⟦<D as Disk>⟧ disk.old disk.new) }
 {
     if !is_wrong_below(marks, block) {

@@ -19,7 +19,7 @@ use btr_streams::Snapshot;
 use btr_tree::{Label, Slot, Steps};
 
 /// The label of the counter of the nodes that are visited in the trees of the entries.
-pub(crate) struct JudgeWalk;
+struct JudgeWalk;
 
 impl Label for JudgeWalk {}
 
@@ -38,17 +38,12 @@ pub(crate) enum Mark {
 
 /// Judges a page by the tree of its version, and by the marks of its children, which are in lower blocks. It takes time linear in its
 /// points or slots.
-pub(crate) fn judge(
-    snapshot: &Snapshot,
-    marks: &[Mark],
-    page: &NodePage,
-    steps: &mut Steps<JudgeWalk>,
-) -> Mark
+pub(crate) fn judge(snapshot: &Snapshot, marks: &[Mark], page: &NodePage) -> Mark
     requires { Keeps page.now }
     ensures { (pages : Pages) (h : List EntrySpec) (image : Image) (block : ℕ)
-        → CanJudge pages h image block marks.now snapshot.now page.now → IsMarkOf pages h block result page.now }
+        → CanJudge pages h image block marks.now snapshot.now (Some page.now) → IsMarkOf pages h block result page.now }
 {
-    if !is_own_page(snapshot, page, steps) {
+    if !is_own_page(snapshot, page) {
         return Mark::Wrong;
     }
     match first_not_right(marks, page) {
@@ -58,7 +53,7 @@ pub(crate) fn judge(
 }
 
 /// Whether the own fields of a page are those of its node in the tree of its version.
-fn is_own_page(snapshot: &Snapshot, page: &NodePage, steps: &mut Steps<JudgeWalk>) -> bool
+fn is_own_page(snapshot: &Snapshot, page: &NodePage) -> bool
     requires { Keeps page.now }
     ensures { (h : List EntrySpec) → IsSnapshotOf h snapshot.now → HasPageVersion h page.now
         → IsTrue result ↔ IsOwn (past_of h (front page.now).stream) (node_of_page page.now) }
@@ -73,11 +68,11 @@ fn is_own_page(snapshot: &Snapshot, page: &NodePage, steps: &mut Steps<JudgeWalk
     match page {
         NodePage::Leaf { points, .. } => {
             let points = &points[..count as usize];
-            is_own_node(snapshot, stream, span, version, points, &[], steps)
+            is_own_node(snapshot, stream, span, version, points, &[])
         }
         NodePage::Inner { slots, .. } => {
             let slots = tree_slots(slots);
-            is_own_node(snapshot, stream, span, version, &[], &slots, steps)
+            is_own_node(snapshot, stream, span, version, &[], &slots)
         }
     }
 }
@@ -90,14 +85,16 @@ fn is_own_node(
     version: u64,
     points: &[Point],
     slots: &[Slot],
-    steps: &mut Steps<JudgeWalk>,
 ) -> bool
     ensures { (h : List EntrySpec) → IsSnapshotOf h snapshot.now → HasVersion h stream version
         → IsTrue result ↔ IsOwn (past_of h stream) (stored_node span version points.now slots.now) }
 {
     match snapshot.tree(stream, version) {
         None => false,
-        Some(tree) => is_own(tree, span, version, points, slots, steps),
+        Some(tree) => {
+            let mut steps = Steps::<JudgeWalk>::new();
+            is_own(tree, span, version, points, slots, &mut steps)
+        }
     }
 }
 

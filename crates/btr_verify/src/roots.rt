@@ -1,13 +1,12 @@
 //! Which root is the first that does not lead to the tree of its version.
-ghost use Rattle.std.specs.Prelude.{◌≡◌, ◌↔◌, ℕ, List, [], IfSome, IsSome, IsTrue, MatchOption, slice_get};
-ghost use Rattle.btr_disk.specs.Bytes.{Image};
+ghost use Rattle.std.specs.Prelude.{◌≡◌, ◌↔◌, List, [], IsSome, IsTrue};
 ghost use Rattle.btr_pages.specs.Pages.{Pages};
 ghost use Rattle.btr_hist.specs.declared.entry.Entry.{Entry as EntrySpec};
 ghost use Rattle.btr_pages.specs.Known.{AreKnown, node_at};
 ghost use Rattle.btr_streams.specs.Board.{HasVersion};
 ghost use Rattle.btr_streams.specs.Snapshot.{IsSnapshotOf};
-ghost use Rattle.btr_verify.specs.Trees.{AllLead, IsFirstThatFails, IsCommitOf, LeadsToTree, version_points};
-ghost use Rattle.btr_verify.specs.Judging.{HasTreeVersion, WereJudged};
+ghost use Rattle.btr_verify.specs.Trees.{AreCommitsOf, IsCommitOf, LeadsToTree, version_points};
+ghost use Rattle.btr_verify.specs.Judging.{HasTreeVersion, IsFirstFailure, WereJudged};
 
 use crate::judging::{Mark, is_right};
 use crate::verifying::Made;
@@ -21,9 +20,9 @@ pub(crate) fn first_that_fails(
     marks: &[Mark],
     made: &[Made],
 ) -> Option<Made>
-    ensures { (pages : Pages) (h : List EntrySpec) (image : Image) (tail : ℕ)
-        → WereJudged pages h image tail nodes.now snapshot.now marks.now → ((i : ℕ) → IfSome (slice_get made.now i) (IsCommitOf pages h))
-        → MatchOption result (AllLead pages h made.now) (IsFirstThatFails pages h made.now) }
+    ensures { (pages : Pages) (h : List EntrySpec)
+        → WereJudged pages h nodes.now snapshot.now marks.now → AreCommitsOf pages h made.now
+        → IsFirstFailure pages h made.now result }
 {
     for commit in made {
         if !leads(nodes, snapshot, marks, commit) {
@@ -35,8 +34,8 @@ pub(crate) fn first_that_fails(
 
 /// Whether the root of a commit leads to the tree of its version.
 fn leads(nodes: &Nodes, snapshot: &Snapshot, marks: &[Mark], made: &Made) -> bool
-    ensures { (pages : Pages) (h : List EntrySpec) (image : Image) (tail : ℕ)
-        → WereJudged pages h image tail nodes.now snapshot.now marks.now → IsCommitOf pages h made.now
+    ensures { (pages : Pages) (h : List EntrySpec)
+        → WereJudged pages h nodes.now snapshot.now marks.now → IsCommitOf pages h made.now
         → IsTrue result ↔ LeadsToTree pages h made.now }
 {
     if made.root == 0 {

@@ -1,6 +1,6 @@
-use Rattle.std.specs.Prelude.{◌<◌, IfSome, MatchOption}
+use Rattle.std.specs.Prelude.{◌<◌, IfSome}
 use Rattle.std.proofs.Common.{subst}
-use Rattle.btr_verify.specs.Judging.{IsFirstWrongFrom, GoesDown}
+use Rattle.btr_verify.specs.Judging.{IsNextFrom}
 use Rattle.btr_verify.proofs.ReadLemmas.{reads-none}
 use Rattle.btr_verify.proofs.DownLemmas.{goes-nowhere, gone-end, gone-more}
 use Rattle.btr_verify.proofs.descending.descend.Goals as goal
@@ -19,13 +19,11 @@ pub returns-in-None-clause-named : goal.returns-in-None-clause-named
 returns-in-None-clause-named g c reported =
     let disk = g.D.Disk in
     let l = c.loop-child in
-    let image = disk.contents l.disk in
-    gone-end disk c.args.tail c.args.marks.now c.args.block l.at c.args.disk.now l.disk l.piece l.invariant reported (λ pages h page wrong. subst (λ o. MatchOption o (IsFirstWrongFrom pages h page l.at l.at) (GoesDown pages h image c.args.tail c.args.marks.now l.at page)) c.in-None.is (c.in_ok-wrong_child.ensures.child reported pages h page wrong))
+    gone-end disk c.args.tail c.args.marks.now c.args.block l.at c.args.disk.now l.disk l.piece l.invariant reported (subst (IsNextFrom (disk.contents l.disk) c.args.tail c.args.marks.now l.at) c.in-None.is (c.in_ok-wrong_child.ensures.child reported))
 
 pub loop-child-preserved : goal.loop-child-preserved
 loop-child-preserved g c =
     let disk = g.D.Disk in
     let l = c.loop-child in
-    let image = disk.contents l.disk in
     let lower = subst (λ o. IfSome o (λ child. child < l.at)) c.in-Some.is c.in_ok-wrong_child.ensures.lower in
-    gone-more disk c.args.tail c.args.marks.now c.args.block l.at c.in-Some.child c.args.disk.now l.disk c.wrong_child.new.disk l.piece c.wrong_child.new.piece l.invariant lower c.wrong_child.ensures.reads c.wrong_child.ensures.can (λ reported pages h page wrong. subst (λ o. MatchOption o (IsFirstWrongFrom pages h page l.at l.at) (GoesDown pages h image c.args.tail c.args.marks.now l.at page)) c.in-Some.is (c.in_ok-wrong_child.ensures.child reported pages h page wrong))
+    gone-more disk c.args.tail c.args.marks.now c.args.block l.at c.in-Some.child c.args.disk.now l.disk c.wrong_child.new.disk l.piece c.wrong_child.new.piece l.invariant lower c.wrong_child.ensures.reads c.wrong_child.ensures.can (λ reported. subst (IsNextFrom (disk.contents l.disk) c.args.tail c.args.marks.now l.at) c.in-Some.is (c.in_ok-wrong_child.ensures.child reported))
