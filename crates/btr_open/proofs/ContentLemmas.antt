@@ -13,7 +13,6 @@ use Rattle.btr_log.specs.Head.{head_bytes, IsHead, entry_head, checkpoint_head}
 use Rattle.btr_log.proofs.HeadLemmas.{length-head_bytes, head_bytes-one, IsHead-entry_head}
 use Rattle.btr_node.specs.Page.{page_bytes, Fits}
 use Rattle.btr_node.specs.declared.page.NodePage.{NodePage}
-use Rattle.btr_pages.specs.Pages.{ArePages}
 use Rattle.btr_pages.proofs.BlockLemmas.{parts-one, each-places, length-pages}
 use Rattle.btr_hist.specs.declared.entry.Entry.{Entry}
 use Rattle.btr_entry.specs.Grammar.{spelling}
@@ -21,7 +20,7 @@ use Rattle.btr_roll.specs.Roll.{roll_bytes}
 use Rattle.btr_entry.specs.Grammar.{IsSpelled}
 use Rattle.btr_entry.proofs.SpellingLemmas.{length-spelling, same_entry}
 use Rattle.btr_streams.specs.Rolling.{roll_of}
-use Rattle.btr_engine.specs.Body.{padding, body_of, Prefix, IsBodyOf, first_page, checkpoint_body, IsCheckpointOf}
+use Rattle.btr_engine.specs.Body.{padding, body_of, Prefix, IsBodyOf, checkpoint_body, IsCheckpointOf}
 use Rattle.btr_engine.proofs.BodyLemmas.{filled, need-body_of}
 use Rattle.btr_open.specs.Content.{content_of, HasContent, HasCheckpoint}
 
@@ -84,10 +83,6 @@ pub has-roll : (log : Prefix) (body : List ℕ) → IsCheckpointOf log body → 
 unfolding checkpoint_body
 has-roll log body is = record { room = is.room; bytes = is.bytes }
 
-pub roll-has : (log : Prefix) (body : List ℕ) → HasCheckpoint (length log.entries) (roll_bytes (roll_of log.entries log.roots)) body → IsCheckpointOf log body
-unfolding checkpoint_body
-roll-has log body has = record { room = has.room; bytes = has.bytes }
-
 -- A body has not the content of an entry and that of a checkpoint.
 pub contents-apart : (number entries : ℕ) (e : Entry) (root : ℕ) (nodes content body : List ℕ) → HasContent number e root nodes body → HasCheckpoint entries content body → ⊥
 contents-apart number entries e root nodes content body has is =
@@ -95,10 +90,6 @@ contents-apart number entries e root nodes content body has is =
     let begins : take 64 body ≡ head_bytes head = ap (take 64) (content-parts number e root nodes body has) ∙ take_at (head_bytes head) (filled e ++ nodes) 64 (length-head_bytes head) in
     let kinds : 1 ≡ 2 = checkpoint-kind entries content body head is begins (omega arith) in
     absurd (omega (arith, kinds))
-
-pub content-apart : (log : Prefix) (e : Entry) (root : ℕ) (nodes body : List ℕ) → HasContent (length log.entries + 1) e root nodes body → IsCheckpointOf log body → ⊥
-content-apart log e root nodes body content is =
-    contents-apart (length log.entries + 1) (length log.entries) e root nodes (roll_bytes (roll_of log.entries log.roots)) body content (has-roll log body is)
 
 -- ---- the body of an entry
 
@@ -131,13 +122,3 @@ pub bytes-content : (number : ℕ) (e : Entry) (root : ℕ) (nodes : List ℕ) (
 bytes-content number e root nodes pages body has same fits =
     let count : has.nodes ≡ length pages = omega (arith, has.whole, ap length same, length-pages pages (each-places pages fits)) in
     has.bytes ∙ (λ i. content_of number e root (count i) ++ same i) ∙ sym (content-bytes number e root pages)
-
--- A content whose node blocks are pages that stand rightly is the body of its entry.
-pub content-body : (before : Prefix) (e : Entry) (root : ℕ) (nodes : List ℕ) (pages : List NodePage) (body : List ℕ) → HasContent (length before.entries + 1) e root nodes body → nodes ≡ flat_map page_bytes pages → AllByRecursion Fits pages → ArePages before.pages (first_page before.gate e) pages → IsBodyOf before e root pages body
-content-body before e root nodes pages body has same fits stand = record {
-  spelled = has.spelled;
-  fits = fits;
-  rightly = stand;
-  low = has.low;
-  bytes = bytes-content (length before.entries + 1) e root nodes pages body has same fits;
-}

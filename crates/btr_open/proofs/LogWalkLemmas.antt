@@ -1,15 +1,13 @@
 -- Lemmas on a walk over a log: what holds of it after calls that only read, after one extent more, and at the closed gate.
-use Rattle.std.specs.Prelude.{◌≡◌, ℕ, ◌+◌, ◌*◌, ◌<◌, ◌≤◌, ◌^◌, List, true, false, Option, Some, None, IfSome, IfNone}
-use Rattle.std.proofs.Common.{refl, sym, ◌∙◌, ap, subst, arith, inl, inr}
+use Rattle.std.specs.Prelude.{◌≡◌, ℕ, ◌+◌, ◌*◌, ◌<◌, ◌≤◌, List}
+use Rattle.std.proofs.Common.{refl, sym, ◌∙◌, subst, arith, inr}
 use Rattle.btr_disk.specs.declared.disk.Disk.{Ghosts}
-use Rattle.btr_disk.specs.Bytes.{Image, Has}
+use Rattle.btr_disk.specs.Bytes.{Has}
 use Rattle.btr_disk.specs.Gate.{IsOpen, IsClosed}
 use Rattle.btr_log.specs.declared.head.Head.{Head}
 use Rattle.btr_log.specs.declared.log.Log.{Log}
 use Rattle.btr_log.specs.Log.{log_device, log_blocks, KeepsLog}
 use Rattle.btr_log.specs.Extents.{need, IsExtent}
-use Rattle.btr_log.specs.Found.{IsDamagedExtent}
-use Rattle.btr_log.specs.Ahead.{MatchesPiece}
 use Rattle.btr_log.specs.Piece.{PieceValue, IsPieceOf}
 use Rattle.btr_super.specs.declared.superblock.Super.{Super}
 use Rattle.btr_super.specs.Super.{IsSuper}
@@ -20,7 +18,7 @@ use Rattle.btr_open.specs.declared.log_walk.LogWalk.{LogWalk}
 use Rattle.btr_open.specs.declared.opening.OpenCause.{OpenCause}
 use Rattle.btr_open.specs.declared.place.Place.{Place}
 use Rattle.btr_open.specs.Below.{StandBelow}
-use Rattle.btr_open.specs.Loading.{IsReaderOf, HasReadBelow, CanRead, AreOfDevice, ReadsBody, BreaksAfter, ReadsThrough}
+use Rattle.btr_open.specs.Loading.{IsReaderOf, CanRead, AreOfDevice, ReadsBody, BreaksAfter}
 use Rattle.btr_open.specs.LogWalk.{walked_device, IsWalkOver, WalksOn, IsWalked, IsAtEnd, WasWalked, HoldsNext, body_ahead, ReadsExtent, BreaksExtent}
 use Rattle.btr_open.specs.Place.{IsPlaceIn, IsPlaceAfter}
 use Rattle.btr_open.specs.Reading.{WasReadTo, IsJudgedRead, IsDamagedStoreBy, LogCause, WasStarted, WasJudged, ReadsLog}
@@ -86,11 +84,6 @@ module _ {D : Type 0} {disk : Ghosts D} where
     pub walks-ahead : (log : Log D disk) (piece : PieceValue) → ReadsLog w.log log → (disk.is_observable → IsPieceOf (disk.contents (log_device log)) piece) → WalksOn w (walk-with w log w.reader piece w.loader w.place)
     walks-ahead log piece reads ahead =
         walks-read log w.reader piece w.loader w.place reads refl ahead (reader-on (log_device w.log) (log_device log) w.reader reads.reads over.holds)
-
-    -- Blocks below the checkpoint were read, and more was read of the log.
-    pub walks-below : {log : Log D disk} {reader : BlockReader} {l : Loader} {p : Place} → KeepsLog w.log log → HasReadBelow disk w.reader reader (walked_device w) (log_device log) → WalksOn w (walk-with w log reader w.piece l p)
-    walks-below {log = log} {reader = reader} {l = l} {p = p} kept below =
-        walks-read log reader w.piece l p (log-read w.log log kept below.reads) below.limit (λ reported. subst (λ i. IsPieceOf i w.piece) (same-bytes (walked_device w) (log_device log) below.reads reported) (over.ahead reported)) below.holds
 
   -- The walk went to another place.
   pub walks-moved : (old new : LogWalk D disk) (p : Place) → WalksOn old new → WalksOn old (walk-with new new.log new.reader new.piece new.loader p)

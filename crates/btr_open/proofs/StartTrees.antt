@@ -3,8 +3,8 @@ use Rattle.std.specs.Prelude.{◌≡◌, ℕ, ◌+◌, ◌/◌, ◌<◌, List, [
 use Rattle.std.proofs.Common.{refl, sym, subst, arith, inl, inr, length-append}
 use Rattle.std.proofs.lemmas.List.{length-take-le}
 use Rattle.std.proofs.lemmas.Option.{slice_get_within}
-use Rattle.btr_tree.specs.History.{nothing, Opened}
-use Rattle.btr_tree.specs.Root.{TreeValue, IsTree}
+use Rattle.btr_tree.specs.History.{Opened}
+use Rattle.btr_tree.specs.Root.{TreeValue}
 use Rattle.btr_tree.proofs.RootLemmas.{opened-whole}
 use Rattle.btr_pages.specs.Pages.{Pages, HasRootPage}
 use Rattle.btr_pages.specs.Known.{KnownValue, NodesValue, ArePartOf, HasWholeTree, IsReadRoot, node_at}
@@ -18,14 +18,6 @@ use Rattle.btr_open.specs.Checkpoint.{IsVersionTree, MayBeRootOf, IsWrongRootOf,
 use Rattle.btr_open.proofs.ListLemmas.{push-at, is-there, take-on}
 
 -- ---- one tree
-
--- The tree of no commit is that of root 0.
-pub no-root : (nodes : NodesValue) (root : ℕ) (t : TreeValue) → root ≡ 0 → IsTree nothing t → IsVersionTree nodes root t
-no-root nodes root t none is = record {
-  past = (nothing, is);
-  is = record { empty = λ zero. is; read = λ some. absurd (omega (arith, some, none)) };
-  there = λ some. absurd (omega (arith, some, none));
-}
 
 -- The tree that was made of the page of a root.
 pub whole-root : (nodes : NodesValue) (root : ℕ) (t : TreeValue) → 0 < root → HasWholeTree nodes root → IfSome (node_at nodes root) (λ known. t ≡ known.tree) → ((pages : Pages) (stream version : ℕ) → ArePartOf pages nodes → IsSome (node_at nodes root) → HasRootPage pages stream version root → IsReadRoot pages stream version root t) → IsVersionTree nodes root t
@@ -42,15 +34,6 @@ whole-root nodes root t some whole same part =
     }
 
 -- ---- the trees of a stream
-
-pub first-trees-none : (nodes : NodesValue) (stream : ℕ) (trees : List TreeValue) (t : TreeValue) → trees ≡ t ∷ [] → IsVersionTree nodes 0 t → AreFirstTrees nodes stream [] trees
-first-trees-none nodes stream trees t are is =
-    subst (AreFirstTrees nodes stream []) (sym are) (record {
-      counted = refl;
-      first = λ u at. let same : t ≡ u = cc in subst (IsVersionTree nodes 0) same is;
-      others = λ k v u at. absurd (cc);
-      may = λ k v at. absurd (cc);
-    })
 
 module _ (nodes : NodesValue) (stream : ℕ) (vs : List RollVersion) (trees : List TreeValue) (so_far : AreFirstTrees nodes stream vs trees) (v : RollVersion) (t : TreeValue) (is : IsVersionTree nodes v.root t) (may : MayBeRootOf nodes stream (length vs + 1) v.root) where
   pub first-trees-more : AreFirstTrees nodes stream (vs ++ v ∷ []) (trees ++ t ∷ [])

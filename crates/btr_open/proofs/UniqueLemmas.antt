@@ -80,10 +80,6 @@ module _ (log : Reached) (e : Entry) (root : ℕ) (pages : List NodePage) (body 
   needed : need body ≡ content_blocks (length (spelling e)) + length pages + 1
   needed = ap need is.bytes ∙ need-body_of (log.entries + 1) e root pages (each-places pages is.fits)
 
-  -- The body and the gate after it are at least two blocks.
-  pub least-next : 2 ≤ need body
-  least-next = omega (arith, needed)
-
   -- A body that is not too long fits.
   pub fits-next : log.entries + 1 < 2 ^ 64 → need body ≤ 2 ^ 64 → FitsBody (log.entries + 1) e root pages
   fits-next few short = record {

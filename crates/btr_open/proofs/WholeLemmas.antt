@@ -7,7 +7,6 @@ use Rattle.btr_disk.specs.Gate.{IsClosed}
 use Rattle.btr_log.specs.declared.log.Log.{Log}
 use Rattle.btr_log.specs.Log.{log_device, log_tail, log_blocks, is_log_stopped, IsLogMadeOf}
 use Rattle.btr_log.specs.Extents.{Extents}
-use Rattle.btr_log.specs.Piece.{PieceValue, IsPieceOf}
 use Rattle.btr_super.specs.declared.superblock.Super.{Super}
 use Rattle.btr_hist.specs.declared.entry.Entry.{Entry}
 use Rattle.btr_engine.specs.Body.{Prefix, prefix_to, LeadTo}
@@ -18,19 +17,16 @@ use Rattle.btr_engine.specs.Holds.{HoldsHistoryTo}
 use Rattle.btr_engine.specs.Roots.{IsRootOf}
 use Rattle.btr_engine.specs.Stored.{AreStored}
 use Rattle.btr_streams.specs.Rolling.{HaveRoots}
-use Rattle.btr_open.specs.declared.below.BlockReader.{BlockReader}
 use Rattle.btr_open.specs.declared.judge.Judge.{Ghosts as Judging}
 use Rattle.btr_open.specs.declared.loading.Loader.{Loader}
 use Rattle.btr_open.specs.declared.opening.OpenCause.{OpenCause}
 use Rattle.btr_open.specs.declared.place.Place.{Place}
 use Rattle.btr_open.specs.Place.{IsPlaceIn}
-use Rattle.btr_open.specs.Loading.{IsReaderOf}
 use Rattle.btr_open.specs.Seen.{nothing_seen, LeadOnBy}
 use Rattle.btr_open.specs.Start.{IsWrongStart}
 use Rattle.btr_open.specs.Walk.{LeadOn}
-use Rattle.btr_open.specs.Reading.{WasReadTo, IsStoredIn, IsReadLog, IsReadStart, IsJudgedRead, IsDamagedStoreBy, FirstCause, LogCause, WasJudged, ReadsLog, IsWholeLog, IsReadEngine}
+use Rattle.btr_open.specs.Reading.{IsStoredIn, IsReadLog, IsReadStart, IsJudgedRead, IsDamagedStoreBy, FirstCause, LogCause, WasJudged, ReadsLog, IsWholeLog, IsReadEngine}
 use Rattle.btr_open.specs.Reads.{OnlyReads}
-use Rattle.btr_open.proofs.OnlyReading.{ReadsLog-trans, same-bytes}
 use Rattle.btr_open.proofs.OpenCauses.{cause-along}
 
 -- What was read at the start was judged by a judge that has seen nothing.

@@ -1,6 +1,7 @@
 -- What holds of a walk over the log of a superblock between its steps, and what a step does.
 use Rattle.std.specs.Prelude.{◌≡◌, ℕ, ◌+◌, ◌≤◌, List, []}
 use Rattle.btr_disk.specs.declared.disk.Disk.{Ghosts}
+use Rattle.btr_disk.specs.Bytes.{Image}
 use Rattle.btr_disk.specs.Gate.{IsClosed}
 use Rattle.btr_log.specs.declared.head.Head.{Head}
 use Rattle.btr_log.specs.Log.{log_device, log_blocks}
@@ -20,13 +21,17 @@ module _ {D : Type 0} {disk : Ghosts D} where
   abbrev pub walked_device : LogWalk D disk → D
   walked_device w = log_device w.log
 
+  -- The bytes of the device of a walk.
+  abbrev pub walked_bytes : LogWalk D disk → Image
+  walked_bytes w = disk.contents (walked_device w)
+
   -- The walk is over the log of its superblock, and the blocks that it holds are those of its device.
   pub record IsWalkOver (w : LogWalk D disk) : Type 0 where
     pub table : IsSuper (disk.size (walked_device w)) w.found
     pub same_blocks : log_blocks w.log ≡ w.found.blocks
     pub limit : w.reader.limit ≡ w.found.checkpoint
-    pub ahead : disk.is_observable → IsPieceOf (disk.contents (walked_device w)) w.piece
-    pub holds : disk.is_observable → IsReaderOf (disk.contents (walked_device w)) w.reader
+    pub ahead : disk.is_observable → IsPieceOf (walked_bytes w) w.piece
+    pub holds : disk.is_observable → IsReaderOf (walked_bytes w) w.reader
 
   -- Nothing was read yet.
   pub record IsNewWalk (w : LogWalk D disk) : Type 0 where
@@ -67,23 +72,23 @@ module _ {D : Type 0} {disk : Ghosts D} where
       pub place : new.place ≡ old.place
       pub loader : new.loader ≡ old.loader
       pub judge : after ≡ before
-      pub closed : disk.is_observable → IsClosed (disk.contents (walked_device old)) old.place.gate
+      pub closed : disk.is_observable → IsClosed (walked_bytes old) old.place.gate
 
     -- The log of the old walk's superblock was read up to a closed gate. It is said of the device as it was before.
     pub record WasWalked (old new : LogWalk D disk) (judge : J) : Type 0 where
       pub at : IsPlaceIn old.found new.loader.board.entries new.place
       pub into : WasReadTo new.place.gate new.loader
       pub read : WasJudged disk by (walked_device old) old.found new.place.gate new.loader judge
-      pub closed : disk.is_observable → IsClosed (disk.contents (walked_device old)) new.place.gate
+      pub closed : disk.is_observable → IsClosed (walked_bytes old) new.place.gate
 
     -- The body of the extent with this head was read.
     pub record ReadsExtent (old : LogWalk D disk) (new : Loader) (head : Head) (before after : J) : Type 0 where
       pub through : ReadsThrough old.place.gate (body_ahead old head) old.loader new
       pub read : disk.is_observable
-          → ReadsBody by (disk.contents (walked_device old)) old.reader.limit old.place.gate (body_ahead old head) old.loader new before after
+          → ReadsBody by (walked_bytes old) old.reader.limit old.place.gate (body_ahead old head) old.loader new before after
 
     -- This block of the body of the extent with this head breaks the format or the rule.
     abbrev pub BreaksExtent : LogWalk D disk → Head → J → ℕ → Type 0
     BreaksExtent old head before block =
         disk.is_observable
-        → BreaksAfter by (disk.contents (walked_device old)) old.reader.limit old.place.gate (body_ahead old head) old.loader before block
+        → BreaksAfter by (walked_bytes old) old.reader.limit old.place.gate (body_ahead old head) old.loader before block

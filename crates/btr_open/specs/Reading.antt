@@ -125,15 +125,11 @@ module _ {D : Type 0} (disk : Ghosts D) where
   BlockCause old new Fault = Rose (disk.faults old) (disk.faults new)
   BlockCause old new Want = Unit {0}
 
-  -- The log of this superblock was read up to a gate, if the device is observable.
-  abbrev pub WasRead : D → Super → ℕ → Loader → Type 0
-  WasRead old found gate l = disk.is_observable → IsReadLog (disk.size old) (disk.contents old) found gate l
-
-  -- Nothing of it was read yet but the start.
+  -- Nothing of the log of this superblock was read yet but the start, if the device is observable.
   abbrev pub WasStarted : D → Super → ℕ → Loader → Type 0
   WasStarted old found gate l = disk.is_observable → IsReadStart (disk.size old) (disk.contents old) found gate l
 
-  -- It was read up to a gate, and this judge has seen its entries.
+  -- The log was read up to a gate, and this judge has seen its entries.
   abbrev pub WasJudged : {J : Type 0} → Judging J → D → Super → ℕ → Loader → J → Type 0
   WasJudged by old found gate l judge =
       disk.is_observable → IsJudgedRead by (disk.size old) (disk.contents old) found gate l judge

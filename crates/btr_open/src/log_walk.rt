@@ -2,7 +2,8 @@
 ghost use Rattle.std.specs.Prelude.{◌≡◌, IfErr, IfNone, IfOk, IfSome, OnOk, false, true};
 ghost use Rattle.btr_log.specs.Log.{log_device as disk_of};
 ghost use Rattle.btr_super.specs.Super.{IsSuper};
-ghost use Rattle.btr_open.specs.LogWalk.{IsNewWalk, WalksOn, IsWalked, IsAfterExtent, IsAtEnd, WasWalked, HoldsNext, ReadsExtent, BreaksExtent};
+ghost use Rattle.btr_open.specs.LogWalk.{IsNewWalk, WalksOn, IsWalked, IsAfterExtent, IsAtEnd, WasWalked};
+ghost use Rattle.btr_open.specs.LogWalk.{HoldsNext, ReadsExtent, BreaksExtent};
 ghost use Rattle.btr_open.specs.Reading.{LogCause, BlockCause};
 ghost use Rattle.btr_open.specs.Seen.{nothing_seen};
 

@@ -4,7 +4,7 @@ use Rattle.btr_pages.specs.Known.{node_at}
 use Rattle.btr_open.specs.Below.{HasNoPage, IsStoredPage, BreaksBelow}
 use Rattle.btr_open.specs.Loading.{MakesBelow, IsReadPage}
 use Rattle.btr_open.proofs.TreesBelow.{adds-none}
-use Rattle.btr_open.proofs.MakingBelow.{device-still, made-in, grows-in, read-still, can-on, some-got}
+use Rattle.btr_open.proofs.MakingBelow.{device-still, made-in, read-still, can-on, some-got}
 use Rattle.btr_open.proofs.below.BlockReader.fetch.Goals.{In_ok-make}
 use Rattle.btr_open.proofs.below.BlockReader.fetch.Given.{Over}
 use Rattle.btr_open.proofs.below.BlockReader.fetch.Goals as goal

@@ -3,8 +3,7 @@ use Rattle.std.proofs.Common.{ap, sym, ◌∙◌, subst, arith}
 use Rattle.std.proofs.lemmas.Result.{err_from_is_err_and}
 use Rattle.btr_log.specs.Log.{log_device as disk_of}
 use Rattle.btr_open.specs.Checkpoint.{AreRootsFetched, AreAllTrees, TreesCause, RootsCause}
-use Rattle.btr_open.proofs.LogWalkLemmas.{can-read, walks-below}
-use Rattle.btr_open.proofs.MakingBelow.{read-none}
+use Rattle.btr_open.proofs.LogWalkLemmas.{can-read}
 use Rattle.btr_open.proofs.StartLoad.{all-fit, roots-load, trees-load}
 use Rattle.btr_open.proofs.log_walk.LogWalk.load.Goals as goal
 

@@ -1,15 +1,15 @@
-use Rattle.std.specs.Prelude.{ℕ, List, ◌-◌, ◌<◌, ◌≤◌, ◌^◌, IfSome, IfNone}
-use Rattle.std.proofs.Common.{refl, sym, ap, subst, arith}
+use Rattle.std.specs.Prelude.{◌-◌, ◌<◌, ◌≤◌, ◌^◌}
+use Rattle.std.proofs.Common.{refl, sym, subst, arith}
 use Rattle.std.proofs.lemmas.Option.{IfSome_then}
 use Rattle.btr_log.specs.Log.{log_device as disk_of}
 use Rattle.btr_log.specs.Extents.{need, IsBody}
 use Rattle.btr_open.specs.Content.{node_blocks_of}
 use Rattle.btr_open.specs.declared.loading.Loader.{Loader}
-use Rattle.btr_open.specs.Loading.{FetchesAll, IsNeeded, HasNothingNext, BreaksNext, HasJudged, HasMarked, ReadsBody, ReadsThrough, BreaksAfter}
-use Rattle.btr_open.specs.LogWalk.{body_ahead, ReadsExtent, BreaksExtent}
+use Rattle.btr_open.specs.Loading.{FetchesAll, IsNeeded, HasNothingNext, BreaksNext, HasJudged, HasMarked}
+use Rattle.btr_open.specs.LogWalk.{ReadsExtent}
 use Rattle.btr_open.proofs.BodyParts.{IfNone_then}
 use Rattle.btr_open.proofs.ReadingLemmas.{checkpoint-on, checkpoint-body, checkpoint-breaks, fetched-read, entry-on, entry-body, entry-breaks}
-use Rattle.btr_open.proofs.LogWalkLemmas.{log-read, walks-below, limit-low, own-walked, can-read, next-is, next-inside}
+use Rattle.btr_open.proofs.LogWalkLemmas.{limit-low, own-walked, can-read, next-inside}
 use Rattle.btr_open.proofs.log_walk.LogWalk.read_body.Goals as goal
 
 -- The body that is read is the one in the piece.

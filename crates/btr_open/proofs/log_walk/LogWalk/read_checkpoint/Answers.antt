@@ -10,11 +10,9 @@ use Rattle.btr_log.specs.Ahead.{HoldsExtent, HoldsWhole, MatchesPiece}
 use Rattle.btr_roll.specs.Roll.{RollStreamValue}
 use Rattle.btr_open.specs.Start.{HasRoll, IsWrongStart}
 use Rattle.btr_open.proofs.OpenCauses.{cause-found}
-use Rattle.btr_open.specs.LogWalk.{WalksOn}
-use Rattle.btr_open.proofs.LogWalkLemmas.{log-read, walk-with, walks-ahead}
 use Rattle.btr_open.proofs.StartExtent.{closed-gate, named-extent, other-extent, no-checkpoint-cause, no-roll-damage}
 use Rattle.btr_open.proofs.log_walk.LogWalk.read_checkpoint.Given.{Over}
-use Rattle.btr_open.proofs.log_walk.LogWalk.read_checkpoint.Goals.{After-read_ahead, In-Some, then-head-ne2-via-then-head-ne2, then-head-ne2-via-else-head-ne2+then-next-found}
+use Rattle.btr_open.proofs.log_walk.LogWalk.read_checkpoint.Goals.{In-Some, then-head-ne2-via-then-head-ne2, then-head-ne2-via-else-head-ne2+then-next-found}
 use Rattle.btr_open.proofs.log_walk.LogWalk.read_checkpoint.Goals as goal
 
 pub returns-in-Err-clause-cause : goal.returns-in-Err-clause-cause
@@ -79,10 +77,3 @@ returns-in-None-clause-cause g c reported =
     let extent = named-extent (disk.contents d0) found (log_blocks c.args.self.now.log) head (body g at) (found.checkpoint + head.n + 1) (held g at).whole (matches g at reported) c.if-head-ne2.false c.if-next-found.false in
     let none = subst (λ l. (entries : ℕ) (roll : List RollStreamValue) → HasRoll found.checkpoint entries roll l → ⊥) c.blocks-body.ensures (subst (λ o. IfNone o ((entries : ℕ) (roll : List RollStreamValue) → HasRoll found.checkpoint entries roll c.blocks-body.result.now → ⊥)) c.in-None.is c.in_ok-roll.ensures.none) in
     no-roll-damage disk found d0 (disk_of c.read_ahead.new.self) c.requires.some (body g at) extent none
-
--- The log was read ahead.
-ahead : (g : Over) (c : After-read_ahead g) → WalksOn c.args.self.now (walk-with c.args.self.now c.read_ahead.new.self c.args.self.now.reader c.read_ahead.new.piece c.args.self.now.loader c.args.self.now.place)
-ahead g c =
-    let w = c.args.self.now in
-    let e = c.read_ahead.ensures in
-    walks-ahead w c.requires.over c.read_ahead.new.self c.read_ahead.new.piece (log-read w.log c.read_ahead.new.self e.kept (record { counts = e.reads.counts; nothing = λ reported. e.reads.nothing reported })) e.piece

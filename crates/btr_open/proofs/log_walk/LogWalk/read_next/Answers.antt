@@ -1,4 +1,4 @@
-use Rattle.std.specs.Prelude.{ℕ, ◌+◌, ◌*◌, Some, IfSome, IfNone}
+use Rattle.std.specs.Prelude.{◌+◌, ◌*◌, Some, IfSome, IfNone}
 use Rattle.std.proofs.Common.{refl, sym, subst, inr}
 use Rattle.btr_disk.specs.Bytes.{Has}
 use Rattle.btr_disk.specs.Gate.{IsOpen}
