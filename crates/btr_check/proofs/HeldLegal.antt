@@ -1,6 +1,6 @@
 -- A device that holds a legal history, as a check sees it: its log is legal, the chosen superblock names a start of it, and the root of each
 -- entry leads to the tree of its version.
-use Rattle.std.specs.Prelude.{◌≡◌, ℕ, ◌+◌, ◌<◌, ◌≤◌, ◌^◌, List, [], ◌∷◌, ◌++◌, length, take, get_or, slice_get, Some}
+use Rattle.std.specs.Prelude.{◌≡◌, ℕ, ◌+◌, ◌<◌, ◌≤◌, List, [], ◌∷◌, ◌++◌, length, take, get_or, slice_get, Some}
 use Rattle.std.proofs.Common.{refl, sym, ◌∙◌, ap, subst, inl, inr, arith, length-append}
 use Rattle.std.proofs.lemmas.List.{take_at, take-append-le, get_or_append_left, get_or_push}
 use Rattle.std.proofs.lemmas.Option.{slice_get_within}
@@ -18,14 +18,12 @@ use Rattle.btr_hist.proofs.HistoryLemmas.{legal-prefix, legal-last, legal-follow
 use Rattle.btr_engine.specs.Body.{Prefix, prefix_to, no_extents, first_page, pages_after, with_extent, with_checkpoint, LeadTo}
 use Rattle.btr_engine.specs.Roots.{IsRootOf}
 use Rattle.btr_engine.specs.Holds.{IsMarked, HoldsHistoryTo}
-use Rattle.btr_engine.proofs.BodyLemmas.{LeadTo-split, LeadTo-gate, LeadTo-one, LeadTo-roots, kinds-apart}
-use Rattle.btr_open.specs.Reached.{beginning, with_entry, pages_with}
-use Rattle.btr_open.specs.Walk.{IsNextBody}
+use Rattle.btr_engine.proofs.BodyLemmas.{LeadTo-roots}
+use Rattle.btr_open.specs.Reached.{beginning}
 use Rattle.btr_open.proofs.ListLemmas.{push-at}
 use Rattle.btr_open.proofs.HeldPages.{AreBelow, below-extent, if-each, if-at}
-use Rattle.btr_open.proofs.HeldRolls.{roll-next}
-use Rattle.btr_open.proofs.HeldRoots.{LeadTo-on, root-may-lead}
-use Rattle.btr_open.proofs.HeldLemmas.{reached_of, roll-body, fits-roll}
+use Rattle.btr_open.proofs.HeldRoots.{LeadTo-on}
+use Rattle.btr_open.proofs.HeldLemmas.{reached_of, roll-body, reached-next, body-next, on-log, on}
 use Rattle.btr_open.proofs.WalkLemmas.{lead-plain, lead-append}
 use Rattle.btr_open.specs.Seen.{Mark, Seen, LeadOnBy}
 use Rattle.btr_check.specs.Rule.{MayStand}
@@ -64,18 +62,8 @@ keeps-on p marks (body ∷ bodies) q counted leads legal = elim leads [
       let here : Legal (p.entries ++ e ∷ []) = legal-before next bodies q x.5 legal in
       let follows = legal-follows (p.entries ++ e ∷ []) here in
       let rest = keeps-on next marks bodies q (omega (arith, counted, length-append p.entries (e ∷ []), length-append p.roots (root ∷ []))) x.5 legal in
-      let number = length-append p.entries (e ∷ []) in
-      let roll = roll-next p.entries p.roots e root follows counted in
-      let same : reached_of next ≡ with_entry (reached_of p) e root pages body = λ i. record { gate = next.gate; entries = number i; roll = roll i; pages = next.pages } in
-      let is : IsNextBody (reached_of p) e root pages body = record {
-        spelled = x.3.spelled;
-        fits = x.3.fits;
-        rightly = x.3.rightly;
-        low = x.3.low;
-        bytes = x.3.bytes;
-        may_lead = root-may-lead (pages_with (reached_of p) e pages) p.entries p.roots e root pages follows x.4;
-        allowed = fits-roll p.entries p.roots e follows;
-      } in
+      let same = reached-next p e root pages body follows counted in
+      let is = body-next p e root pages body follows x.3 x.4 in
       let may : MayStand p.entries e root = record {
         allowed = legal-last p.entries e here;
         fits_points = root-fits (pages_after p e pages) p.entries e root pages follows x.4;
@@ -145,9 +133,6 @@ module _ (size : ℕ) (image : Image) (blocks tail : ℕ) (h : List Entry) (hold
   abbrev final : Prefix
   final = prefix_to tail h holds.leads.roots holds.leads.pages
 
-  short : tail < 2 ^ 64
-  short = omega (arith, holds.inside, holds.same_blocks, holds.chosen.stored.spelled.keeps.blocks_to)
-
   -- The entries keep the rule, and the superblock names a start.
   record IsNamedWalk : Type 0 where
     marks : List Mark
@@ -160,27 +145,15 @@ module _ (size : ℕ) (image : Image) (blocks tail : ℕ) (h : List Entry) (hold
       record { marks = on.more; leads = on.leads; named = inl (none, first) }
 
   module _ (m : IsMarked IsRootOf holds.bodies holds.super.checkpoint holds.super.tail) where
-    on-log : LeadTo IsRootOf m.log (m.body ∷ m.after) final
-    on-log =
-        let split = LeadTo-split IsRootOf no_extents m.before (m.body ∷ m.after) final (subst (λ l. LeadTo IsRootOf no_extents l final) m.parts holds.leads.lead) in
-        let mid = split.0 in
-        let long = LeadTo-gate IsRootOf mid (m.body ∷ m.after) final split.2 in
-        let longer = LeadTo-gate IsRootOf no_extents m.before mid split.1 in
-        let place : mid ≡ m.log = LeadTo-one IsRootOf IsRootOf no_extents m.before mid m.log (omega (arith, long, longer, short)) (omega (arith, long, short)) split.1 m.leads in
-        subst (λ (p : Prefix). LeadTo IsRootOf p (m.body ∷ m.after) final) place split.2
-
-    on : LeadTo IsRootOf (with_checkpoint m.log m.body) m.after final
-    on = elim on-log [ inl x ↦ absurd (kinds-apart m.log x.0 x.1 x.2 m.log m.body x.3 m.is) | inr x ↦ x.1 ]
-
     abbrev here : Mark
     here = record { gate = m.log.gate; next = m.log.gate + need m.body }
 
     from-mark : IsNamedWalk
     from-mark =
-        let first = keeps-on no_extents [] m.before m.log refl m.leads (legal-before m.log (m.body ∷ m.after) final on-log legal) in
+        let first = keeps-on no_extents [] m.before m.log refl m.leads (legal-before m.log (m.body ∷ m.after) final (on-log size image blocks tail h holds m) legal) in
         let marks = first.more ++ here ∷ [] in
         let counted = LeadTo-roots IsRootOf no_extents m.before m.log m.leads refl in
-        let rest = keeps-on (with_checkpoint m.log m.body) marks m.after final counted on legal in
+        let rest = keeps-on (with_checkpoint m.log m.body) marks m.after final counted (on size image blocks tail h holds m) legal in
         let body : LeadOnBy MayStand (reached_of m.log) (seen_of m.log first.more) (m.body ∷ m.after) (reached_of final) (seen_of final rest.more) = inr (record { room = m.is.room; bytes = m.is.bytes ∙ roll-body m.log.entries m.log.roots }, rest.leads) in
         let all = lead-append MayStand (reached_of no_extents) (seen_of no_extents []) m.before (reached_of m.log) (seen_of m.log first.more) (m.body ∷ m.after) (reached_of final) (seen_of final rest.more) first.leads body in
         let place = length first.more in

@@ -8,12 +8,13 @@ use Rattle.btr_disk.specs.Bytes.{Image}
 use Rattle.btr_log.specs.declared.head.Head.{Head}
 use Rattle.btr_log.specs.Extents.{need, IsExtent, Extents, first_gate}
 use Rattle.btr_log.proofs.ExtentLemmas.{Extents-push}
+use Rattle.btr_node.specs.declared.page.NodePage.{NodePage}
 use Rattle.btr_hist.specs.declared.entry.Entry.{Entry}
 use Rattle.btr_hist.specs.Legal.{Follows}
 use Rattle.btr_hist.proofs.HistoryLemmas.{follows-none, follows-prefix, follows-last}
 use Rattle.btr_entry.specs.Grammar.{IsSpelled}
 use Rattle.btr_roll.specs.Roll.{roll_bytes}
-use Rattle.btr_engine.specs.Body.{Prefix, prefix_to, no_extents, with_extent, with_checkpoint, IsCheckpointOf, checkpoint_body, LeadTo}
+use Rattle.btr_engine.specs.Body.{Prefix, prefix_to, no_extents, pages_after, with_extent, with_checkpoint, IsBodyOf, IsCheckpointOf, checkpoint_body, LeadTo}
 use Rattle.btr_engine.specs.Holds.{IsMarked, HoldsHistoryTo}
 use Rattle.btr_engine.specs.Mark.{body_of_roll}
 use Rattle.btr_streams.specs.Outline.{refusal}
@@ -24,7 +25,7 @@ use Rattle.btr_streams.proofs.RollFits.{roll-fits}
 use Rattle.btr_open.specs.Reached.{Reached, with_entry, pages_with}
 use Rattle.btr_open.specs.Below.{StandBelow}
 use Rattle.btr_open.specs.Start.{HasRoll, IsCheckpointStart, IsReadingStart}
-use Rattle.btr_open.specs.Walk.{FitsRoll, LeadOn}
+use Rattle.btr_open.specs.Walk.{FitsRoll, IsNextBody, LeadOn}
 use Rattle.btr_open.proofs.ContentLemmas.{checkpoint-kind, has-roll}
 use Rattle.btr_open.proofs.OutlineLemmas.{decide}
 use Rattle.btr_open.proofs.HeldRolls.{roll-outline, roll-made, roll-next}
@@ -78,33 +79,39 @@ fits-roll h roots e follows =
     ap (λ o. refusal o e) (roll-outline h roots)
     ∙ ((decide h e (follows-prefix h (e ∷ []) follows)).1.1 (follows-last h e follows)).outline
 
+-- One extent more, with its entry, after a prefix whose entries have roots.
+module _ (p : Prefix) (e : Entry) (root : ℕ) (pages : List NodePage) (body : List ℕ) (follows : Follows (p.entries ++ e ∷ [])) where
+  pub reached-next : length p.roots ≡ length p.entries → reached_of (with_extent p e root pages body) ≡ with_entry (reached_of p) e root pages body
+  reached-next counted =
+      let next = with_extent p e root pages body in
+      let number = length-append p.entries (e ∷ []) in
+      let roll = roll-next p.entries p.roots e root follows counted in
+      λ i. record { gate = next.gate; entries = number i; roll = roll i; pages = next.pages }
+
+  pub body-next : IsBodyOf p e root pages body → IsRootOf (pages_after p e pages) p.entries e root pages → IsNextBody (reached_of p) e root pages body
+  body-next is leads = record {
+    spelled = is.spelled;
+    fits = is.fits;
+    rightly = is.rightly;
+    low = is.low;
+    bytes = is.bytes;
+    may_lead = root-may-lead (pages_with (reached_of p) e pages) p.entries p.roots e root pages follows leads;
+    allowed = fits-roll p.entries p.roots e follows;
+  }
+
 lead-from : (p : Prefix) (bodies : List (List ℕ)) (q : Prefix) → length p.roots ≡ length p.entries → LeadTo IsRootOf p bodies q → Follows q.entries → LeadOn (reached_of p) bodies (reached_of q)
 lead-from p [] q counted leads follows = ap reached_of leads
 lead-from p (body ∷ bodies) q counted leads follows = elim leads [
   | inl x ↦
-      let e = x.0 in
-      let root = x.1 in
-      let pages = x.2 in
-      let next = with_extent p e root pages body in
-      let here : Follows (p.entries ++ e ∷ []) = follows-before next bodies q x.5 follows in
-      let rest = lead-from next bodies q (omega (arith, counted, length-append p.entries (e ∷ []), length-append p.roots (root ∷ []))) x.5 follows in
-      let number = length-append p.entries (e ∷ []) in
-      let roll = roll-next p.entries p.roots e root here counted in
-      let same : reached_of next ≡ with_entry (reached_of p) e root pages body = λ i. record { gate = next.gate; entries = number i; roll = roll i; pages = next.pages } in
+      let next = with_extent p x.0 x.1 x.2 body in
+      let here : Follows (p.entries ++ x.0 ∷ []) = follows-before next bodies q x.5 follows in
+      let rest = lead-from next bodies q (omega (arith, counted, length-append p.entries (x.0 ∷ []), length-append p.roots (x.1 ∷ []))) x.5 follows in
       inl (
-        e,
-        root,
-        pages,
-        record {
-          spelled = x.3.spelled;
-          fits = x.3.fits;
-          rightly = x.3.rightly;
-          low = x.3.low;
-          bytes = x.3.bytes;
-          may_lead = root-may-lead (pages_with (reached_of p) e pages) p.entries p.roots e root pages here x.4;
-          allowed = fits-roll p.entries p.roots e here;
-        },
-        subst (λ r. LeadOn r bodies (reached_of q)) same rest,
+        x.0,
+        x.1,
+        x.2,
+        body-next p x.0 x.1 x.2 body here x.3 x.4,
+        subst (λ r. LeadOn r bodies (reached_of q)) (reached-next p x.0 x.1 x.2 body here counted) rest,
       )
   | inr x ↦ inr (record { room = x.0.room; bytes = x.0.bytes ∙ roll-body p.entries p.roots }, lead-from (with_checkpoint p body) bodies q counted x.1 follows)
 ]
@@ -150,7 +157,7 @@ module _ (size : ℕ) (image : Image) (blocks tail : ℕ) (h : List Entry) (hold
   abbrev final : Prefix
   final = prefix_to tail h holds.leads.roots holds.leads.pages
 
-  short : tail < 2 ^ 64
+  pub short : tail < 2 ^ 64
   short = omega (arith, holds.inside, holds.same_blocks, holds.chosen.stored.spelled.keeps.blocks_to)
 
   from-beginning : holds.super.checkpoint ≡ 0 → holds.super.tail ≡ first_gate → IsStartOf holds no_extents
@@ -172,7 +179,7 @@ module _ (size : ℕ) (image : Image) (blocks tail : ℕ) (h : List Entry) (hold
     abbrev at : Prefix
     at = with_checkpoint m.log m.body
 
-    on-log : LeadTo IsRootOf m.log (m.body ∷ m.after) final
+    pub on-log : LeadTo IsRootOf m.log (m.body ∷ m.after) final
     on-log =
         let split = LeadTo-split IsRootOf no_extents m.before (m.body ∷ m.after) final (subst (λ l. LeadTo IsRootOf no_extents l final) m.parts holds.leads.lead) in
         let mid = split.0 in
@@ -181,7 +188,7 @@ module _ (size : ℕ) (image : Image) (blocks tail : ℕ) (h : List Entry) (hold
         let place : mid ≡ m.log = LeadTo-one IsRootOf IsRootOf no_extents m.before mid m.log (omega (arith, long, longer, short)) (omega (arith, long, short)) split.1 m.leads in
         subst (λ (p : Prefix). LeadTo IsRootOf p (m.body ∷ m.after) final) place split.2
 
-    on : LeadTo IsRootOf at m.after final
+    pub on : LeadTo IsRootOf at m.after final
     on = elim on-log [ inl x ↦ absurd (kinds-apart m.log x.0 x.1 x.2 m.log m.body x.3 m.is) | inr x ↦ x.1 ]
 
     follows-log : Follows m.log.entries

@@ -51,6 +51,7 @@ use Rattle.btr_open.proofs.ContentLemmas.{bytes-content, checkpoint-kind}
 use Rattle.btr_open.proofs.BodyParts.{IfNone_then, heads, content-fields}
 use Rattle.btr_open.proofs.NextRollLemmas.{rolled-next}
 use Rattle.btr_open.proofs.RootLemmas.{may-lead}
+use Rattle.btr_open.proofs.WalkLemmas.{wrong-along}
 use Rattle.btr_open.proofs.TreeLemmas.{HasMade, root-made, has-past, staged-root, board-of, board-stored, part-wider}
 
 -- ---- where the node blocks begin
@@ -175,34 +176,7 @@ module _ {J : Type 0} (by : Judging J) (gate root : ℕ) (body nodes : List ℕ)
       let its : (f : Entry) (at_root : ℕ) → IsThisEntry e root f at_root → Lets by.may log seen.entries f at_root = λ f at_root same.
       subst (λ r. Lets by.may log seen.entries f r) (sym same.1) (subst (λ x. Lets by.may log seen.entries x root) (sym same.0) lets)
       in
-      elim (breaks image limit log at read stand fetched) [
-        | inl w ↦
-            inr (inr (inl (record {
-              entry = w.entry;
-              root = w.root;
-              nodes = w.nodes;
-              content = w.content;
-              allowed = its w.entry w.root w.allowed;
-              wrong = w.wrong;
-              named = w.named;
-            })))
-        | inr w ↦
-            inr (inr (inr (record {
-              entry = w.entry;
-              root = w.root;
-              nodes = w.nodes;
-              content = w.content;
-              allowed = its w.entry w.root w.allowed;
-              right = w.right;
-              before = w.before;
-              within = w.within;
-              bytes = w.bytes;
-              fit = w.fit;
-              stand = w.stand;
-              next = w.next;
-              damaged = w.damaged;
-            })))
-      ]
+      inr (inr (wrong-along (IsThisEntry e root) (Lets by.may log seen.entries) its image limit log body block (breaks image limit log at read stand fetched)))
 
   -- The judge let the entry follow.
   module _ (e : Entry) (after : J) (judged : (seen : Seen) → by.is_after seen before → by.may seen.entries e root × by.is_after (with_seen seen e root) after) {E : Type 0} where

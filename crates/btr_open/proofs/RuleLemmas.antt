@@ -7,12 +7,13 @@ use Rattle.btr_super.specs.declared.superblock.Super.{Super}
 use Rattle.btr_hist.specs.declared.entry.Entry.{Entry}
 use Rattle.btr_open.specs.declared.opening.OpenCause.{OpenCause}
 use Rattle.btr_open.specs.Reached.{Reached}
-use Rattle.btr_open.specs.Walk.{BreaksBodyBy, BreaksBody, IsDamagedNextBy, IsDamagedNext}
+use Rattle.btr_open.specs.Walk.{FitsRoll, BreaksBodyBy, BreaksBody, IsDamagedNextBy, IsDamagedNext}
 use Rattle.btr_open.specs.Damage.{IsDamagedStore}
 use Rattle.btr_open.specs.Seen.{EntryRule, Lets}
 use Rattle.btr_open.specs.Reading.{IsDamagedStoreBy, StoreCause}
 use Rattle.btr_open.specs.Reads.{PartCause}
 use Rattle.btr_open.proofs.OpenCauses.{cause-along}
+use Rattle.btr_open.proofs.WalkLemmas.{wrong-along}
 
 module _ (May : EntryRule) (all : (before : List Entry) (e : Entry) (root : ℕ) → May before e root) where
   body-plain : (before : List Entry) (image : Image) (limit : ℕ) (log : Reached) (body : List ℕ) (block : ℕ) → BreaksBodyBy (Lets May log before) image limit log body block → BreaksBody image limit log body block
@@ -27,32 +28,8 @@ module _ (May : EntryRule) (all : (before : List Entry) (e : Entry) (root : ℕ)
           forbidden = λ fits. w.forbidden (fits, all before w.entry w.root);
           first = w.first;
         }))
-    | inr (inr (inl w)) ↦
-        inr (inr (inl (record {
-          entry = w.entry;
-          root = w.root;
-          nodes = w.nodes;
-          content = w.content;
-          allowed = w.allowed.0;
-          wrong = w.wrong;
-          named = w.named;
-        })))
-    | inr (inr (inr w)) ↦
-        inr (inr (inr (record {
-          entry = w.entry;
-          root = w.root;
-          nodes = w.nodes;
-          content = w.content;
-          allowed = w.allowed.0;
-          right = w.right;
-          before = w.before;
-          within = w.within;
-          bytes = w.bytes;
-          fit = w.fit;
-          stand = w.stand;
-          next = w.next;
-          damaged = w.damaged;
-        })))
+    | inr (inr w) ↦
+        inr (inr (wrong-along (Lets May log before) (λ e root. FitsRoll log.roll e) (λ e root lets. lets.0) image limit log body block w))
   ]
 
   next-plain : (before : List Entry) (image : Image) (s : Super) (log : Reached) (block : ℕ) → IsDamagedNextBy (Lets May log before) image s log block → IsDamagedNext image s log block

@@ -1,24 +1,23 @@
 -- Lemmas on the trees of pages below a block: a tree is added to those of pages that stand rightly, and a page whose tree is refused breaks
 -- the format.
 use Rattle.std.specs.Prelude.{◌≡◌, ◌⊎◌, ℕ, ◌<◌, ◌≤◌, nat_eq, pos, negsuc, ℤ, [], length, slice_get, Option, Some, None, IfSome, IsSome, IsNone, cond, true, false}
-use Rattle.std.specs.Option.{option_and_then}
 use Rattle.std.proofs.Common.{zero, suc, refl, sym, ap, ◌∙◌, subst, arith, inl, inr, ⊎_elim}
 use Rattle.std.proofs.lemmas.Bool.{cases_lt, cases_eq}
 use Rattle.std.proofs.lemmas.Bool.Decides.{nat_tests}
 use Rattle.std.proofs.lemmas.Option.{slice_get_past}
 use Rattle.btr_disk.specs.Bytes.{Image}
 use Rattle.btr_base.specs.Span.{SpanValue, slot_of}
-use Rattle.btr_tree.specs.NewNodes.{NewNodeValue}
-use Rattle.btr_tree.proofs.ReadLemmas.{read-along}
 use Rattle.btr_node.specs.Page.{front, slots_of_page, span_of_page}
 use Rattle.btr_node.specs.declared.page.NodePage.{NodePage}
 use Rattle.btr_node.specs.declared.page.PageSlot.{PageSlot}
-use Rattle.btr_pages.specs.Pages.{Pages, node_of_stream, nodes_in, IsPageAt, IsChildPage, HasChildPage}
-use Rattle.btr_pages.specs.Known.{KnownValue, NodesValue, node_at, IsKnown, AreKnown, ArePartOf, KnowsChildren, TakesPage}
+use Rattle.btr_pages.specs.Pages.{Pages, IsPageAt, IsChildPage, HasChildPage}
+use Rattle.btr_pages.specs.Known.{NodesValue, node_at, AreKnown, ArePartOf, KnowsChildren, TakesPage}
 use Rattle.btr_pages.proofs.KnownLemmas.{block-at, known-at, knows-all, HasOnly}
 use Rattle.btr_open.specs.Below.{IsStoredPage, StandBelow, IsWrongChild, BreaksBelow}
 use Rattle.btr_open.specs.Loading.{GrowsBelow, AddsBelow, StaysPart, AreOfDevice, KnowsChild}
 use Rattle.btr_open.proofs.BelowLemmas.{stored-one, stand-page}
+use Rattle.btr_open.proofs.TreeLemmas.{part-wider}
+use Rattle.btr_open.proofs.WalkLemmas.{page-more}
 
 -- ---- a value that is there
 
@@ -58,44 +57,12 @@ module _ (pages : Pages) (nodes : NodesValue) (block : ℕ) (page : NodePage) (a
   pub page-stays : (k : ℕ) (q : NodePage) → pages k ≡ Some q → with-page pages block page k ≡ Some q
   page-stays k q at = with-other pages block page k (λ same. no-page q (ap pages (sym same) ∙ at)) ∙ at
 
-  store-stays : (s b : ℕ) (n : NewNodeValue) → nodes_in pages s b ≡ Some n → nodes_in (with-page pages block page) s b ≡ Some n
-  store-stays s b n at =
-      elim (pages b) as (λ o. pages b ≡ o → option_and_then (node_of_stream s) o ≡ Some n → nodes_in (with-page pages block page) s b ≡ Some n) [
-        | None ↦ λ e none. absurd (cc)
-        | Some q ↦ λ e is. ap (option_and_then (node_of_stream s)) (page-stays b q e) ∙ is
-      ] refl at
-
-  known-stays : (k : KnownValue) → IsKnown pages k → IsKnown (with-page pages block page) k
-  known-stays k is = record {
-    page = is.page;
-    is = page-stays k.block is.page is.is;
-    made = record {
-      keeps = is.made.keeps;
-      stream = is.made.stream;
-      span = is.made.span;
-      version = is.made.version;
-      count = is.made.count;
-      opened = is.made.opened;
-      its_block = is.made.its_block;
-      read = read-along (nodes_in pages k.stream) (nodes_in (with-page pages block page) k.stream) (store-stays k.stream) k.tree.span.height k.tree.span.start k.tree.node is.made.read;
-    };
-  }
-
+  -- The trees are those of some of the pages, and each page that stands rightly does so still.
   pub part-stays : ArePartOf (with-page pages block page) nodes
-  part-stays b =
-      elim (node_at nodes b) as (λ o. node_at nodes b ≡ o → IfSome o (IsKnown (with-page pages block page))) [
-        | None ↦ λ e. tt
-        | Some k ↦ λ e. known-stays k (known-at pages nodes b k are.each e)
-      ] refl
-
-  slot-stays : (b i : ℕ) (p : NodePage) (o : Option PageSlot) → IfSome o (λ slot. 0 < slot.agg.count → HasChildPage pages b p i slot) → IfSome o (λ slot. 0 < slot.agg.count → HasChildPage (with-page pages block page) b p i slot)
-  slot-stays b i p None has = has
-  slot-stays b i p (Some slot) has = λ some.
-      let child = has some in
-      record { lower = child.lower; child = child.child; is = page-stays slot.child child.child child.is; fits = child.fits }
+  part-stays = part-wider pages (with-page pages block page) nodes page-stays are.each
 
   pub right-stays : (b : ℕ) (p : NodePage) → IsPageAt pages b p → IsPageAt (with-page pages block page) b p
-  right-stays b p right = record { keeps = right.keeps; children = λ i. slot-stays b i p (slice_get (slots_of_page p) i) (right.children i) }
+  right-stays = page-more pages (with-page pages block page) page-stays
 
 -- ---- one tree more
 

@@ -1,5 +1,6 @@
--- A walk over a log stays one with wider pages below the block from which its pages are read one by one, and with one extent more.
-use Rattle.std.specs.Prelude.{◌≡◌, ℕ, ◌+◌, ◌<◌, ◌≤◌, List, [], ◌∷◌, ◌++◌, slice_get, Some, None, IfSome, IsNone}
+-- A walk over a log stays one with wider pages below the block from which its pages are read one by one, and with one extent more. What
+-- breaks the format does so by each rule that lets the entry follow.
+use Rattle.std.specs.Prelude.{◌≡◌, ◌⊎◌, ℕ, ◌+◌, ◌<◌, ◌≤◌, List, [], ◌∷◌, ◌++◌, slice_get, Some, None, IfSome, IsNone}
 use Rattle.std.proofs.Common.{refl, sym, ◌∙◌, ap, subst, arith, inl, inr}
 use Rattle.std.proofs.lemmas.Bool.{cases_lt}
 use Rattle.btr_disk.specs.Bytes.{Image}
@@ -20,9 +21,42 @@ use Rattle.btr_open.specs.Reached.{Reached, with_entry, passed, with_other_pages
 use Rattle.btr_open.specs.RootTest.{MayLead}
 use Rattle.btr_open.specs.Below.{StandBelow, IsStoredPage, pages_joined, AreWider}
 use Rattle.btr_open.specs.Start.{HaveRootPages, IsCheckpointStart}
-use Rattle.btr_open.specs.Walk.{IsNextBody, LeadOn, IsWalk}
+use Rattle.btr_open.specs.Walk.{IsNextBody, LeadOn, IsWalk, HasWrongRoot, HasWrongNode}
 use Rattle.btr_open.specs.Seen.{Seen, nothing_seen, EntryRule, with_seen, with_mark, LeadOnBy, KeepsRule}
 use Rattle.btr_open.proofs.BelowLemmas.{stand-pages_joined, pages_joined-below, pages_joined-from, pages_joined-is, pages_joined-with}
+
+-- ---- another rule
+
+-- The root or a node block of an entry is wrong, whatever lets the entry follow.
+pub wrong-along : (May Other : Entry → ℕ → Type 0) → ((e : Entry) (root : ℕ) → May e root → Other e root) → (image : Image) (limit : ℕ) (log : Reached) (body : List ℕ) (block : ℕ) → HasWrongRoot May image limit log body block ⊎ HasWrongNode May image limit log body block → HasWrongRoot Other image limit log body block ⊎ HasWrongNode Other image limit log body block
+wrong-along May Other along image limit log body block wrong = elim wrong [
+  | inl w ↦
+      inl (record {
+        entry = w.entry;
+        root = w.root;
+        nodes = w.nodes;
+        content = w.content;
+        allowed = along w.entry w.root w.allowed;
+        wrong = w.wrong;
+        named = w.named;
+      })
+  | inr w ↦
+      inr (record {
+        entry = w.entry;
+        root = w.root;
+        nodes = w.nodes;
+        content = w.content;
+        allowed = along w.entry w.root w.allowed;
+        right = w.right;
+        before = w.before;
+        within = w.within;
+        bytes = w.bytes;
+        fit = w.fit;
+        stand = w.stand;
+        next = w.next;
+        damaged = w.damaged;
+      })
+]
 
 -- ---- more pages
 
