@@ -2,8 +2,7 @@
 use Rattle.std.specs.Prelude.{◌≡◌, ℕ, ◌+◌, ◌≤◌, ℤ, pos, ◌+ℤ◌, ◌≤ℤ◌, ◌<ℤ◌, int_lt, Bool, true, false, ◌||◌, cond, List, [], ◌∷◌, length, map}
 use Rattle.std.specs.Int.{int_min, int_max}
 use Rattle.std.specs.List.{AllByRecursion}
-use Rattle.std.proofs.Common.{refl, sym, ap, ◌∙◌, arith, inl, inr}
-use Rattle.std.proofs.lemmas.Bool.{both_ways, or_cases, or_right}
+use Rattle.std.proofs.Common.{refl, sym, ap, ◌∙◌, arith}
 use Rattle.std.proofs.lemmas.Int.{ints, clamps}
 use Rattle.btr_base.specs.declared.limits.TheConstants.{END}
 use Rattle.btr_base.specs.Range.{RangeValue, IsRange, IsCut, AreApart, contains, covered}
@@ -29,16 +28,6 @@ lengthened-contains lead r u t h early late inside =
     let low = in_range.0 in
     let high = in_range.1 in
     grind (arith, ints)
-
--- Each time of the domain that is at most so much after a covered time is covered by the longer ranges.
-pub lengthened-covered : (lead : ℕ) (rs : List RangeValue) (u t : ℤ) → covered rs u ≡ true → u ≤ℤ t → t ≤ℤ (u +ℤ pos lead) → t <ℤ END → covered (map (lengthened lead) rs) t ≡ true
-lengthened-covered lead [] u t h early late inside = absurd (both_ways false refl h)
-lengthened-covered lead (r ∷ rs) u t h early late inside =
-    let rest = covered (map (lengthened lead) rs) t in
-    elim (or_cases (contains r u) (covered rs u) h) [
-      | inl here ↦ ap (λ s. s || rest) (lengthened-contains lead r u t here early late inside)
-      | inr later ↦ or_right (contains (lengthened lead r) t) rest (lengthened-covered lead rs u t later early late inside)
-    ]
 
 lengthened-zero : (r : RangeValue) → IsRange r → lengthened 0 r ≡ r
 lengthened-zero r h =

@@ -1,11 +1,10 @@
 -- Lemmas on numbers, which are read digit by digit.
-use Rattle.std.proofs.Common.{◌≡◌, ℕ, ◌+◌, ◌*◌, ◌<◌, ◌≤◌, Bool, true, false, cond, ◌&&◌, leb, ltb, List, [], ◌∷◌, length, get_or, drop, Option, Some, None, refl, sym, ap, ◌∙◌, arith}
+use Rattle.std.proofs.Common.{◌≡◌, ℕ, ◌+◌, ◌*◌, ◌<◌, ◌≤◌, Bool, true, cond, ◌&&◌, leb, ltb, List, [], ◌∷◌, length, get_or, drop, Option, Some, None, refl, sym, ◌∙◌, arith}
 use Rattle.std.specs.List.{list_all}
 use Rattle.std.specs.Char.{is_ascii_digit, digit_value}
 use Rattle.std.specs.Str.Parse.{digits_value_after}
 use Rattle.std.proofs.lemmas.Bool.Decides.{nat_tests}
 use Rattle.std.proofs.lemmas.List.{at_drop_more}
-use Rattle.std.proofs.lemmas.Option.{cond_some}
 use Rattle.btr_base.specs.Decimal.{next_number, number_up_to}
 
 -- The number that digits write after the number `n`, if there is nothing else and it is at most `most`.
@@ -16,21 +15,8 @@ pub after-le : (n : ℕ) (ds : List ℕ) → n ≤ digits_value_after 10 n ds
 after-le n [] = omega arith
 after-le n (c ∷ ds) = omega (arith, after-le (n * 10 + digit_value c) ds)
 
-left_true : (a b : Bool) → (a && b) ≡ true → a ≡ true
-left_true true b h = refl
-left_true false b h = h
-
-first_passes : (d a b : Bool) (x : Option ℕ) → d ≡ true → cond ((d && a) && b) x None ≡ cond (a && b) x None
-first_passes d a b x h = rw h refl
-
 first_fails : (d a : Bool) (v w most : ℕ) (x : Option ℕ) → cond (d && leb v most) (Some v) None ≡ None → v ≤ w → cond ((d && a) && leb w most) x None ≡ None
 first_fails d a v w most x h k = grind (arith, nat_tests)
-
-pub onward-more : (most n c m : ℕ) (ds : List ℕ) → next_number n c most ≡ Some m → onward most n (c ∷ ds) ≡ onward most m ds
-onward-more most n c m ds h =
-    let p = cond_some (is_ascii_digit c && leb (n * 10 + digit_value c) most) (n * 10 + digit_value c) m h in
-    first_passes (is_ascii_digit c) (list_all is_ascii_digit ds) (leb (digits_value_after 10 (n * 10 + digit_value c) ds) most) (Some (digits_value_after 10 (n * 10 + digit_value c) ds)) (left_true (is_ascii_digit c) (leb (n * 10 + digit_value c) most) p.0)
-    ∙ ap (λ v. onward most v ds) p.1
 
 pub onward-stuck : (most n c : ℕ) (ds : List ℕ) → next_number n c most ≡ None → onward most n (c ∷ ds) ≡ None
 onward-stuck most n c ds h =

@@ -1,5 +1,5 @@
 -- The state of the pass that joins one range to a list of ranges.
-use Rattle.std.proofs.Common.{◌≡◌, ℤ, ◌<ℤ◌, inl, inr, Bool, true, false, ◌||◌, List, [], ◌∷◌, ◌++◌, ◌∙◌, refl, sym, ap, arith}
+use Rattle.std.proofs.Common.{◌≡◌, ℤ, ◌<ℤ◌, inl, inr, Bool, true, ◌||◌, List, [], ◌∷◌, ◌++◌, ◌∙◌, refl, sym, ap, arith}
 use Rattle.std.proofs.lemmas.Bool.{or_cases}
 use Rattle.std.proofs.lemmas.Int.{ints}
 use Rattle.btr_base.specs.Range.{RangeValue, IsRange, IsCut, covered, contains}
@@ -23,9 +23,6 @@ or_close d c n m = grind arith
 
 or_union : (d c n m : Bool) → (d || ((c || n) || m)) ≡ (d || (c || (n || m)))
 or_union d c n m = grind arith
-
-or_end : (d c : Bool) → (d || c) ≡ (d || (c || false))
-or_end d c = grind arith
 
 module _ (done : List RangeValue) (current next : RangeValue) (rest : List RangeValue) (range : RangeValue) (ranges : List RangeValue) (h : IsJoining done current (next ∷ rest) range ranges) where
   pub joining-skip : next.to <ℤ current.from → IsJoining (done ++ next ∷ []) current rest range ranges
@@ -74,9 +71,6 @@ module _ (done : List RangeValue) (current next : RangeValue) (rest : List Range
 module _ (done : List RangeValue) (current range : RangeValue) (ranges : List RangeValue) (h : IsJoining done current [] range ranges) where
   pub joined-cut : IsCut (done ++ current ∷ [])
   joined-cut = IsCut-push done current h.done_cut h.current_range h.before_current
-
-  pub joined-times : (t : ℤ) → covered (done ++ current ∷ []) t ≡ (contains range t || covered ranges t)
-  joined-times t = covered-push done current t ∙ or_end (covered done t) (contains current t) ∙ h.times t
 
 pub joining-start : (range : RangeValue) (ranges : List RangeValue) → IsRange range → IsCut ranges → IsJoining [] range ranges range ranges
 joining-start range ranges h k =

@@ -1,11 +1,9 @@
 -- Lemmas on points, their order, and bags.
-use Rattle.std.specs.Prelude.{◌≡◌, ℕ, ◌+◌, ◌-◌, ◌<◌, ◌≤◌, slice_index_or, drop, Bool, true, false, not, ℤ, ◌≤ℤ◌, ◌<ℤ◌, ◌⊎◌, List, [], ◌∷◌, ◌++◌, length, cond, IsTrue}
+use Rattle.std.specs.Prelude.{◌≡◌, ℕ, ◌+◌, ◌-◌, ◌<◌, ◌≤◌, slice_index_or, drop, Bool, true, false, not, ℤ, ◌≤ℤ◌, ◌<ℤ◌, List, [], ◌∷◌, ◌++◌, length, cond, IsTrue}
 use Rattle.std.specs.List.{filter, count_by, AllByRecursion}
 use Rattle.std.proofs.Common.{zero, suc, refl, sym, ap, ◌∙◌, arith, subst}
 use Rattle.std.proofs.lemmas.Int.{ints}
 use Rattle.std.proofs.lemmas.Bool.{not-true}
-use Rattle.std.proofs.lemmas.Cmp.{int_cmp_total, on_total, then_total}
-use Rattle.std.specs.Cmp.{IsTotalOrder}
 use Rattle.std.proofs.lemmas.List.Elements.{All-from_recursion}
 use Rattle.std.proofs.lemmas.List.Sorted.{sum_by-IsPermutation}
 use Rattle.std.specs.List.Sorted.{IsPermutation, IsSorted}
@@ -16,15 +14,6 @@ use Rattle.btr_base.specs.Bag.{IsInOrder, insert, sort, copies}
 use Rattle.btr_base.proofs.ListLemmas.{each-append, each-weaker, each-filter, count-append, count-cons}
 
 -- ---- two points
-
-pub point_cmp_total : IsTotalOrder point_cmp
-point_cmp_total = then_total (on_total (λ p. p.time) int_cmp_total) (on_total (λ p. p.value) int_cmp_total)
-
-pub is_not_after-true : (p q : Point) → is_not_after p q ≡ true → (p.time <ℤ q.time) ⊎ ((p.time ≡ q.time) × (p.value ≤ℤ q.value))
-is_not_after-true p q h = grind (arith, ints)
-
-pub is_not_after-false : (p q : Point) → is_not_after p q ≡ false → (q.time <ℤ p.time) ⊎ ((p.time ≡ q.time) × (q.value <ℤ p.value))
-is_not_after-false p q h = grind (arith, ints)
 
 pub is_not_after-total : (p q : Point) → is_not_after p q ≡ false → is_not_after q p ≡ true
 is_not_after-total p q h = grind (arith, ints)
@@ -40,9 +29,6 @@ same_point-true p q h = grind (arith, ints)
 
 pub same_point-refl : (p : Point) → same_point p p ≡ true
 same_point-refl p = grind (arith, ints)
-
-pub same_point-from : (p q : Point) → p ≡ q → same_point p q ≡ true
-same_point-from p q e = ap (same_point p) (sym e) ∙ same_point-refl p
 
 pub is_not_after-refl : (p : Point) → is_not_after p p ≡ true
 is_not_after-refl p = grind (arith, ints)
@@ -63,20 +49,6 @@ each-insert P p (q ∷ b) h k =
 pub each-sort : (P : Point → Type 0) (b : List Point) → AllByRecursion P b → AllByRecursion P (sort b)
 each-sort P [] h = tt
 each-sort P (p ∷ b) h = each-insert P p (sort b) h.0 (each-sort P b h.1)
-
-pub each_from-insert : (P : Point → Type 0) (p : Point) (b : List Point) → AllByRecursion P (insert p b) → AllByRecursion P (p ∷ b)
-each_from-insert P p [] h = h
-each_from-insert P p (q ∷ b) h =
-    elim (is_not_after p q) as (λ t. AllByRecursion P (cond t (p ∷ q ∷ b) (q ∷ insert p b)) → AllByRecursion P (p ∷ q ∷ b)) [
-      | true ↦ λ k. k
-      | false ↦ λ k. let r = each_from-insert P p b k.1 in (r.0, (k.0, r.1))
-    ] h
-
-pub each_from-sort : (P : Point → Type 0) (b : List Point) → AllByRecursion P (sort b) → AllByRecursion P b
-each_from-sort P [] h = tt
-each_from-sort P (p ∷ b) h =
-    let r = each_from-insert P p (sort b) h in
-    (r.0, each_from-sort P b r.1)
 
 -- ---- order
 
@@ -237,16 +209,9 @@ sort-sort b = sort-of_order (sort b) (sort-in_order b)
 pub sort-permutation : (a b : List Point) → IsPermutation a b → sort b ≡ sort a
 sort-permutation a b h = sort-same b a (λ p. sum_by-IsPermutation (λ q. cond (same_point p q) 1 0) a b h)
 
-pub sort-append_comm : (a b : List Point) → sort (a ++ b) ≡ sort (b ++ a)
-sort-append_comm a b = sort-same (a ++ b) (b ++ a) (λ p. omega (arith, copies-append p a b, copies-append p b a))
-
 pub sort-sort_left : (a b : List Point) → sort (sort a ++ b) ≡ sort (a ++ b)
 sort-sort_left a b =
     sort-same (sort a ++ b) (a ++ b) (λ p. omega (arith, copies-append p (sort a) b, copies-append p a b, copies-sort p a))
-
-pub sort-sort_right : (a b : List Point) → sort (a ++ sort b) ≡ sort (a ++ b)
-sort-sort_right a b =
-    sort-same (a ++ sort b) (a ++ b) (λ p. omega (arith, copies-append p a (sort b), copies-append p a b, copies-sort p b))
 
 pub filter-sort : (f : Point → Bool) (b : List Point) → filter f (sort b) ≡ sort (filter f b)
 filter-sort f b =

@@ -1,6 +1,6 @@
 ghost use Rattle.std.specs.Prelude.{◌≡◌, ℕ, ◌+◌, ◌-◌, ◌<◌, ◌≤◌, pos, ◌+ℤ◌, ◌≤ℤ◌, ◌<ℤ◌};
 ghost use Rattle.btr_base.specs.Point.{InDomain};
-ghost use Rattle.btr_base.specs.Span.{width as span_ns, IsSpan, slot_of};
+ghost use Rattle.btr_base.specs.Span.{width as span_ns, IsSpan, slot_of, AreSlotsBetween};
 
 use crate::limits::FIRST;
 use std::marker::Model;
@@ -89,12 +89,7 @@ impl Span {
         requires some { from <ℤ to }
         requires begins { from <ℤ (self.now.start +ℤ pos (span_ns self.now.height)) }
         requires ends { self.now.start <ℤ to }
-        ensures order { result.0 ≤ result.1 }
-        ensures place { result.1 < 64 }
-        ensures before { (i : ℕ) → i < result.0 → ((slot_of self.now i).start +ℤ pos (span_ns (self.now.height - 1))) ≤ℤ from }
-        ensures first { from <ℤ ((slot_of self.now result.0).start +ℤ pos (span_ns (self.now.height - 1))) }
-        ensures last { (slot_of self.now result.1).start <ℤ to }
-        ensures behind { (i : ℕ) → result.1 < i → i < 64 → to ≤ℤ (slot_of self.now i).start }
+        ensures { AreSlotsBetween self.now from to result }
     {
         (self.first_slot(from), self.last_slot(to))
     }
