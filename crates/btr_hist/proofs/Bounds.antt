@@ -1,14 +1,13 @@
 -- Lemmas on the bounds of a range and of the windows in it.
 use Rattle.std.specs.Prelude.{◌≡◌, ℕ, ◌≤◌, ℤ, pos, ◌-ℤ◌, ◌≤ℤ◌, ◌<ℤ◌, unsigned_abs, true, List}
 use Rattle.std.proofs.Common.{ap, ◌∙◌, arith, SFits, w64, to_z, of_z}
-use Rattle.std.proofs.lemmas.Bool.Decides.{nat_tests}
 use Rattle.std.proofs.lemmas.Int.{ints, to_z-of_z}
 use Rattle.std.proofs.Math.Nat.{div-mul-le_self}
 use Rattle.btr_base.specs.declared.limits.TheConstants.{FIRST, END}
 use Rattle.btr_base.specs.declared.point.Point.{Point}
 use Rattle.btr_base.specs.Bag.{within}
-use Rattle.btr_base.specs.Windows.{IsGrid, begin_of}
-use Rattle.btr_hist.specs.Answer.{is_range, is_power, is_width}
+use Rattle.btr_base.specs.Windows.{begin_of}
+use Rattle.btr_hist.specs.Answer.{is_range}
 
 -- ---- the tests as facts
 
@@ -21,12 +20,6 @@ pub record AreBounds (from to : ℤ) : Type 0 where
 pub range-bounds : (from to : ℤ) → is_range from to ≡ true → AreBounds from to
 range-bounds from to h =
     record { begins = grind (arith, ints); not_empty = grind (arith, ints); ends = grind (arith, ints) }
-
-pub power-low : (p : ℕ) → is_power p ≡ true → p ≤ 62
-power-low p h = grind (arith, nat_tests)
-
-pub width-grid : (from : ℤ) (w : ℕ) → is_width w ≡ true → FIRST ≤ℤ from → IsGrid from w
-width-grid from w h low = record { begins = low; some = grind (arith, nat_tests); most = grind (arith, nat_tests) }
 
 -- ---- windows that lie in a range
 

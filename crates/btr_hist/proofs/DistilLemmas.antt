@@ -1,7 +1,6 @@
 -- The main lemmas on distillates: the points of an output, the cut, the added points, and that a distillate is right.
 use Rattle.std.specs.Prelude.{◌≡◌, ℕ, ◌+◌, ◌^◌, ◌≤◌, nat_le, ℤ, pos, ◌+ℤ◌, ◌-ℤ◌, ◌≤ℤ◌, int_le, int_lt, Bool, true, not, ◌&&◌}
 use Rattle.std.specs.Prelude.{List, [], ◌∷◌, ◌++◌, length, map, cond, Option, Some, None}
-use Rattle.std.specs.List.{AllByRecursion}
 use Rattle.std.specs.Option.{option_map, is_some}
 use Rattle.std.specs.Ordering.{int_eq}
 use Rattle.std.proofs.Common.{refl, sym, ap, ◌∙◌, arith, subst}
@@ -12,14 +11,13 @@ use Rattle.std.proofs.lemmas.List.{length-append, length-map}
 use Rattle.btr_base.specs.declared.limits.TheConstants.{MAX_POINTS}
 use Rattle.btr_base.specs.declared.point.Point.{Point}
 use Rattle.btr_base.specs.Point.{in_domain, InDomain, AreInDomain}
-use Rattle.btr_base.specs.Range.{IsCut, covered}
+use Rattle.btr_base.specs.Range.{covered}
 use Rattle.btr_base.specs.Bag.{IsInOrder}
 use Rattle.btr_base.specs.Changes.{points_at, changes}
 use Rattle.btr_base.specs.Commit.{after}
-use Rattle.btr_base.proofs.ListLemmas.{each-weaker, each-append, each-filter, filter-passes, length-filter}
-use Rattle.btr_base.proofs.PointLemmas.{filter-in_order}
-use Rattle.btr_base.proofs.ChangesLemmas.{changes-cut, changes-length}
-use Rattle.btr_base.proofs.CutLemmas.{lengthened-is_range, lengthened-contains, union-cut, union-length}
+use Rattle.btr_base.proofs.ListLemmas.{each-weaker, each-filter, filter-passes}
+use Rattle.btr_base.proofs.ChangesLemmas.{changes-length}
+use Rattle.btr_base.proofs.CutLemmas.{lengthened-is_range, lengthened-contains, union-length}
 use Rattle.btr_hist.specs.declared.kernel.Spec.{Spec}
 use Rattle.btr_hist.specs.declared.rejection.Rejection.TheVariants.{OutOfDomain, TooMany}
 use Rattle.btr_hist.specs.Kernel.{anchors, window, value, has_second, divides_well, is_good}
@@ -27,8 +25,8 @@ use Rattle.btr_hist.specs.Distil.{Inputs, AreBags, IsLocal, value_of, points_fro
 use Rattle.btr_hist.specs.Distil.{DependsOn, IsWidened, affected, distillate}
 use Rattle.btr_hist.specs.Legal.{when, first_out_of_domain, points_rejection, distillate_change_rejection}
 use Rattle.btr_hist.proofs.KernelLemmas.{each-anchors, filter-anchors, filter-points_from, points_from-same, none-first}
-use Rattle.btr_hist.proofs.KernelLemmas.{kernel-in_order, kernel-in_domain, kernel-length, kernel-accepted}
-use Rattle.btr_hist.proofs.LocalityLemmas.{points_at-agree, widened-each, IsBag, local-right}
+use Rattle.btr_hist.proofs.KernelLemmas.{kernel-in_order, kernel-in_domain, kernel-accepted}
+use Rattle.btr_hist.proofs.LocalityLemmas.{points_at-agree, IsBag, local-right}
 
 -- ---- kernels are local
 
@@ -83,10 +81,6 @@ pub output-bag : (spec : Spec) (i : Inputs) → IsGood spec → AreBags i → Is
 output-bag spec i good h =
     record { in_order = output-in_order spec i h; in_domain = output-in_domain spec i good h }
 
--- An output has at most as many points as its first input.
-pub output-length : (spec : Spec) (i : Inputs) → length (output_points spec i) ≤ length i.first
-output-length spec i = kernel-length spec i
-
 -- An output has no points if its first input has none.
 pub output-none : (spec : Spec) (second : List Point) → output_points spec (record { first = []; second = second }) ≡ []
 output-none spec second = refl
@@ -111,13 +105,6 @@ widened-is spec good = record {
       lengthened-contains spec.lead r u t inside (window-late spec.lead t u seen) (window-early spec.lead t u seen) domain.1;
 }
 
-pub affected-cut : (spec : Spec) (old new : Inputs) → IsGood spec → IsCut (affected spec old new)
-affected-cut spec old new good =
-    let first = changes spec.grain old.first new.first in
-    let second = changes spec.grain old.second new.second in
-    let each = each-append _ first second (changes-cut spec.grain old.first new.first good.grain).each (changes-cut spec.grain old.second new.second good.grain).each in
-    union-cut (map (widened spec) (first ++ second)) (widened-each (looks_at spec) (widened spec) (first ++ second) (widened-is spec good) each)
-
 -- The cut has at most as many ranges as the inputs have points, old and new.
 pub affected-length : (spec : Spec) (old new : Inputs) → length (affected spec old new) ≤ (length old.first + length new.first) + (length old.second + length new.second)
 affected-length spec old new =
@@ -132,23 +119,9 @@ affected-length spec old new =
 
 -- ---- the added points
 
-pub added-length : (spec : Spec) (old new : Inputs) → length (distillate spec old new).added ≤ length new.first
-added-length spec old new =
-    let fewer = length-filter (λ p. covered (affected spec old new) p.time) (output_points spec new) in
-    let few = output-length spec new in
-    omega arith
-
-pub added-in_order : (spec : Spec) (old new : Inputs) → AreBags new → IsInOrder (distillate spec old new).added
-added-in_order spec old new h =
-    filter-in_order (λ p. covered (affected spec old new) p.time) (output_points spec new) (output-in_order spec new h)
-
 pub added-in_domain : (spec : Spec) (old new : Inputs) → IsGood spec → AreBags new → AreInDomain (distillate spec old new).added
 added-in_domain spec old new good h =
     each-filter (λ p. InDomain p.time) (λ p. covered (affected spec old new) p.time) (output_points spec new) (output-in_domain spec new good h)
-
--- The cut covers the time of each added point.
-pub added-covered : (spec : Spec) (old new : Inputs) → AllByRecursion (λ p. covered (affected spec old new) p.time ≡ true) (distillate spec old new).added
-added-covered spec old new = filter-passes (λ p. covered (affected spec old new) p.time) (output_points spec new)
 
 -- ---- the law
 

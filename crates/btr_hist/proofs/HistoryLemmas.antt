@@ -117,11 +117,6 @@ pub each-after : (P : Point → Type 0) (b : List Point) (c : Change) → AllByR
 each-after P b c h k =
     each-sort P (outside b c.cut ++ c.added) (each-append P (outside b c.cut) c.added (each-filter P (λ p. not (covered c.cut p.time)) b h) k)
 
--- What holds of each point that a commit adds holds of each point of each version.
-pub each-replay : (P : Point → Type 0) (b : List Point) (cs : List Change) → AllByRecursion P b → AllByRecursion (λ c. AllByRecursion P c.added) cs → AllByRecursion P (replay b cs)
-each-replay P b [] h k = h
-each-replay P b (c ∷ cs) h k = each-replay P (after b c) cs (each-after P b c h k.0) k.1
-
 -- ---- how often a version contains a point
 
 pub copies-commit : (p : Point) (b : List Point) (c : Change) → copies p (after b c) ≡ cond (covered c.cut p.time) 0 (copies p b) + copies p c.added
@@ -192,20 +187,6 @@ legal-last h e legal = after-last Allowed h e legal
 -- A history stays legal with an entry that is allowed.
 pub legal-push : (h : List Entry) (e : Entry) → Legal h → Allowed h e → Legal (h ++ e ∷ [])
 legal-push h e legal allowed = after-push Allowed h e legal allowed
-
--- An entry is no distillate.
-abbrev pub IsNoDistillate : Entry → Type 0
-IsNoDistillate (Create id) = Unit {0}
-IsNoDistillate (Define id spec) = Unit {0}
-IsNoDistillate (Commit s cut added) = Unit {0}
-IsNoDistillate (Distillate s cut added reads) = ⊥
-
--- An entry that is no distillate is allowed if it is accepted.
-pub allowed-of_accepted : (h : List Entry) (e : Entry) → IsNoDistillate e → rejection h e ≡ None → Allowed h e
-allowed-of_accepted h (Create id) kind accepted = record { accepted = accepted; computed = tt }
-allowed-of_accepted h (Define id spec) kind accepted = record { accepted = accepted; computed = tt }
-allowed-of_accepted h (Commit s cut added) kind accepted = record { accepted = accepted; computed = tt }
-allowed-of_accepted h (Distillate s cut added reads) kind accepted = absurd kind
 
 -- What a user may commit is allowed.
 pub allowed-of_offered : (h : List Entry) (e : Entry) → offered h e ≡ None → Allowed h e

@@ -1,8 +1,8 @@
 -- Lemmas on the points of an output: filters by time, their order, number and values, and that a version may hold them.
-use Rattle.std.specs.Prelude.{◌≡◌, ℕ, ◌*◌, ◌≤◌, ℤ, pos, negsuc, ◌+ℤ◌, ◌≤ℤ◌, ◌<ℤ◌, int_le, Bool, true, false, not, ◌&&◌}
+use Rattle.std.specs.Prelude.{◌≡◌, ℕ, ◌*◌, ◌≤◌, ℤ, pos, ◌+ℤ◌, ◌≤ℤ◌, ◌<ℤ◌, Bool, true, false, not, ◌&&◌}
 use Rattle.std.specs.Prelude.{List, [], ◌∷◌, length, Option, Some, None, cond, IsTrue}
 use Rattle.std.specs.List.{filter, cons_option, AllByRecursion}
-use Rattle.std.specs.Option.{option_map, option_and_then}
+use Rattle.std.specs.Option.{option_map}
 use Rattle.std.specs.Ordering.{int_eq}
 use Rattle.std.proofs.Common.{zero, suc, refl, sym, ap, ◌∙◌, arith}
 use Rattle.std.proofs.lemmas.Int.{ints}
@@ -11,7 +11,6 @@ use Rattle.btr_base.specs.declared.limits.TheConstants.{FIRST, END, MAX_POINTS}
 use Rattle.btr_base.specs.declared.point.Point.{Point}
 use Rattle.btr_base.specs.Point.{is_not_after, InDomain, AreInDomain}
 use Rattle.btr_base.specs.Bag.{IsInOrder, within, is_within}
-use Rattle.btr_base.specs.Agg.{IsValue}
 use Rattle.btr_base.specs.Span.{width, time_at}
 use Rattle.btr_base.specs.Crowded.{crowded}
 use Rattle.btr_base.proofs.ListLemmas.{each-weaker, each-both, each-filter, filter-passes, filter-filter, filter-same, filter-swap, length-filter}
@@ -21,7 +20,7 @@ use Rattle.btr_base.proofs.CrowdedLemmas.{HasRoom, crowded-none}
 use Rattle.btr_hist.specs.declared.kernel.Spec.{Spec}
 use Rattle.btr_hist.specs.declared.rejection.Rejection.{Rejection}
 use Rattle.btr_hist.specs.declared.rejection.Rejection.TheVariants.{Crowded, TooManyPoints}
-use Rattle.btr_hist.specs.Kernel.{anchors, window, computed, stored}
+use Rattle.btr_hist.specs.Kernel.{anchors}
 use Rattle.btr_hist.specs.Distil.{Inputs, value_of, points_from, kernel_points}
 use Rattle.btr_hist.specs.Legal.{first_some, when, points_rejection}
 
@@ -125,16 +124,6 @@ each-points_from P f (t ∷ ts) h =
       | Some v ↦ (h.0, rest)
     ]
 
--- What holds of each value that the function gives holds of the value of each point.
-pub points_from-values : (P : ℤ → Type 0) (f : ℤ → Option ℤ) (ts : List ℤ) → ((t v : ℤ) → f t ≡ Some v → P v) → AllByRecursion (λ p. P p.value) (points_from f ts)
-points_from-values P f [] k = tt
-points_from-values P f (t ∷ ts) k =
-    let rest = points_from-values P f ts k in
-    elim (f t) as (λ o. f t ≡ o → AllByRecursion (λ p. P p.value) (cons_option (point_from t o) (points_from f ts))) [
-      | None ↦ λ _. rest
-      | Some v ↦ λ e. (k t v e, rest)
-    ] refl
-
 pub points_from-length : (f : ℤ → Option ℤ) (ts : List ℤ) → length (points_from f ts) ≤ length ts
 points_from-length f [] = omega arith
 points_from-length f (t ∷ ts) =
@@ -220,22 +209,6 @@ kernel-length spec i =
     let few = points_from-length (value_of spec i) (anchors i.first) in
     let times = anchors-length i.first in
     omega arith
-
-stored-value : (v w : ℤ) → stored v ≡ Some w → IsValue w
-stored-value v w =
-    let test = int_le (negsuc 9223372036854775807) v && int_le v (pos 9223372036854775807) in
-    elim test as (λ s. test ≡ s → cond s (Some v) None ≡ Some w → IsValue w) [
-      | true ↦ λ fits is. let same : v ≡ w = cc in (grind (arith, ints), grind (arith, ints))
-      | false ↦ λ _ is. absurd (cc)
-    ] refl
-
-value-is : (o : Option ℤ) (w : ℤ) → option_and_then stored o ≡ Some w → IsValue w
-value-is None w h = absurd (cc)
-value-is (Some v) w h = stored-value v w h
-
--- Each value of an output is an `i64`.
-pub kernel-values : (spec : Spec) (i : Inputs) → AllByRecursion (λ p. IsValue p.value) (kernel_points spec i)
-kernel-values spec i = points_from-values IsValue (value_of spec i) (anchors i.first) (λ t v e. value-is (computed spec.kernel t (window spec.lead t i.first) (window spec.lead t i.second)) v e)
 
 pub none-first : (a b : Option Rejection) → a ≡ None → b ≡ None → first_some (a ∷ b ∷ []) ≡ None
 none-first a b h k = ap (λ o. first_some (o ∷ b ∷ [])) h ∙ ap (λ o. first_some (o ∷ [])) k

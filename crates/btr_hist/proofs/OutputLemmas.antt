@@ -1,5 +1,5 @@
 -- Lemmas on histories whose entries are each accepted: the points of each version, and what each output is and has read.
-use Rattle.std.specs.Prelude.{◌≡◌, ℕ, ◌<◌, ◌≤◌, true, Bool, List, [], ◌∷◌, ◌++◌, length, take, cond, Option, Some, None}
+use Rattle.std.specs.Prelude.{◌≡◌, ℕ, ◌<◌, ◌≤◌, Bool, List, [], ◌∷◌, ◌++◌, length, take, cond, Option, Some, None}
 use Rattle.std.specs.Option.{option_map, unwrap_or}
 use Rattle.std.proofs.Common.{zero, suc, refl, sym, ap, ◌∙◌, arith, inl, inr, subst}
 use Rattle.std.proofs.lemmas.Bool.{eq-eqb}
@@ -11,12 +11,12 @@ use Rattle.btr_hist.specs.declared.entry.Entry.{Entry}
 use Rattle.btr_hist.specs.declared.entry.Entry.TheVariants.{Distillate}
 use Rattle.btr_hist.specs.declared.kernel.Spec.{Spec}
 use Rattle.btr_hist.specs.declared.kernel.Reads.{Reads}
-use Rattle.btr_hist.specs.History.{new_kind, change_of, read_of, ids, spec_of, commits, latest, bag, read_by, reads, latest_reads}
-use Rattle.btr_hist.specs.Legal.{takes_reads, rejection, Legal, Follows}
+use Rattle.btr_hist.specs.History.{new_kind, change_of, read_of, ids, spec_of, commits, latest, bag, read_by, reads}
+use Rattle.btr_hist.specs.Legal.{rejection, Legal, Follows}
 use Rattle.btr_hist.proofs.HistoryLemmas.{read_by-append, each-after, legal-follows}
 use Rattle.btr_hist.proofs.VersionLemmas.{from_end, ids-more, reads-append, kind-push, latest-silent}
 use Rattle.btr_hist.proofs.VersionLemmas.{commits-push, each_bag-push, each_version-push, read_by-push}
-use Rattle.btr_hist.proofs.ReadsLemmas.{AreThere, there-more, there-nothing, may_read-there, may_read-latest}
+use Rattle.btr_hist.proofs.ReadsLemmas.{AreThere, there-more, there-nothing, may_read-there}
 use Rattle.btr_hist.proofs.AcceptedLemmas.{change-accepted, IsNext, output-next, IsDefined, new-defined, new-silent}
 
 -- The spec of an output is good, and its inputs are streams. Each version has read versions that the inputs have, and each after
@@ -137,10 +137,3 @@ legal-sound h legal = follows-sound h (legal-follows h legal)
 -- What an output is and has read.
 pub follows-output : (h : List Entry) (stream : ℕ) (spec : Spec) → Follows h → spec_of h stream ≡ Some spec → IsOutput h stream spec
 follows-output h stream spec follows output = (follows-sound h follows).outputs stream spec output
-
--- The latest versions of the inputs may be read.
-pub takes-latest : (h : List Entry) (stream : ℕ) (spec : Spec) → Follows h → spec_of h stream ≡ Some spec → takes_reads h stream (spec_of h stream) (latest_reads h spec) ≡ true
-takes-latest h stream spec follows output =
-    let there = (follows-output h stream spec follows output).there (latest h stream) (omega arith) in
-    let may = may_read-latest h spec (reads h stream spec (latest h stream)) there in
-    subst (λ (o : Option Spec). takes_reads h stream o (latest_reads h spec) ≡ true) (sym output) may

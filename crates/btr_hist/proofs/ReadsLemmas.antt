@@ -1,6 +1,6 @@
 -- Lemmas on the versions of its inputs that an output reads: that the inputs have them, and that a distillate may read them.
 use Rattle.std.specs.Prelude.{◌≡◌, ℕ, ◌≤◌, nat_le, true, ◌&&◌, List, ◌++◌, Option, Some, None}
-use Rattle.std.specs.Option.{option_map, is_some}
+use Rattle.std.specs.Option.{option_map}
 use Rattle.std.proofs.Common.{refl, arith, subst}
 use Rattle.std.proofs.lemmas.Bool.{leb-true, le-leb, and_parts, and_from}
 use Rattle.btr_hist.specs.declared.entry.Entry.{Entry}
@@ -25,16 +25,6 @@ pub record AreThere (h : List Entry) (spec : Spec) (r : Reads) : Type 0 where
   pub first : r.first ≤ latest h spec.first
   pub second : IsSecondThere h spec.second r.second
 
-second_there-shape : (h : List Entry) (s version : Option ℕ) → IsSecondThere h s version → is_some version ≡ is_some s
-second_there-shape h None None there = refl
-second_there-shape h (Some s) (Some version) there = refl
-second_there-shape h None (Some version) there = absurd there
-second_there-shape h (Some s) None there = absurd there
-
--- A version of a second input is read exactly if there is a second input.
-pub there-shape : (h : List Entry) (spec : Spec) (r : Reads) → AreThere h spec r → is_some r.second ≡ is_some spec.second
-there-shape h spec r there = second_there-shape h spec.second r.second there.second
-
 -- The second input, if there is one, has the version.
 pub there-second : (h : List Entry) (spec : Spec) (r : Reads) (s version : ℕ) → AreThere h spec r → spec.second ≡ Some s → r.second ≡ Some version → version ≤ latest h s
 there-second h spec r s version there is read =
@@ -58,13 +48,6 @@ second_there-nothing h (Some s) = omega arith
 -- Each input has a version 0.
 pub there-nothing : (h : List Entry) (spec : Spec) → AreThere h spec (nothing_read spec)
 there-nothing h spec = record { first = omega arith; second = second_there-nothing h spec.second }
-
-second_there-latest : (h : List Entry) (s : Option ℕ) → IsSecondThere h s (option_map (λ t. latest h t) s)
-second_there-latest h None = tt
-second_there-latest h (Some s) = omega arith
-
-pub there-latest : (h : List Entry) (spec : Spec) → AreThere h spec (latest_reads h spec)
-there-latest h spec = record { first = omega arith; second = second_there-latest h spec.second }
 
 second_points-append : (h more : List Entry) (s version : Option ℕ) → IsSecondThere h s version → second_points (h ++ more) s version ≡ second_points h s version
 second_points-append h more None None there = refl

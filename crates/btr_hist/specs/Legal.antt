@@ -82,6 +82,13 @@ define_rejection h id spec = first_some (
     ∷ when (not (is_good spec)) BadSpec
     ∷ [])
 
+-- The reason why a stream has no next version with this change, if all other tests pass.
+abbrev pub version_rejection : List Entry → ℕ → Change → Option Rejection
+version_rejection h stream c = first_some (
+    when (nat_le MAX_VERSIONS (latest h stream)) VersionLimit
+    ∷ points_rejection (next_bag h stream c)
+    ∷ [])
+
 -- The reason why a user's commit of this stream may not follow h.
 abbrev pub commit_rejection : List Entry → ℕ → Change → Option Rejection
 commit_rejection h stream c = first_some (

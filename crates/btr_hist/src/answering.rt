@@ -13,7 +13,7 @@ use crate::answer::{Answer, CellList, PointList, Refusal, Rows, StreamList, Stre
 use crate::cells::{aligned_cells, whole_cells};
 use crate::changed::changed_ranges;
 use crate::entry::Entry;
-use crate::query::{At, Query};
+use crate::query::{At, Query, VersionAsked};
 use crate::walks::{latest_of, points_of_version, read_by, spec_of, stream_count};
 use btr_base::{Agg, END, FIRST, MAX_EXPONENT, MAX_WIDTH, Point, Toward, parted, points_between};
 use std::alloc::{AllocError, Global};
@@ -32,42 +32,43 @@ pub(crate) fn answer_of(
             from,
             to,
             at,
-        } => points_answer(alloc, entries, stream, from, to, at),
+        } => points_answer(alloc, entries, VersionAsked { stream, at }, from, to),
         Query::Nearest {
             stream,
             time,
             toward,
             at,
-        } => nearest_answer(alloc, entries, stream, time, toward, at),
+        } => nearest_answer(alloc, entries, VersionAsked { stream, at }, time, toward),
         Query::Aligned {
             stream,
             from,
             to,
             p,
             at,
-        } => aligned_answer(alloc, entries, stream, from, to, p, at),
+        } => aligned_answer(alloc, entries, VersionAsked { stream, at }, from, to, p),
         Query::Windows {
             stream,
             from,
             to,
             width,
             at,
-        } => windows_answer(alloc, entries, stream, from, to, width, at),
+        } => windows_answer(alloc, entries, VersionAsked { stream, at }, from, to, width),
         Query::Changes {
             stream,
             old,
             new,
             p,
         } => changes_answer(alloc, entries, stream, old, new, p),
-        Query::Info { stream, at } => info_answer(alloc, entries, stream, at),
+        Query::Info { stream, at } => info_answer(alloc, entries, VersionAsked { stream, at }),
         Query::Streams => streams_answer(alloc, entries),
     }
 }
 
 /// The version that is asked for, or the reason of a refusal. `good` says whether the other numbers of the question are good.
-fn version_asked(entries: &[Entry], stream: u32, at: At, good: bool) -> Result<u64, Refusal>
-    ensures { IsAsked entries.now stream (version_of entries.now stream at) good result }
+fn version_asked(entries: &[Entry], asked: VersionAsked, good: bool) -> Result<u64, Refusal>
+    ensures { IsAsked entries.now asked.stream (version_of entries.now asked.stream asked.at) good result }
 {
+    let VersionAsked { stream, at } = asked;
     if stream as usize >= stream_count(entries) {
         return Err(Refusal::NoStream);
     }
@@ -93,18 +94,17 @@ fn version_asked(entries: &[Entry], stream: u32, at: At, good: bool) -> Result<u
 fn points_answer(
     alloc: Global,
     entries: &[Entry],
-    stream: u32,
+    asked: VersionAsked,
     from: i64,
     to: i64,
-    at: At,
 ) -> Result<Answer, AllocError>
-    ensures { IfOk result (λ a. a ≡ answer entries.now (AskPoints stream from to at)) }
+    ensures { IfOk result (λ a. a ≡ answer entries.now (AskPoints asked.stream from to asked.at)) }
 {
-    let version = match version_asked(entries, stream, at, is_range(from, to)) {
+    let version = match version_asked(entries, asked, is_range(from, to)) {
         Ok(version) => version,
         Err(refusal) => return Ok(Answer::Refused(refusal)),
     };
-    let bag = points_of_version(alloc, entries, stream, version)?;
+    let bag = points_of_version(alloc, entries, asked.stream, version)?;
     let points = Vec::from_slice(alloc, points_between(bag.as_slice(), from, to))?;
     Ok(Answer::Found {
         version,
@@ -116,18 +116,17 @@ fn points_answer(
 fn nearest_answer(
     alloc: Global,
     entries: &[Entry],
-    stream: u32,
+    asked: VersionAsked,
     time: i64,
     toward: Toward,
-    at: At,
 ) -> Result<Answer, AllocError>
-    ensures { IfOk result (λ a. a ≡ answer entries.now (AskNearest stream time toward at)) }
+    ensures { IfOk result (λ a. a ≡ answer entries.now (AskNearest asked.stream time toward asked.at)) }
 {
-    let version = match version_asked(entries, stream, at, true) {
+    let version = match version_asked(entries, asked, true) {
         Ok(version) => version,
         Err(refusal) => return Ok(Answer::Refused(refusal)),
     };
-    let bag = points_of_version(alloc, entries, stream, version)?;
+    let bag = points_of_version(alloc, entries, asked.stream, version)?;
     let points = list_of(alloc, nearest_point(bag.as_slice(), time, toward))?;
     Ok(Answer::Found {
         version,
@@ -139,19 +138,18 @@ fn nearest_answer(
 fn aligned_answer(
     alloc: Global,
     entries: &[Entry],
-    stream: u32,
+    asked: VersionAsked,
     from: i64,
     to: i64,
     p: u8,
-    at: At,
 ) -> Result<Answer, AllocError>
-    ensures { IfOk result (λ a. a ≡ answer entries.now (AskAligned stream from to p at)) }
+    ensures { IfOk result (λ a. a ≡ answer entries.now (AskAligned asked.stream from to p asked.at)) }
 {
-    let version = match version_asked(entries, stream, at, can_align(from, to, p)) {
+    let version = match version_asked(entries, asked, can_align(from, to, p)) {
         Ok(version) => version,
         Err(refusal) => return Ok(Answer::Refused(refusal)),
     };
-    let bag = points_of_version(alloc, entries, stream, version)?;
+    let bag = points_of_version(alloc, entries, asked.stream, version)?;
     let cells = aligned_cells(alloc, bag.as_slice(), from, to, p)?;
     Ok(Answer::Found {
         version,
@@ -163,19 +161,18 @@ fn aligned_answer(
 fn windows_answer(
     alloc: Global,
     entries: &[Entry],
-    stream: u32,
+    asked: VersionAsked,
     from: i64,
     to: i64,
     width: u64,
-    at: At,
 ) -> Result<Answer, AllocError>
-    ensures { IfOk result (λ a. a ≡ answer entries.now (AskWindows stream from to width at)) }
+    ensures { IfOk result (λ a. a ≡ answer entries.now (AskWindows asked.stream from to width asked.at)) }
 {
-    let version = match version_asked(entries, stream, at, can_divide(from, to, width)) {
+    let version = match version_asked(entries, asked, can_divide(from, to, width)) {
         Ok(version) => version,
         Err(refusal) => return Ok(Answer::Refused(refusal)),
     };
-    let bag = points_of_version(alloc, entries, stream, version)?;
+    let bag = points_of_version(alloc, entries, asked.stream, version)?;
     let cells = whole_cells(alloc, bag.as_slice(), from, to, width)?;
     Ok(Answer::Found {
         version,
@@ -194,8 +191,11 @@ fn changes_answer(
 ) -> Result<Answer, AllocError>
     ensures { IfOk result (λ a. a ≡ answer entries.now (AskChanges stream old new p)) }
 {
-    let at = At::Number(old.max(new));
-    let version = match version_asked(entries, stream, at, can_compare(old, new, p)) {
+    let asked = VersionAsked {
+        stream,
+        at: At::Number(old.max(new)),
+    };
+    let version = match version_asked(entries, asked, can_compare(old, new, p)) {
         Ok(version) => version,
         Err(refusal) => return Ok(Answer::Refused(refusal)),
     };
@@ -209,20 +209,20 @@ fn changes_answer(
 }
 
 /// The answer to a question for a version as a whole. An `Err` means out of memory.
-fn info_answer(alloc: Global, entries: &[Entry], stream: u32, at: At) -> Result<Answer, AllocError>
-    ensures { IfOk result (λ a. a ≡ answer entries.now (AskInfo stream at)) }
+fn info_answer(alloc: Global, entries: &[Entry], asked: VersionAsked) -> Result<Answer, AllocError>
+    ensures { IfOk result (λ a. a ≡ answer entries.now (AskInfo asked.stream asked.at)) }
 {
-    let version = match version_asked(entries, stream, at, true) {
+    let version = match version_asked(entries, asked, true) {
         Ok(version) => version,
         Err(refusal) => return Ok(Answer::Refused(refusal)),
     };
-    let bag = points_of_version(alloc, entries, stream, version)?;
+    let bag = points_of_version(alloc, entries, asked.stream, version)?;
     Ok(Answer::Found {
         version,
         rows: Rows::Info {
-            output: is_output(entries, stream as usize),
+            output: is_output(entries, asked.stream as usize),
             agg: Agg::of_points(points_between(bag.as_slice(), FIRST, END)),
-            reads: read_by(entries, stream, version),
+            reads: read_by(entries, asked.stream, version),
         },
     })
 }

@@ -34,7 +34,7 @@ pub use laws::{
     legal_histories_are_right, old_versions_stay, outputs_are_local, points_lie_in_the_domain,
     prefixes_are_legal, the_machine_stays_legal, versions_hold_what_was_put_in,
 };
-pub use query::{At, Query, StreamQuery};
+pub use query::{At, Query, StreamQuery, VersionAsked};
 pub use rejecting::{
     MAX_DISTILLATE_RANGES, change_rejection, distillate_change_rejection, points_rejection,
 };

@@ -13,6 +13,13 @@ pub enum At {
     Latest,
 }
 
+/// The version of a stream, by its number, that a question is about.
+#[derive(Clone, Copy)]
+pub struct VersionAsked {
+    pub stream: u32,
+    pub at: At,
+}
+
 /// A question about a stream, by its number, or about all streams.
 #[derive(Clone, Copy, PartialEq)]
 pub enum Query {

@@ -1,13 +1,11 @@
 //! The reasons why an entry may not follow a history, by walks over all entries.
-ghost use Rattle.std.specs.Prelude.{◌≡◌, nat_le, [], ◌∷◌, max, IfOk, Some, None};
+ghost use Rattle.std.specs.Prelude.{◌≡◌, max, IfOk, Some, None};
 ghost use Rattle.std.specs.Option.{option_map};
 ghost use Rattle.btr_base.specs.Bag.{IsInOrder};
-ghost use Rattle.btr_base.specs.declared.limits.TheConstants.{MAX_VERSIONS as MOST_VERSIONS};
-ghost use Rattle.btr_hist.specs.declared.rejection.Rejection.TheVariants.{VersionLimit};
 ghost use Rattle.btr_hist.specs.History.{spec_of, latest, reads};
 ghost use Rattle.btr_hist.specs.Legal.{create_rejection, define_rejection, commit_rejection, distillate_rejection};
 ghost use Rattle.btr_hist.specs.Legal.{change_rejection, distillate_change_rejection, points_rejection, first_out_of_domain};
-ghost use Rattle.btr_hist.specs.Legal.{first_some, when, next_bag, has_inputs, takes_reads, may_read, may_read_second};
+ghost use Rattle.btr_hist.specs.Legal.{version_rejection, has_inputs, takes_reads, may_read, may_read_second};
 
 use crate::crowded::first_crowded;
 use crate::entry::Entry;
@@ -121,8 +119,7 @@ fn next_version(
     cut: &Ranges,
     added: &Bag,
 ) -> Result<Option<Rejection>, AllocError>
-    ensures { IfOk result (λ r. r ≡ first_some (when (nat_le MOST_VERSIONS (latest entries.now stream)) VersionLimit
-        ∷ points_rejection (next_bag entries.now stream (record { cut = cut.now; added = added.now })) ∷ [])) }
+    ensures { IfOk result (λ r. r ≡ version_rejection entries.now stream (record { cut = cut.now; added = added.now })) }
 {
     let latest = latest_of(entries, stream as usize);
     if latest >= MAX_VERSIONS {

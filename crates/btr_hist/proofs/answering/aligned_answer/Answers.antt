@@ -10,7 +10,7 @@ use Rattle.btr_hist.proofs.answering.aligned_answer.Goals as goal
 pub returns-in-Err : goal.returns-in-Err
 returns-in-Err c =
     let h = c.args.entries.now in
-    refused h c.args.stream (version_of h c.args.stream c.args.at) c.can_align.result (is_range c.args.from c.args.to && is_power c.args.p) (λ (b : List Point). Cells (aligned c.args.p c.args.from c.args.to b)) c.in-Err.refusal
+    refused h c.args.asked.stream (version_of h c.args.asked.stream c.args.asked.at) c.can_align.result (is_range c.args.from c.args.to && is_power c.args.p) (λ (b : List Point). Cells (aligned c.args.p c.args.from c.args.to b)) c.in-Err.refusal
     (tested_as_words c.args.from c.args.to c.can_align.result (is_power c.args.p) c.ranges.from c.ranges.to c.can_align.ensures) c.in-Err.ensures
 
 pub returns : goal.returns
@@ -19,7 +19,7 @@ returns c =
     let from = to_z-of_z w64 c.args.from c.ranges.from in
     let to = to_z-of_z w64 c.args.to c.ranges.to in
     let b = c.as_slice.result.now in
-    found h c.args.stream (version_of h c.args.stream c.args.at) c.can_align.result (is_range c.args.from c.args.to && is_power c.args.p) (λ (b : List Point). Cells (aligned c.args.p c.args.from c.args.to b)) c.in-Ok.version (Cells c.from_cells.result)
+    found h c.args.asked.stream (version_of h c.args.asked.stream c.args.asked.at) c.can_align.result (is_range c.args.from c.args.to && is_power c.args.p) (λ (b : List Point). Cells (aligned c.args.p c.args.from c.args.to b)) c.in-Ok.version (Cells c.from_cells.result)
     (tested_as_words c.args.from c.args.to c.can_align.result (is_power c.args.p) c.ranges.from c.ranges.to c.can_align.ensures) c.in-Ok.ensures
     (ap Cells (c.from_cells.ensures ∙ c.in_ok-cells.ensures
     ∙ ap (λ z. aligned c.args.p z (to_z w64 (of_z w64 c.args.to)) b) from

@@ -10,12 +10,12 @@ use Rattle.btr_hist.proofs.answering.nearest_answer.Goals as goal
 pub returns-in-Err : goal.returns-in-Err
 returns-in-Err c =
     let h = c.args.entries.now in
-    refused h c.args.stream (version_of h c.args.stream c.args.at) true true (λ (b : List Point). Points (list_of (nearest c.args.toward c.args.time b))) c.in-Err.refusal refl c.in-Err.ensures
+    refused h c.args.asked.stream (version_of h c.args.asked.stream c.args.asked.at) true true (λ (b : List Point). Points (list_of (nearest c.args.toward c.args.time b))) c.in-Err.refusal refl c.in-Err.ensures
 
 pub returns : goal.returns
 returns c =
     let h = c.args.entries.now in
     let time = to_z-of_z w64 c.args.time c.ranges.time in
-    found h c.args.stream (version_of h c.args.stream c.args.at) true true (λ (b : List Point). Points (list_of (nearest c.args.toward c.args.time b))) c.in-Ok.version (Points c.from_points.result) refl c.in-Ok.ensures
+    found h c.args.asked.stream (version_of h c.args.asked.stream c.args.asked.at) true true (λ (b : List Point). Points (list_of (nearest c.args.toward c.args.time b))) c.in-Ok.version (Points c.from_points.result) refl c.in-Ok.ensures
     (ap Points (c.from_points.ensures ∙ c.in_ok-points.ensures
     ∙ ap list_of (c.nearest_point.ensures ∙ ap (λ z. nearest c.args.toward z c.as_slice.result.now) time ∙ ap (nearest c.args.toward c.args.time) (c.as_slice.ensures.points ∙ c.in_ok-bag.ensures))))

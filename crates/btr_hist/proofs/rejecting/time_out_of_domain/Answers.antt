@@ -1,4 +1,4 @@
-use Rattle.std.proofs.Common.{◌≡◌, ℤ, pos, List, [], ◌∷◌, Option, Some, None, slice_get, IsTrue, ◌≤ℤ◌, ◌<ℤ◌, to_z, of_z, w64, rules, refl, sym, ap, ◌∙◌, subst, arith}
+use Rattle.std.proofs.Common.{◌≡◌, ℤ, List, [], ◌∷◌, Option, Some, slice_get, IsTrue, ◌≤ℤ◌, w64, rules, sym, ap, ◌∙◌, subst, arith}
 use Rattle.std.specs.Option.{option_map}
 use Rattle.std.specs.List.{AllByRecursion}
 use Rattle.std.proofs.lemmas.Int.{ints, to_z-of_z}
@@ -8,8 +8,7 @@ use Rattle.btr_base.specs.Bag.{IsInOrder}
 use Rattle.btr_base.specs.Point.{is_not_after}
 use Rattle.btr_base.proofs.ListLemmas.{each-weaker}
 use Rattle.btr_base.proofs.PointLemmas.{is_not_after-times}
-use Rattle.btr_hist.specs.Legal.{first_out_of_domain}
-use Rattle.btr_hist.proofs.Steps.{out_of_domain-first, out_of_domain-late}
+use Rattle.btr_hist.proofs.Steps.{out_of_domain-late}
 use Rattle.btr_hist.proofs.rejecting.time_out_of_domain.Goals as goal
 
 -- No point is before the domain, if the first one is not.
