@@ -59,7 +59,3 @@ said-push before taken fields said e = append_assoc before (map row_of taken) (s
 
 pub record-push : (whole taken rest more : List (List (List ℕ))) (fields : List (List ℕ)) → whole ≡ taken ++ rest → rest ≡ fields ∷ more → whole ≡ (taken ++ fields ∷ []) ++ more
 record-push whole taken rest more fields e f = e ∙ ap (λ l. taken ++ l) f ∙ sym (append_assoc taken (fields ∷ []) more)
-
-pub said-all : (before : List (Result Row RowReason)) (whole taken rest : List (List (List ℕ))) (b : BuilderValue) → b ≡ built_of (before ++ map row_of taken) → whole ≡ taken ++ rest → rest ≡ []
-    → b ≡ built_of (before ++ map row_of whole)
-said-all before whole taken rest b e w n = e ∙ ap (λ t. built_of (before ++ map row_of t)) (sym (w ∙ ap (λ l. taken ++ l) n ∙ append-nil taken))

@@ -1,8 +1,7 @@
 -- Lemmas on the fields of a record, which are read one at a time.
-use Rattle.std.proofs.Common.{◌≡◌, ◌≢◌, ℕ, zero, suc, ℤ, ◌<◌, List, [], ◌∷◌, length, Option, Some, None, Err, refl, arith}
+use Rattle.std.proofs.Common.{◌≡◌, ℕ, zero, suc, ℤ, ◌<◌, List, [], ◌∷◌, length, Option, Some, None, refl, arith}
 use Rattle.csv.specs.Records.{field_at}
-use Rattle.btr_rows.specs.declared.row.RowReason.TheVariants.{Fields}
-use Rattle.btr_rows.specs.Row.{first_reason, row_of}
+use Rattle.btr_rows.specs.Row.{first_reason}
 use Rattle.btr_rows.proofs.SmallLemmas.{some_equal}
 
 -- Three fields that were looked up are all of a record of three fields.
@@ -14,14 +13,6 @@ three_fields (x ∷ []) a b c h p q r = absurd (omega arith)
 three_fields (x ∷ y ∷ []) a b c h p q r = absurd (omega arith)
 three_fields (x ∷ y ∷ z ∷ []) a b c h p q r = rw (some_equal p, some_equal q, some_equal r) refl
 three_fields (x ∷ y ∷ z ∷ w ∷ rest) a b c h p q r = absurd (omega arith)
-
--- A record of another number of fields is no row.
-pub not_three : (fields : List (List ℕ)) → length fields ≢ 3 → Err Fields ≡ row_of fields
-not_three [] h = refl
-not_three (x ∷ []) h = refl
-not_three (x ∷ y ∷ []) h = refl
-not_three (x ∷ y ∷ z ∷ []) h = absurd (h refl)
-not_three (x ∷ y ∷ z ∷ w ∷ rest) h = refl
 
 -- A field below the number of fields is there.
 pub field_there : (fields : List (List ℕ)) (i : ℕ) → i < length fields → field_at fields i ≡ None → ⊥

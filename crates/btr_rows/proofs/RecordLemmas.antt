@@ -1,6 +1,5 @@
 -- Lemmas on the records of a CSV text: each is followed by those of the text after it.
 use Rattle.std.proofs.Common.{◌≡◌, ◌≤◌, ◌<◌, ℕ, zero, suc, ◌+◌, Bool, true, false, cond, ◌||◌, ◌&&◌, inl, inr, eqb, List, [], ◌∷◌, ◌++◌, length, Option, Some, None, Bor, refl, sym, ap, subst, ◌∙◌, arith}
-use Rattle.std.specs.Bool.{MatchBool}
 use Rattle.std.proofs.Math.Numerals.{add-one}
 use Rattle.csv.specs.Machine.{Read, after_end, ends_at_end, field_after, fields_after, is_end, next_record, start_record, start_field, in_field, step}
 use Rattle.csv.specs.Reading.{Reached, ReadRecord, default_config, records_from, records_next, strip_bom, took_first}
@@ -12,7 +11,7 @@ use Rattle.csv.specs.declared.parser.Action.{Action}
 use Rattle.csv.specs.declared.parser.Terminator.TheVariants as term
 use Rattle.csv.specs.declared.parser.Action.TheVariants as act
 use Rattle.csv.proofs.ReadFacts.{rows-more, rows-end}
-use Rattle.btr_rows.specs.Reading.{HasLeft, IsBetween, records_in}
+use Rattle.btr_rows.specs.Reading.{HasLeft, IsBetween, ReadsNext, records_in}
 use Rattle.btr_rows.proofs.SmallLemmas.{some_equal}
 
 -- A record takes none of the bytes after it.
@@ -140,9 +139,7 @@ records-none s xs b h = rw (add-one (length xs), sym (between-same s [] [] xs b)
 
 -- A reader that finds a record has the bytes after it left. One that finds none has no record left.
 pub reader-step : (a b : Reader (Bor (List ℕ))) (left : List ℕ) (found : Bool) (fields : List (List ℕ)) → HasLeft a left → took_first b ≡ true
-    → ReadRecord (λ s. Some s.now) a b found fields → MatchBool found
-    ((rest : List ℕ) × HasLeft b rest × (length rest < length left) × (records_in left ≡ fields ∷ records_in rest))
-    (records_in left ≡ [])
+    → ReadRecord (λ s. Some s.now) a b found fields → ReadsNext left b fields found
 unfolding Reached
 reader-step a b left true fields h first r =
     let more = rows-more (λ (s : Bor (List ℕ)). Some s.now) a b fields default_config a.state left left [] h.config h.source (refl, refl) r in

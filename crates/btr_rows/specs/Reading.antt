@@ -1,5 +1,6 @@
 -- A reader of CSV between two records, and the bytes that end a field.
-use Rattle.std.specs.Prelude.{ℕ, Bool, ◌==◌, ◌||◌, not, ◌≡◌, ◌⊎◌, List, Some}
+use Rattle.std.specs.Prelude.{ℕ, ◌<◌, Bool, ◌==◌, ◌||◌, not, ◌≡◌, ◌⊎◌, List, [], ◌∷◌, length, Some}
+use Rattle.std.specs.Bool.{MatchBool}
 use Rattle.std.specs.List.{prefix_len}
 use Rattle.std.specs.Borrow.{Bor}
 use Rattle.csv.specs.Reading.{Ready, default_config, reader_config, reader_state, reader_trim, records, source_of}
@@ -24,6 +25,13 @@ pub record HasLeft (reader : Reader (Bor (List ℕ))) (left : List ℕ) : Type 0
   pub config : reader_config reader ≡ default_config
   pub state : IsBetween (reader_state reader)
   pub source : source_of (λ s. Some s.now) reader ≡ Some left
+
+-- A record with these fields was read from a reader that had `left` left, if one was found: it is the first of `left`, and the reader
+-- has those after it left, in fewer bytes. If none was found, `left` has none.
+abbrev pub ReadsNext : List ℕ → Reader (Bor (List ℕ)) → List (List ℕ) → Bool → Type 0
+ReadsNext left reader fields found = MatchBool found
+    ((rest : List ℕ) × HasLeft reader rest × (length rest < length left) × (records_in left ≡ fields ∷ records_in rest))
+    (records_in left ≡ [])
 
 -- The byte ends a line, or a field without quotes.
 abbrev pub ends_line : ℕ → Bool

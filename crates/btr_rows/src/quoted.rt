@@ -1,12 +1,11 @@
-ghost use Rattle.std.specs.Prelude.{◌≡◌, ◌+◌, ◌<◌, ◌^◌, List, ℕ, [], ◌∷◌, ◌++◌, length, map, Result, OnOk, IfOk};
-ghost use Rattle.std.specs.Bool.{MatchBool};
+ghost use Rattle.std.specs.Prelude.{◌≡◌, ◌+◌, ◌<◌, ◌^◌, List, ℕ, ◌++◌, length, map, Result, OnOk, IfOk};
 ghost use Rattle.csv.specs.Records.{fields_of};
 ghost use Rattle.btr_rows.specs.declared.row.Row.{Row as ARow};
 ghost use Rattle.btr_rows.specs.declared.row.RowReason.{RowReason as AReason};
 ghost use Rattle.btr_rows.specs.Row.{row_of};
 ghost use Rattle.btr_rows.specs.Rows.{records_of};
 ghost use Rattle.btr_rows.specs.Builder.{built_of};
-ghost use Rattle.btr_rows.specs.Reading.{HasLeft, records_in};
+ghost use Rattle.btr_rows.specs.Reading.{HasLeft, ReadsNext};
 
 use crate::builder::Builder;
 use crate::record::read_record;
@@ -32,10 +31,7 @@ pub fn read_records(alloc: Global, text: &[u8], rows: &mut Builder) -> Result<()
 
 /// Reads the next record, and returns whether there is one. An `Err` means out of memory.
 fn next_fields(reader: &mut Reader<&[u8]>, fields: &mut ByteRecord) -> Result<bool, AllocError>
-    ensures { (left : List ℕ) → HasLeft reader.old left → IfOk result (λ found. MatchBool found
-        ((rest : List ℕ) × HasLeft reader.new rest × (length rest < length left)
-        × (records_in left ≡ fields_of fields.new ∷ records_in rest))
-        (records_in left ≡ [])) }
+    ensures { (left : List ℕ) → HasLeft reader.old left → IfOk result (ReadsNext left reader.new (fields_of fields.new)) }
 {
     let Ok(found) = reader.read_byte_record(fields) else {
         return Err(AllocError);
