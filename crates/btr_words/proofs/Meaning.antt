@@ -14,7 +14,7 @@ use Rattle.clap.proofs.FaultLemmas.{stopped_fault}
 use Rattle.btr_words.specs.declared.command.Command.{Command}
 use Rattle.btr_words.specs.declared.command.Command.TheVariants.{Format, Load, Ask, Distil, Live, Checkpoint, Check}
 use Rattle.btr_words.specs.Words.{Argument, Found, argument_named, batch_argument, batch_of, blocks_argument, command_of, format_of, between, live_arguments, materialize_of, number_for}
-use Rattle.btr_words.specs.Words.{numbers_in_order, option_numbers, sample_arguments, sample_of, sample_within, without_marker, workers_argument, workers_of}
+use Rattle.btr_words.specs.Words.{numbers_in_order, option_numbers, sample_arguments, sample_of, sampled, without_marker, workers_argument, workers_of}
 use Rattle.btr_words.specs.Program.{batch_in, command_of_rows, number_in, program_app, workers_in}
 use Rattle.btr_words.proofs.WordCases.{word_cases}
 use Rattle.btr_words.proofs.Turns.{Gives, IsFault, at, fault_from, is_fault, rows_from}
@@ -124,9 +124,6 @@ live_gives words = with_options (codes "live") live_arguments (λ found. Live (b
 
 abbrev sample_meaning : List Text → Option Command
 sample_meaning words = option_and_then sample_of (numbers_in_order sample_arguments (without_marker words))
-
-abbrev sampled : Option ℕ → Option ℕ → Option ℕ → Option Command
-sampled x y z = option_and_then (λ i. option_and_then (λ j. option_and_then (sample_within i j) z) y) x
 
 sample_same : (rows : List Row) (found : Found) → Reads sample_arguments rows found
     → of_sub (codes "sample") (fold with_default rows sample_leaf.rules) ≡ sample_of found

@@ -9,7 +9,7 @@ use Rattle.clap.specs.declared.builder.action.ArgAction.TheVariants as action
 use Rattle.clap.specs.declared.builder.value_parser.ValueParser.TheVariants as vp
 use Rattle.btr_words.specs.declared.command.Command.{Command}
 use Rattle.btr_words.specs.declared.command.Command.TheVariants.{Format, Load, Ask, Distil, Live, Checkpoint, Check}
-use Rattle.btr_words.specs.Words.{Text, number_of, sample_within}
+use Rattle.btr_words.specs.Words.{Text, number_of, sampled}
 
 -- An option of this name that takes a number.
 abbrev pub option_in : Text → ℕ → ℕ → Rule
@@ -103,9 +103,8 @@ live_in rows = Live (batch_in rows) (flag_in (codes "materialize") rows)
 
 abbrev pub sample_in : List Row → Option Command
 sample_in rows =
-    option_and_then (λ number. option_and_then (λ streams. option_and_then (sample_within number streams)
-    (number_in (codes "points") rows 4294967295)) (number_in (codes "streams") rows 4294967295))
-    (number_in (codes "number") rows 4294967295)
+    sampled (number_in (codes "number") rows 4294967295) (number_in (codes "streams") rows 4294967295)
+    (number_in (codes "points") rows 4294967295)
 
 -- The command of this name with these rows of its arguments.
 abbrev pub command_with_rows : Text → List Row → Option Command

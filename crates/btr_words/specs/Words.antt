@@ -149,11 +149,17 @@ sample_within number streams points = if nat_le (streams * points) 1000000 then 
 abbrev pub format_of : Found → Option Command
 format_of found = option_map (λ n. Format n) (number_for (codes "blocks") found)
 
+-- `load` with these two numbers, both of which must be there.
+abbrev pub loaded : Option ℕ → Option ℕ → Option Command
+loaded workers batch = option_and_then (λ k. option_map (λ b. Load k b) batch) workers
+
+-- `sample` with these three numbers, all of which must be there.
+abbrev pub sampled : Option ℕ → Option ℕ → Option ℕ → Option Command
+sampled number streams points = option_and_then (λ n. option_and_then (λ s. option_and_then (sample_within n s) points) streams) number
+
 -- `sample NUMBER STREAMS POINTS`, where all three must be there.
 abbrev pub sample_of : Found → Option Command
-sample_of found =
-    option_and_then (λ number. option_and_then (λ streams. option_and_then (sample_within number streams)
-    (number_for (codes "points") found)) (number_for (codes "streams") found)) (number_for (codes "number") found)
+sample_of found = sampled (number_for (codes "number") found) (number_for (codes "streams") found) (number_for (codes "points") found)
 
 -- The command of this name with these words after it.
 abbrev pub command_with : Text → List Text → Option Command

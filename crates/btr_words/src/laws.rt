@@ -1,19 +1,15 @@
 //! What the definitions entail. Each law is a function with an empty body, and its contract is the law.
 ghost use Rattle.std.specs.Prelude.{◌≡◌, List, [], ◌∷◌, ◌++◌, codes, Some, None, true, false};
-ghost use Rattle.std.specs.Option.{option_map, option_and_then};
+ghost use Rattle.std.specs.Option.{option_map};
 ghost use Rattle.btr_words.specs.declared.command.Command.TheVariants.{Ask, Check, Checkpoint, Distil, Format, Live, Load};
-ghost use Rattle.btr_words.specs.Words.{Text, command_of, number_of, sample_within};
+ghost use Rattle.btr_words.specs.Words.{Text, command_of, number_of, loaded, sampled};
 
-/// The words of each command, each option written as two words.
+/// The words of each command that has no flag and reads no rows, each option written as two words.
 pub fn commands_are_these()
     ensures none { command_of [] ≡ None }
     ensures ask { command_of (codes "ask" ∷ []) ≡ Some Ask }
     ensures checkpoint { command_of (codes "checkpoint" ∷ []) ≡ Some Checkpoint }
     ensures check { command_of (codes "check" ∷ []) ≡ Some Check }
-    ensures live { command_of (codes "live" ∷ []) ≡ Some (Live 4096 false) }
-    ensures batch { (b : Text) → command_of (codes "live" ∷ codes "--batch" ∷ b ∷ [])
-        ≡ option_map (λ n. Live n false) (number_of 1 65536 b) }
-    ensures materialize { command_of (codes "live" ∷ codes "--materialize" ∷ []) ≡ Some (Live 4096 true) }
     ensures format { (n : Text) → command_of (codes "format" ∷ codes "--blocks" ∷ n ∷ [])
         ≡ option_map (λ k. Format k) (number_of 8 4294967296 n) }
     ensures distil { command_of (codes "distil" ∷ []) ≡ Some (Distil 1) }
@@ -21,8 +17,12 @@ pub fn commands_are_these()
         ≡ option_map (λ n. Distil n) (number_of 1 16 k) }
 {}
 
-/// The words of `live` with its flag: the flag is before or after the option, once, and has no text.
+/// The words of `live`, its option written as two words. Its flag is before or after the option, once, and has no text.
 pub fn commands_with_a_flag_are_these()
+    ensures live { command_of (codes "live" ∷ []) ≡ Some (Live 4096 false) }
+    ensures batch { (b : Text) → command_of (codes "live" ∷ codes "--batch" ∷ b ∷ [])
+        ≡ option_map (λ n. Live n false) (number_of 1 65536 b) }
+    ensures materialize { command_of (codes "live" ∷ codes "--materialize" ∷ []) ≡ Some (Live 4096 true) }
     ensures first { (b : Text) → command_of (codes "live" ∷ codes "--materialize" ∷ codes "--batch" ∷ b ∷ [])
         ≡ option_map (λ n. Live n true) (number_of 1 65536 b) }
     ensures last { (b : Text) → command_of (codes "live" ∷ codes "--batch" ∷ b ∷ codes "--materialize" ∷ [])
@@ -39,11 +39,10 @@ pub fn commands_of_rows_are_these()
     ensures batch { (b : Text) → command_of (codes "load" ∷ codes "--batch" ∷ b ∷ [])
         ≡ option_map (λ n. Load 1 n) (number_of 1 65536 b) }
     ensures both { (k b : Text) → command_of (codes "load" ∷ codes "--workers" ∷ k ∷ codes "--batch" ∷ b ∷ [])
-        ≡ option_and_then (λ n. option_map (λ m. Load n m) (number_of 1 65536 b)) (number_of 1 16 k) }
+        ≡ loaded (number_of 1 16 k) (number_of 1 65536 b) }
     ensures either_order { (k b : Text) → command_of (codes "load" ∷ codes "--batch" ∷ b ∷ codes "--workers" ∷ k ∷ [])
-        ≡ option_and_then (λ m. option_map (λ n. Load n m) (number_of 1 16 k)) (number_of 1 65536 b) }
+        ≡ loaded (number_of 1 16 k) (number_of 1 65536 b) }
     ensures twice { (k n : Text) → command_of (codes "load" ∷ codes "--workers" ∷ k ∷ codes "--workers" ∷ n ∷ []) ≡ None }
     ensures sample { (n s p : Text) → command_of (codes "sample" ∷ n ∷ s ∷ p ∷ [])
-        ≡ option_and_then (λ i. option_and_then (λ j. option_and_then (sample_within i j)
-        (number_of 1 1000000 p)) (number_of 1 1000 s)) (number_of 0 2147483647 n) }
+        ≡ sampled (number_of 0 2147483647 n) (number_of 1 1000 s) (number_of 1 1000000 p) }
 {}
