@@ -3,7 +3,7 @@ use Rattle.std.proofs.Common.{◌≡◌, ℕ, ◌+◌, ◌*◌, ◌%◌, ◌<◌
 use Rattle.std.specs.List.{flat_map, AllByRecursion}
 use Rattle.std.specs.Int.{w64}
 use Rattle.std.specs.Int.RustNames.{FitsSigned}
-use Rattle.std.proofs.lemmas.List.{append-nil, nil_from_length, flat_map_more}
+use Rattle.std.proofs.lemmas.List.{append-nil, flat_map_more}
 use Rattle.std.proofs.lemmas.List.Concat.{flat_map-cons}
 use Rattle.std.proofs.lemmas.Grind.{flat_map-append}
 use Rattle.std.proofs.lemmas.Bool.Decides.{nat_tests}
@@ -114,9 +114,6 @@ pub record Taken {X : Type 0} (item : X → List ℕ) (bytes : List ℕ) (xs : L
   pub parts : flat_map item xs ++ rest ≡ bytes
   pub whole : length rest % 16 ≡ 0
 
-pub Taken-none : {X : Type 0} (item : X → List ℕ) (bytes : List ℕ) → length bytes % 16 ≡ 0 → Taken item bytes [] bytes
-Taken-none item bytes whole = record { parts = refl; whole = whole }
-
 pub Taken-next : {X : Type 0} (item : X → List ℕ) (bytes : List ℕ) (xs : List X) (rest : List ℕ) (x : X) (after : List ℕ) → length (item x) ≡ 16 → rest ≡ item x ++ after → Taken item bytes xs rest → Taken item bytes (xs ++ x ∷ []) after
 Taken-next item bytes xs rest x after len is h =
     let long = ap (length {A = ℕ}) is in
@@ -126,10 +123,6 @@ Taken-next item bytes xs rest x after len is h =
       parts = ap (λ (l : List ℕ). l ++ after) more ∙ append_assoc (flat_map item xs) (item x) after ∙ ap (λ (l : List ℕ). flat_map item xs ++ l) (sym is) ∙ h.parts;
       whole = omega (arith, h.whole, long, len, length-append (item x) after);
     }
-
-pub Taken-all : {X : Type 0} (item : X → List ℕ) (bytes : List ℕ) (xs : List X) (rest : List ℕ) → length rest ≡ 0 → Taken item bytes xs rest → flat_map item xs ≡ bytes
-Taken-all item bytes xs rest none h =
-    sym (append-nil (flat_map item xs)) ∙ ap (λ (l : List ℕ). flat_map item xs ++ l) (sym (nil_from_length rest none)) ∙ h.parts
 
 -- If bytes are left, an item is left, and its second number after its first.
 pub some_left : (n : ℕ) → false ≡ (n == 0) → n % 16 ≡ 0 → 16 ≤ n

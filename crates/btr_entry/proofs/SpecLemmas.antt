@@ -90,14 +90,6 @@ kernel_once k l x y k_fits l_fits same =
       ]
     ]
 
--- Bytes that begin with another number than 1 to 10 are no kernel's.
-pub no_kernel : (n : ℕ) (after : List ℕ) → (n ≡ 0) ⊎ (11 ≤ n) → (k : Kernel) (rest : List ℕ) → n ∷ after ≡ kernel_bytes k ++ rest → ⊥
-no_kernel n after other k rest same =
-    elim (kind k) [
-      | inl h ↦ omega (arith, other, heads n 1 after (signed h.a ++ (signed h.b ++ (signed h.d ++ rest))) (same ∙ affine_bytes k h rest))
-      | inr h ↦ omega (arith, other, h.least, h.greatest, heads n h.code after rest (same ∙ plain_bytes k h rest))
-    ]
-
 -- The number 1 and fewer bytes than three numbers take are no kernel's.
 pub short_affine : (after : List ℕ) → length after < 24 → (k : Kernel) (rest : List ℕ) → 1 ∷ after ≡ kernel_bytes k ++ rest → ⊥
 short_affine after short k rest same =
@@ -181,11 +173,6 @@ pub short_second : (w : Width) (limit : ℕ) → IsWide w limit → (bytes : Lis
 short_second w limit wide bytes count after n last is two first short a b rest same =
     let parts = after_count w a b rest count after (sym is ∙ same) in
     omega (arith, short, ap (length {A = ℕ}) first, ap (length {A = ℕ}) parts.1, length-append (number w n) last, length-append (number w a) (second_of w b ++ rest), length-append (second_of w b) rest, wide.len n, wide.len a, length-second w limit wide b (sym two ∙ parts.0))
-
--- Bytes that begin with another number than 1 and 2 are not those of one number or two.
-pub no_count : (w : Width) (bytes : List ℕ) (count : ℕ) (after : List ℕ) → bytes ≡ count ∷ after → (count ≡ 0) ⊎ (3 ≤ count) → (a : ℕ) (b : Option ℕ) (rest : List ℕ) → bytes ≡ one_or_two w a b ++ rest → ⊥
-no_count w bytes count after is other a None rest same = omega (arith, other, (after_count w a None rest count after (sym is ∙ same)).0)
-no_count w bytes count after is other a (Some b) rest same = omega (arith, other, (after_count w a (Some b) rest count after (sym is ∙ same)).0)
 
 -- ---- specs
 
