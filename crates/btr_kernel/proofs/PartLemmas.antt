@@ -4,12 +4,9 @@ use Rattle.std.proofs.Common.{zero, suc, ap, ◌∙◌, arith, get_or, inl, inr,
 use Rattle.std.proofs.lemmas.Bool.{cases_lt}
 use Rattle.std.proofs.lemmas.List.{take_more, drop_more, get_or-drop, drop-drop, get_or_append_left, get_or_push, length_push}
 use Rattle.btr_base.specs.declared.point.Point.{Point}
-use Rattle.btr_base.specs.Agg.{AggValue, agg, joined, one_point, no_points}
+use Rattle.btr_base.specs.Agg.{AggValue, agg, joined, one_point}
 use Rattle.btr_base.proofs.AggLemmas.{agg-append, agg-one, agg-count}
 use Rattle.btr_kernel.specs.Parts.{AreLasts}
-
-pub part-none : {X : Type 0} (b : List X) (i : ℕ) → slice_range b i i ≡ []
-part-none b i = let e : i - i ≡ 0 = omega arith in ap (λ n. take n (drop i b)) e
 
 -- One more at the end.
 pub part-more : {X : Type 0} (b : List X) (i j : ℕ) (d : X) → i ≤ j → j < length b → slice_range b i (j + 1) ≡ slice_range b i j ++ get_or b j d ∷ []
@@ -62,9 +59,6 @@ agg-part_less b i j d h k = ap agg (part-less b i j d h k)
 pub agg-part_split : (b : List Point) (i m j : ℕ) → i ≤ m → m ≤ j → j ≤ length b → agg (slice_range b i j) ≡ joined (agg (slice_range b i m)) (agg (slice_range b m j))
 agg-part_split b i m j h k l =
     ap agg (part-split b i m j h k l) ∙ agg-append (slice_range b i m) (slice_range b m j)
-
-pub agg-part_none : (b : List Point) (i : ℕ) → agg (slice_range b i i) ≡ no_points
-agg-part_none b i = ap agg (part-none b i)
 
 -- ---- the aggregates of the last points before an index
 
