@@ -1,19 +1,16 @@
 -- The pass that has got its turn.
-use Rattle.std.proofs.Common.{◌≡◌, ℕ, Bool, List, Option, Some, refl, sym, ap, ◌∙◌, subst}
+use Rattle.std.proofs.Common.{◌≡◌, ℕ, List, Option, Some, sym, ap, subst}
 use Rattle.btr_gate.specs.declared.chronicle.Chronicle.{Ghosts}
 use Rattle.btr_gate.specs.declared.view.View.{View}
 use Rattle.btr_gate.specs.declared.view.Stage.{Stage}
-use Rattle.btr_gate.specs.declared.view.Stage.TheVariants.{Waiting, InTurn}
+use Rattle.btr_gate.specs.declared.view.Stage.TheVariants.{Waiting}
 use Rattle.btr_gate.specs.declared.turn.Turn.{Turn}
-use Rattle.btr_gate.specs.Views.{at_stage, next_turn}
-use Rattle.btr_gate.specs.Turns.{Enters, Takes}
+use Rattle.btr_gate.specs.Views.{at_stage}
+use Rattle.btr_gate.specs.Turns.{Takes}
 use Rattle.btr_gate.specs.Steps.{Seated, Served, holding}
 use Rattle.btr_gate.proofs.KeepsTurns.{same_turn}
 
 module _ {T E X : Type 0} (C : Ghosts T E X) where
-  enters_turn : (v : View E X) (t : ℕ) (list : List E) (lent : Bool) → Enters v (next_turn v (InTurn t list lent))
-  enters_turn v t list lent = record { turn = refl; turns = refl; seen = refl; mine = refl; share = refl; setting = refl; start = refl; carries = refl }
-
   -- What a turn gets does not depend on the stage before.
   takes_before : (v w : View E X) (stage : Stage E) (turn : Turn T E) → Takes C (at_stage v stage) w turn → Takes C v w turn
   takes_before v w stage turn t = record {
@@ -30,10 +27,6 @@ module _ {T E X : Type 0} (C : Ghosts T E X) where
 
   pub slot_full : (m n : Seated T E X) → Served C m n → (turn : Turn T E) × (n.1 ≡ holding (Some turn))
   slot_full m n s = (s.3, ap (λ (x : Seated T E X). x.1) s.4)
-
-  pub entered : (v : View E X) (ticket : ℕ) (out : List (ℕ × Option (Turn T E))) (m n : Seated T E X) (w : View E X) → m ≡ (at_stage v (Waiting ticket), out) → Served C m n → w ≡ n.0 → Enters v w
-  entered v ticket out m n w drawn s left =
-      subst (λ z. Enters v z) (sym (left ∙ (ap (λ (x : Seated T E X). x.0) s.4 ∙ ap (λ (x : Seated T E X). next_turn x.0 (InTurn s.0 s.1 s.2)) drawn))) (enters_turn v s.0 s.1 s.2)
 
   pub taken : (v : View E X) (ticket : ℕ) (out : List (ℕ × Option (Turn T E))) (m n : Seated T E X) (w : View E X) (turn : Turn T E) → m ≡ (at_stage v (Waiting ticket), out) → Served C m n → w ≡ n.0 → n.1 ≡ holding (Some turn) → Takes C v w turn
   taken v ticket out m n w turn drawn s left has =

@@ -9,10 +9,3 @@ module _ {S : Type 0} where
   -- What is out after a write to the slot.
   pub written : (out : List (ℕ × S)) (x y : S) → out ≡ (0, x) ∷ [] → (0, y) ∷ rest out ≡ (0, y) ∷ []
   written out x y e = ap (λ l. (0, y) ∷ rest l) e
-
-  abbrev value_of : S → List (ℕ × S) → S
-  value_of d [] = d
-  value_of d (h ∷ hs) = h.1
-
-  pub same_value : (out : List (ℕ × S)) (x y : S) → out ≡ (0, x) ∷ [] → out ≡ (0, y) ∷ rest out → x ≡ y
-  same_value out x y e f = ap (value_of x) (sym e ∙ f)

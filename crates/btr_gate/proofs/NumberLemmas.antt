@@ -64,15 +64,6 @@ times_below low high n (m ∷ ms) c below =
     let later = times_below m high n ms c.2 (omega arith) in
     omega arith
 
--- A rising list has no number twice.
-pub times_once : (low high n : ℕ) (ms : List ℕ) → Climbs low ms high → times n ms ≤ 1
-times_once low high n [] c = omega arith
-times_once low high n (m ∷ ms) c =
-    elim (cases_eq m n) [
-      | inl e ↦ let here = one_same m n e in let later = times_below m high n ms c.2 (omega arith) in omega arith
-      | inr ne ↦ let here = one_other m n ne in let later = times_once m high n ms c.2 in omega arith
-    ]
-
 pub times_within : (low high n : ℕ) (ms : List ℕ) → Climbs low ms high → 0 < times n ms → (low < n) × (n ≤ high)
 times_within low high n ms c some_of = (
   elim (cases_lt low n) [

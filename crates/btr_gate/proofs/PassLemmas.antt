@@ -1,10 +1,8 @@
 -- For callers of a gate: the paths of shares after a split and a meeting, and states under a setting.
-use Rattle.std.proofs.Common.{◌≡◌, ℕ, ◌+◌, Bool, List, Option, None, Some, ap, ◌∙◌, arith}
-use Rattle.btr_gate.specs.declared.chronicle.Chronicle.{Ghosts}
+use Rattle.std.proofs.Common.{◌≡◌, ℕ, ◌+◌, Bool, ap, ◌∙◌, arith}
 use Rattle.btr_gate.specs.declared.view.View.{View}
 use Rattle.btr_gate.specs.Shares.{on_path}
 use Rattle.btr_gate.specs.Views.{kept_view, other_view, joined}
-use Rattle.btr_gate.specs.Turns.{IsStateOf}
 use Rattle.btr_gate.proofs.ShareLemmas.{on_path_append, on_path_halves}
 
 module _ {E X : Type 0} where
@@ -19,14 +17,3 @@ module _ {E X : Type 0} where
       let b = ap (λ (x : View E X). on_path path x.share) f in
       let s = on_path_halves path v.share in
       omega arith
-
-module _ {T E X : Type 0} (C : Ghosts T E X) where
-  -- A state has a setting.
-  pub state_setting : (t : T) (l : List E) (setting : Option X) → IsStateOf C t l setting → (x : X) × (setting ≡ Some x) × C.is_state_of t l x
-  state_setting t l (Some x) h = (x, (λ i. Some x), h)
-  state_setting t l None h = absurd h
-
-  -- What leads from a state to a state under each setting does so under this one.
-  pub state_next : (t u : T) (l m : List E) (setting : Option X) → IsStateOf C t l setting → ((x : X) → C.is_state_of t l x → C.is_state_of u m x) → IsStateOf C u m setting
-  state_next t u l m (Some x) h step = step x h
-  state_next t u l m None h step = absurd h

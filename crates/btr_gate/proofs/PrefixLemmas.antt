@@ -1,15 +1,12 @@
 -- Lemmas on lists that begin with another, and on the longer of two such lists.
-use Rattle.std.proofs.Common.{◌≡◌, ◌<◌, ◌≤◌, max, Bool, if◌then◌else◌, ◌⊎◌, List, [], ◌∷◌, ◌++◌, map, length, inl, inr, refl, sym, ap, ◌∙◌, subst, arith, append_assoc, append-nil, length-append}
+use Rattle.std.proofs.Common.{◌≡◌, ◌<◌, ◌≤◌, Bool, if◌then◌else◌, ◌⊎◌, List, [], ◌∷◌, ◌++◌, length, inl, inr, refl, sym, ap, ◌∙◌, subst, arith, append_assoc, append-nil, length-append}
 use Rattle.std.proofs.lemmas.Bool.{cases_lt, lt-ltb, le-ltb}
-use mathlib.Core.List.{map-append, head-eq_of_cons-eq, tail-eq_of_cons-eq}
+use mathlib.Core.List.{head-eq_of_cons-eq, tail-eq_of_cons-eq}
 use Rattle.btr_gate.specs.Prefixes.{StartsWith, longer}
 
 module _ {A : Type 0} where
   pub starts_refl : (l : List A) → StartsWith l l
   starts_refl l = ([], sym (append-nil l))
-
-  pub starts_nil : (l : List A) → StartsWith l []
-  starts_nil l = (l, refl)
 
   pub starts_append : (l more : List A) → StartsWith (l ++ more) l
   starts_append l more = (more, refl)
@@ -80,13 +77,3 @@ module _ {A : Type 0} where
   longer_whole h a b p q (inr e) =
       longer_cases a b (λ x. x ≡ h)
       (λ le. let n = ap (λ (x : List A). length x) e in sym (starts_whole h a p (omega arith))) (λ lt. e)
-
-  pub longer_length : (a b : List A) → length (longer a b) ≡ max (length a) (length b)
-  longer_length a b =
-      longer_cases a b (λ x. length x ≡ max (length a) (length b)) (λ le. omega arith) (λ lt. omega arith)
-
-  pub longer_same : (a : List A) → longer a a ≡ a
-  longer_same a = longer_cases a a (λ x. x ≡ a) (λ le. refl) (λ lt. refl)
-
-pub starts_map : {A B : Type 0} (f : A → B) (l a : List A) → StartsWith l a → StartsWith (map f l) (map f a)
-starts_map f l a p = (map f p.0, ap (λ x. map f x) p.1 ∙ map-append f a p.0)

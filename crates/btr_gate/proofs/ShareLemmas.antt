@@ -1,5 +1,5 @@
 -- Lemmas on shares: how often they meet a path, when they cover, and which of them cover alike.
-use Rattle.std.proofs.Common.{◌≡◌, ◌≢◌, ℕ, suc, ◌+◌, ◌<◌, ◌≤◌, Bool, true, List, [], ◌∷◌, ◌++◌, length, inl, inr, refl, sym, ap, ◌∙◌, le_refl, arith}
+use Rattle.std.proofs.Common.{◌≡◌, ◌≢◌, ℕ, suc, ◌+◌, ◌≤◌, Bool, true, List, [], ◌∷◌, ◌++◌, length, inl, inr, refl, sym, ap, ◌∙◌, le_refl, arith}
 use Rattle.std.proofs.lemmas.Bool.{cases_Bool, false_from_ne_true, true≢false}
 use mathlib.Core.Option.{some}
 use lib.ListN.{get_elem?}
@@ -22,12 +22,6 @@ on_path_halves path (word ∷ words) =
 pub length_halves : (d : Bool) (words : List (List Bool)) → length (with_digit d words) ≡ length words
 length_halves d [] = refl
 length_halves d (word ∷ words) = ap suc (length_halves d words)
-
--- A share that has a word meets some path.
-pub word_meets : (words : List (List Bool)) → 0 < length words → (path : ℕ → Bool) × (0 < on_path path words)
-word_meets [] h = absurd (omega arith)
-word_meets (word ∷ words) h =
-    (path_of word, let here = ap one (path_of_begins word) in omega arith)
 
 -- A share that meets no path has no word.
 pub unmet_empty : (words : List (List Bool)) → ((path : ℕ → Bool) → on_path path words ≡ 0) → words ≡ []
@@ -61,14 +55,6 @@ cover_alike a b rest e =
     cover_same (a ++ rest) (b ++ rest) (λ path.
     let p = on_path_append path a rest in
     let q = on_path_append path b rest in
-    let s = e path in
-    omega arith)
-
-pub cover_alike_after : (rest a b : List (List Bool)) → ((path : ℕ → Bool) → on_path path a ≡ on_path path b) → covers (rest ++ a) ≡ covers (rest ++ b)
-cover_alike_after rest a b e =
-    cover_same (rest ++ a) (rest ++ b) (λ path.
-    let p = on_path_append path rest a in
-    let q = on_path_append path rest b in
     let s = e path in
     omega arith)
 

@@ -1,13 +1,10 @@
 -- Sums over a list, when an item of it changes or one is added.
-use Rattle.std.proofs.Common.{◌≡◌, ◌≢◌, ℕ, zero, suc, ◌+◌, ◌<◌, ◌≤◌, List, [], ◌∷◌, ◌++◌, map, set, inl, inr, refl, sym, ap, arith, eq-zero-or-pos}
+use Rattle.std.proofs.Common.{◌≡◌, ◌≢◌, ℕ, zero, suc, ◌+◌, ◌≤◌, List, [], ◌∷◌, ◌++◌, set, refl, sym, ap, arith}
 use mathlib.Core.Option.{some, some-injective, some-ne-none}
 use lib.ListN.{get_elem?}
 use Rattle.btr_gate.specs.Numbers.{total}
 
 module _ {V : Type 0} (f : V → ℕ) where
-  pub total_one : (v : V) → total f (v ∷ []) ≡ f v
-  total_one v = omega arith
-
   pub total_append : (xs ys : List V) → total f (xs ++ ys) ≡ total f xs + total f ys
   total_append [] ys = omega arith
   total_append (x ∷ xs) ys = let e = total_append xs ys in omega arith
@@ -90,27 +87,3 @@ module _ {V : Type 0} (f : V → ℕ) where
       let e = others zero x (λ h. omega arith) refl in
       let t = total_only xs i v at (λ j u ne a. others (suc j) u (λ h. ne (omega arith)) a) in
       omega arith
-
-  -- A sum that is not 0 has an item that is not 0.
-  pub total_where : (xs : List V) → 0 < total f xs → (j : ℕ) × (u : V) × (get_elem? xs j ≡ some u) × (0 < f u)
-  total_where [] some_of = absurd (omega arith)
-  total_where (x ∷ xs) some_of =
-      elim (eq-zero-or-pos (f x)) [
-        | inl none ↦ let t = total_where xs (omega arith) in (suc t.0, t.1, t.2, t.3)
-        | inr here ↦ (zero, x, refl, here)
-      ]
-
-pub total_alike : {V : Type 0} (f g : V → ℕ) (xs : List V) → ((x : V) → f x ≡ g x) → total f xs ≡ total g xs
-total_alike f g [] e = refl
-total_alike f g (x ∷ xs) e =
-    let here = e x in
-    let t = total_alike f g xs e in
-    omega arith
-
-pub total_sum : {V : Type 0} (f g : V → ℕ) (xs : List V) → total (λ x. f x + g x) xs ≡ total f xs + total g xs
-total_sum f g [] = refl
-total_sum f g (x ∷ xs) = let t = total_sum f g xs in omega arith
-
-pub total_map : {V W : Type 0} (f : W → ℕ) (g : V → W) (xs : List V) → total f (map g xs) ≡ total (λ x. f (g x)) xs
-total_map f g [] = refl
-total_map f g (x ∷ xs) = let t = total_map f g xs in omega arith
