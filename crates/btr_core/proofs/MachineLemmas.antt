@@ -3,7 +3,7 @@ use Rattle.std.specs.Prelude.{◌≡◌, ℕ, ◌==◌, true, false, Bool, List,
 use Rattle.std.specs.Ordering.{nat_cmp, is_eq}
 use Rattle.std.specs.BTreeMap.{BTreeMap, get, is_at, Updates}
 use Rattle.std.specs.Map.{lookup}
-use Rattle.std.proofs.Common.{refl, sym, ap, ◌∙◌, arith, subst}
+use Rattle.std.proofs.Common.{refl, sym, ap, arith, subst}
 use Rattle.std.proofs.lemmas.Bool.{eqb-true}
 use Rattle.std.proofs.lemmas.Bool.Decides.{nat_tests}
 use Rattle.btr_base.specs.declared.point.Point.{Point}
@@ -18,16 +18,15 @@ use Rattle.btr_hist.specs.Machine.{Landing, offered, committed, after_landing, p
 use Rattle.btr_hist.specs.Machine as model
 use Rattle.btr_hist.specs.Machine.{Event as events}
 use Rattle.btr_hist.proofs.HistoryLemmas.{legal-push, legal-follows, allowed-of_offered}
-use Rattle.btr_hist.proofs.LandingLemmas.{IsFront, StandsFor, Stands, front-itself, front-trans, legal-front, committed-front, landing-legal, landing-front}
+use Rattle.btr_hist.proofs.LandingLemmas.{IsFront, StandsFor, Stands, front-trans, legal-front, committed-front, landing-legal, landing-front}
 use Rattle.btr_streams.specs.declared.snapshot.Snapshot.{Snapshot}
 use Rattle.btr_streams.specs.Board.{IsBoardOf}
-use Rattle.btr_streams.specs.Snapshot.{IsSnapshotOf}
 use Rattle.btr_distil.specs.Plan.{PlanValue}
 use Rattle.btr_plan.specs.Plan.{IsPlanOf, landing_of}
 use Rattle.btr_plan.specs.Next.{IsNextPlan}
 use Rattle.btr_plan.proofs.PlanLemmas.{plan-front, plan-stands}
 use Rattle.btr_core.specs.declared.machine.Machine.{Machine}
-use Rattle.btr_core.specs.Machine.{IsAdmitted, IsPlan, IsMachineOf, IsAsBefore}
+use Rattle.btr_core.specs.Machine.{IsAdmitted, IsPlan, IsMachineOf}
 
 -- ---- one actor's value
 
@@ -82,11 +81,6 @@ grown m h s t is front legal board admitted plans =
           (plan-longer m.history h (m.plan actor) (get nat_cmp s.plans actor) front follows (is.plans actor));
     }
 
--- A machine that is as before is of the same machine of the model.
-pub as-before : (m : model.Machine) (s t : Machine) → IsMachineOf m s → IsAsBefore s t → IsMachineOf m t
-as-before m s t is same =
-    grown m m.history s t is (front-itself m.history) is.legal (subst (IsBoardOf m.history) (sym same.board) is.board) same.admitted same.plans
-
 -- ---- a commit
 
 -- Of an entry that is no distillate nothing but its rejection is tested.
@@ -109,18 +103,6 @@ after-commit m actor e s t is board admitted plans =
     let next = committed h e (offered h e) in
     grown m next s t is (committed-front h e (offered h e)) (committed-legal h e is.legal) board admitted plans
 
--- ---- an admission
-
-pub after-admission : (m : model.Machine) (actor : ℕ) (x : Snapshot) (s t : Machine) → IsMachineOf m s → IsSnapshotOf m.history x → t.board ≡ s.board → Updates nat_cmp s.admitted t.admitted actor (Some x) → t.plans.entries ≡ s.plans.entries → IsMachineOf (model.next m actor events.Admit) t
-after-admission m actor x s t is of board admitted plans =
-    let h = m.history in
-    record {
-      board = subst (IsBoardOf h) (sym board) is.board;
-      legal = is.legal;
-      admitted = each-actor (IsAdmitted h) m.admitted s.admitted t.admitted actor h (Some x) admitted is.admitted (front-itself h, of);
-      plans = λ other. subst (λ es. IsPlan h (m.plan other) (lookup (is_at (nat_cmp other)) es)) (sym plans) (is.plans other);
-    }
-
 -- ---- a plan
 
 pub after-plan : (m : model.Machine) (actor stream : ℕ) (p : PlanValue) (s t : Machine) → IsMachineOf m s → IsNextPlan (m.admitted actor) stream p → t.board ≡ s.board → t.admitted.entries ≡ s.admitted.entries → Updates nat_cmp s.plans t.plans actor (Some p) → IsMachineOf (model.next m actor (events.Plan stream)) t
@@ -139,23 +121,6 @@ after-plan m actor stream p s t is next board admitted plans =
       plans = each-actor (IsPlan h) m.plan s.plans t.plans actor (next_plan (m.plan actor) (plan_of g stream (spec_of g stream))) (Some p) plans is.plans planned;
     }
 
--- If there is nothing to plan the machine stays of the model.
-pub after-no-plan : (m : model.Machine) (actor stream : ℕ) (s t : Machine) → IsMachineOf m s → plan_of (m.admitted actor) stream (spec_of (m.admitted actor) stream) ≡ None → IsAsBefore s t → IsMachineOf (model.next m actor (events.Plan stream)) t
-after-no-plan m actor stream s t is planned same =
-    let h = m.history in
-    let g = m.admitted actor in
-    let kept = as-before m s t is same in
-    record {
-      board = kept.board;
-      legal = kept.legal;
-      admitted = kept.admitted;
-      plans = λ other. elim (other == actor) as (λ (b : Bool). (other == actor) ≡ b → IsPlan h (cond b (next_plan (m.plan actor) (plan_of g stream (spec_of g stream))) (m.plan other)) (get nat_cmp t.plans other)) [
-        | true ↦ λ here. subst (λ (o : Option Landing). IsPlan h (next_plan (m.plan actor) o) (get nat_cmp t.plans other)) (sym planned)
-            (subst (λ (j : ℕ). IsPlan h (m.plan j) (get nat_cmp t.plans other)) (eqb-true other actor here) (kept.plans other))
-        | false ↦ λ _. kept.plans other
-      ] refl;
-    }
-
 -- ---- a landing
 
 pub after-land : (m : model.Machine) (actor : ℕ) (s t : Machine) → IsMachineOf m s → IsBoardOf (after_landing m.history (m.plan actor)) t.board → t.admitted.entries ≡ s.admitted.entries → Updates nat_cmp s.plans t.plans actor None → IsMachineOf (model.next m actor events.Land) t
@@ -172,25 +137,6 @@ after-land m actor s t is board admitted plans =
           (admitted-longer h next (m.admitted other) (get nat_cmp s.admitted other) front (is.admitted other));
       plans = each-actor (IsPlan next) m.plan s.plans t.plans actor None None plans
           (λ other. plan-longer h next (m.plan other) (get nat_cmp s.plans other) front follows (is.plans other)) tt;
-    }
-
--- An actor without a plan lands nothing.
-pub after-no-land : (m : model.Machine) (actor : ℕ) (s t : Machine) → IsMachineOf m s → m.plan actor ≡ None → IsAsBefore s t → IsMachineOf (model.next m actor events.Land) t
-after-no-land m actor s t is none same =
-    let h = m.history in
-    let kept = as-before m s t is same in
-    let stays : after_landing h (m.plan actor) ≡ h = ap (λ (o : Option Landing). after_landing h o) none in
-    let moved : IsMachineOf (record { history = after_landing h (m.plan actor); admitted = m.admitted; plan = m.plan }) t =
-    subst (λ (l : List Entry). IsMachineOf (record { history = l; admitted = m.admitted; plan = m.plan }) t) (sym stays) kept in
-    record {
-      board = moved.board;
-      legal = moved.legal;
-      admitted = moved.admitted;
-      plans = λ other. elim (other == actor) as (λ (b : Bool). (other == actor) ≡ b → IsPlan (after_landing h (m.plan actor)) (cond b None (m.plan other)) (get nat_cmp t.plans other)) [
-        | true ↦ λ here. subst (λ (o : Option Landing). IsPlan (after_landing h (m.plan actor)) o (get nat_cmp t.plans other))
-            (ap (λ (j : ℕ). m.plan j) (eqb-true other actor here) ∙ none) (moved.plans other)
-        | false ↦ λ _. moved.plans other
-      ] refl;
     }
 
 -- ---- any event
