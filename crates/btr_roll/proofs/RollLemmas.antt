@@ -5,7 +5,7 @@ use Rattle.std.specs.Int.{w32, w64, w128}
 use Rattle.std.specs.List.{flat_map, AllByRecursion}
 use Rattle.std.proofs.lemmas.List.{append-nil}
 use Rattle.std.proofs.lemmas.List.Concat.{flat_map-cons}
-use Rattle.btr_base.specs.declared.limits.TheConstants.{MAX_STREAMS, MAX_VERSIONS}
+use Rattle.btr_base.specs.declared.limits.TheConstants.{MAX_VERSIONS}
 use Rattle.btr_hist.specs.declared.kernel.Spec.{Spec}
 use Rattle.btr_roll.specs.declared.roll.RollVersion.{RollVersion}
 use Rattle.btr_entry.specs.Grammar.{number, listed, spec_bytes, IsSpec}
@@ -111,20 +111,6 @@ version_long v =
 
 -- ---- the start of a stream
 
--- The first byte of the kind.
-abbrev kind_of : Option Spec → ℕ
-kind_of None = 0
-kind_of (Some s) = 1
-
--- What follows the first byte of the kind.
-abbrev spec_of_kind : Option Spec → List ℕ
-spec_of_kind None = []
-spec_of_kind (Some s) = spec_bytes s
-
-kind_parts : (o : Option Spec) (rest : List ℕ) → kind_bytes o ++ rest ≡ kind_of o ∷ (spec_of_kind o ++ rest)
-kind_parts None rest = refl
-kind_parts (Some s) rest = refl
-
 pub kind_once : IsOnce kind_bytes (λ o. IfSome o IsSpec)
 kind_once None None r s h k same = (refl, tails 0 0 r s same)
 kind_once None (Some t) r s h k same = absurd (omega (arith, heads 0 1 r (spec_bytes t ++ s) same))
@@ -132,16 +118,6 @@ kind_once (Some t) None r s h k same = absurd (omega (arith, heads 1 0 (spec_byt
 kind_once (Some t) (Some u) r s h k same =
     let once = spec_once t u r s h k (tails 1 1 (spec_bytes t ++ r) (spec_bytes u ++ s) same) in
     (ap Some once.0, once.1)
-
--- The first byte is 0 or 1.
-pub kind_byte : (n : ℕ) (after : List ℕ) (o : Option Spec) (rest : List ℕ) → n ∷ after ≡ kind_bytes o ++ rest → n ≤ 1
-kind_byte n after None rest same = omega (arith, heads n 0 after rest same)
-kind_byte n after (Some s) rest same = omega (arith, heads n 1 after (spec_bytes s ++ rest) same)
-
--- If the bytes after 1 are no spec's, the bytes are no kind's.
-pub no_spec : (after : List ℕ) → ((s : Spec) (rest : List ℕ) → IsSpec s → after ≡ spec_bytes s ++ rest → ⊥) → (o : Option Spec) (rest : List ℕ) → IfSome o IsSpec → 1 ∷ after ≡ kind_bytes o ++ rest → ⊥
-no_spec after none None rest h same = omega (arith, heads 1 0 after rest same)
-no_spec after none (Some s) rest h same = none s rest h (tails 1 1 after (spec_bytes s ++ rest) same)
 
 -- The bytes of a stream after its id, after its entry, and after its kind.
 abbrev pub after_stream_kind : ℕ → List ℕ → List ℕ
@@ -217,20 +193,6 @@ versions_from_stream bytes id entry spec count after s rest start h same =
       parts = starts.rests;
     }
 
--- A stream from its start and its versions.
-pub stream_from_parts : (bytes : List ℕ) (s : RollStreamValue) (count : ℕ) (after rest : List ℕ) → IsStreamStart bytes s.id s.entry s.spec count after → AreItems version_bytes (VersionFits (is_some s.spec)) count after s.versions rest → StreamFits s × (bytes ≡ stream_bytes s ++ rest)
-stream_from_parts bytes s count after rest start items =
-    let counted : after_stream_kind count after ≡ after_stream_kind (length s.versions) (versions_after s rest) = ap (λ (n : ℕ). number w64 n ++ after) (sym items.long) ∙ ap (λ (l : List ℕ). number w64 (length s.versions) ++ l) items.parts in (
-      record {
-        id_fits = start.id_fits;
-        entry_fits = start.entry_fits;
-        spec_fits = start.spec_fits;
-        few_versions = omega (arith, start.few, items.long);
-        versions_fit = items.each;
-      },
-      start.parts ∙ ap (λ (l : List ℕ). number w128 s.id ++ (number w64 s.entry ++ (kind_bytes s.spec ++ l))) counted ∙ sym (stream_parts s rest),
-    )
-
 pub stream_once : IsOnce stream_bytes StreamFits
 stream_once s t x y h k same =
     let starts = start_once (stream_bytes s ++ x) s.id t.id s.entry t.entry s.spec t.spec (length s.versions) (length t.versions) (versions_after s x) (versions_after t y) (start_from_stream (stream_bytes s ++ x) s x h refl) (start_from_stream (stream_bytes s ++ x) t y k same) in
@@ -253,11 +215,6 @@ pub streams_read : (bytes after : List ℕ) (n : ℕ) (streams : List RollStream
 streams_read bytes after n streams fits is h same =
     let once = number_once w32 (2 ^ 32) wide32 n (length streams) after (flat_map stream_bytes streams) fits (omega (arith, h.few_streams)) (sym is ∙ same) in
     record { each = h.each_fits; long = sym once.0; parts = once.1 ∙ sym (append-nil (flat_map stream_bytes streams)) }
-
--- So many streams with their number before them are a roll.
-pub roll_from_streams : (bytes after : List ℕ) (n : ℕ) (streams : List RollStreamValue) → n ≤ MAX_STREAMS → bytes ≡ number w32 n ++ after → AreItems stream_bytes StreamFits n after streams [] → RollFits streams × (bytes ≡ roll_bytes streams)
-roll_from_streams bytes after n streams few is items =
-    (record { few_streams = omega (arith, few, items.long); each_fits = items.each }, is ∙ ap (λ (l : List ℕ). number w32 n ++ l) (items.parts ∙ append-nil (flat_map stream_bytes streams)) ∙ ap (λ (m : ℕ). number w32 m ++ flat_map stream_bytes streams) (sym items.long))
 
 -- The bytes determine the items and what follows them.
 pub are_items_once : {X : Type 0} (item : X → List ℕ) (Fits : X → Type 0) → IsOnce item Fits → (count : ℕ) (bytes : List ℕ) (xs ys : List X) (r s : List ℕ) → AreItems item Fits count bytes xs r → AreItems item Fits count bytes ys s → (xs ≡ ys) × (r ≡ s)
