@@ -129,10 +129,6 @@ parts-more cut rest low high m parts is_cut so_far h k b order =
     ∙ ap (λ l. flat_map (points_in b) parts ++ l) (sym (points-two rest low high m b is_cut h k order))
     ∙ so_far b order
 
--- The rest is the last part.
-pub parts-last : (cut rest : List RangeValue) (parts : List (List RangeValue)) → AreSoFar cut parts rest → ArePartsOf cut (parts ++ rest ∷ [])
-parts-last cut rest parts so_far b order = points-one b parts rest ∙ so_far b order
-
 -- If each of the bags has the points in its part, together they have those in all parts.
 bags-points : (b : List Point) (parts : List (List RangeValue)) (bags : List (List Point)) → AllZip (λ r l. l ≡ points_in b r) parts bags → flat_map (λ l. l) bags ≡ flat_map (points_in b) parts
 bags-points b [] [] h = refl

@@ -1,11 +1,8 @@
 //! The times at which an output may differ after its inputs have changed.
-ghost use Rattle.std.specs.Prelude.{◌≡◌, ◌≤◌, List, map, IfOk};
-ghost use Rattle.std.specs.Option.{option_map};
+ghost use Rattle.std.specs.Prelude.{◌≡◌, ◌≤◌, List, IfOk};
 ghost use Rattle.btr_base.specs.declared.point.Point.{Point};
-ghost use Rattle.btr_base.specs.Changes.{changes as changes_of};
-ghost use Rattle.btr_base.specs.Cut.{union};
-ghost use Rattle.btr_hist.specs.Distil.{Inputs, widened as widened_range, affected as affected_of};
-ghost use Rattle.btr_distil.specs.Sight.{IsInput, IsSecondInput, IsSightOf};
+ghost use Rattle.btr_hist.specs.Distil.{Inputs, affected as affected_of};
+ghost use Rattle.btr_distil.specs.Sight.{IsInput, SeesSecond, IsSightOf, widened_changes};
 
 use crate::sight::Sight;
 use btr_base::Ranges;
@@ -32,9 +29,8 @@ pub(crate) fn affected(alloc: Global, sight: &Sight<'_>) -> Result<Ranges, Alloc
 
 /// The slots in which the second input differs, widened: none if there is no second input.
 fn changed_second(alloc: Global, sight: &Sight<'_>) -> Result<Ranges, AllocError>
-    ensures { IfOk result (λ r. (before after : List Point)
-        → IsSecondInput sight.now.old_reads.second sight.now.old_second sight.now.new_second before after
-        → r ≡ union (map (widened_range sight.now.spec) (changes_of sight.now.spec.grain before after))) }
+    ensures { IfOk result (λ r. (before after : List Point) → SeesSecond sight.now before after
+        → r ≡ widened_changes sight.now.spec before after) }
 {
     let since = sight.old_reads.second;
     match (since, sight.old_second, sight.new_second) {
@@ -54,7 +50,7 @@ fn changed(
 ) -> Result<Ranges, AllocError>
     requires { spec.now.grain ≤ 62 }
     ensures { IfOk result (λ r. (before after : List Point) → IsInput since old.now new.now before after
-        → r ≡ union (map (widened_range spec.now) (changes_of spec.now.grain before after))) }
+        → r ≡ widened_changes spec.now before after) }
 {
     let mut steps = Steps::<InputWalk>::new();
     let lead = spec.lead;

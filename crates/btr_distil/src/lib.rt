@@ -19,4 +19,4 @@ mod split_times;
 
 pub use commit::Plan;
 pub use planning::{plan, plan_anew, plan_shared};
-pub use sight::Sight;
+pub use sight::{InputTrees, Sight};

@@ -1,11 +1,23 @@
 ghost use Rattle.std.specs.Prelude.{◌≡◌, true};
-ghost use Rattle.std.specs.Option.{option_map};
 ghost use Rattle.btr_hist.specs.Kernel.{is_good};
-ghost use Rattle.btr_distil.specs.Sight.{HasInputs};
+ghost use Rattle.btr_distil.specs.Sight.{HasInputs, second_tree, sight_between};
 
 use btr_hist::{Reads, Spec};
 use btr_tree::Tree;
 use std::marker::Model;
+
+/// The inputs of an output at one version each: the versions, and their trees.
+#[derive(Drop)]
+pub struct InputTrees<'a> {
+    /// The versions of the inputs.
+    pub reads: Reads,
+
+    /// The tree of the first input.
+    pub first: &'a Tree,
+
+    /// The tree of the second input, if there is one.
+    pub second: Option<&'a Tree>,
+}
 
 /// What a plan is made from: an output, its latest version, the versions of its inputs that this version has read and those that
 /// the next one is to read, and the trees of all of these. It borrows the trees, and takes no memory.
@@ -49,43 +61,29 @@ impl<'a> Model for Sight<'a> {
 }
 
 impl<'a> Sight<'a> {
-    /// The sight of an output with this spec, at its version `base`. The versions in `reads_old` are those that it has read, those
-    /// in `reads_new` are to be read, and the trees are those of the inputs at these versions.
+    /// The sight of an output with this spec, at its version `base`: from the inputs that this version has read to those that are to
+    /// be read.
     pub fn new(
         spec: Spec,
         stream: u32,
         base: u64,
-        reads_old: Reads,
-        reads_new: Reads,
-        old_first: &'a Tree,
-        new_first: &'a Tree,
-        old_second: Option<&'a Tree>,
-        new_second: Option<&'a Tree>,
+        old: InputTrees<'a>,
+        new: InputTrees<'a>,
     ) -> Sight<'a>
         requires good { is_good spec ≡ true }
-        requires shape { HasInputs spec reads_old reads_new (option_map (λ t. t.now) old_second) (option_map (λ t. t.now) new_second) }
-        ensures { result ≡ record {
-          spec = spec;
-          stream = stream;
-          base = base;
-          old_reads = reads_old;
-          new_reads = reads_new;
-          old_first = old_first.now;
-          new_first = new_first.now;
-          old_second = option_map (λ t. t.now) old_second.entry;
-          new_second = option_map (λ t. t.now) new_second.entry;
-        } }
+        requires shape { HasInputs spec old.reads new.reads (second_tree old) (second_tree new) }
+        ensures { result ≡ sight_between spec stream base old.entry new.entry }
     {
         Sight {
             spec,
             stream,
             base,
-            old_reads: reads_old,
-            new_reads: reads_new,
-            old_first,
-            new_first,
-            old_second,
-            new_second,
+            old_reads: old.reads,
+            new_reads: new.reads,
+            old_first: old.first,
+            new_first: new.first,
+            old_second: old.second,
+            new_second: new.second,
         }
     }
 

@@ -1,6 +1,6 @@
 -- Lemmas on plans: a plan of a history is one of each longer history, and what its landing does is what the model says.
 use Rattle.std.specs.Prelude.{◌≡◌, ℕ, ℤ, ◌<◌, ◌≤◌, ◌==◌, nat_lt, nat_le, true, false, not, Bool, List, [], ◌∷◌, ◌++◌, length, cond, Option, Some, None}
-use Rattle.std.specs.Option.{option_map, is_some}
+use Rattle.std.specs.Option.{option_map}
 use Rattle.std.proofs.Common.{refl, sym, ap, ◌∙◌, arith, subst, ⊎_elim}
 use Rattle.std.proofs.lemmas.Bool.{eq-eqb, eqb-true, and_parts, and_from, false_from_ne_true, le-leb, lt-leb, lt-ltb, le-ltb, cases_lt}
 use Rattle.btr_base.specs.declared.limits.TheConstants.{MAX_VERSIONS, MAX_POINTS}
@@ -15,12 +15,12 @@ use Rattle.btr_hist.specs.declared.rejection.Rejection.TheVariants.{NoStream, No
 use Rattle.btr_hist.specs.Distil.{Inputs, distillate}
 use Rattle.btr_hist.specs.History.{ids, spec_of, latest, reads, latest_reads, inputs_at}
 use Rattle.btr_hist.specs.Legal.{first_some, when, rejection, takes_reads, may_read, distillate_change_rejection, next_bag, points_rejection, IsDistillate, Allowed, Legal, Follows}
-use Rattle.btr_hist.specs.Machine.{Landing, same_second, same_reads, planned, plan_of, plan_reply, landing, landing_rejection, landing_reply, landed, receipt, commit_reply, committed}
+use Rattle.btr_hist.specs.Machine.{Landing, same_second, same_reads, planned, plan_of, landing, landing_rejection, landing_reply, landed, receipt, commit_reply, committed}
 use Rattle.btr_hist.specs.Machine as machine
-use Rattle.btr_hist.specs.Machine.Reply.{Accepted, Rejected, Planned, NotOutput, Superseded}
+use Rattle.btr_hist.specs.Machine.Reply.{Accepted, Rejected, Superseded}
 use Rattle.btr_hist.proofs.VersionLemmas.{spec_of-known, spec_of-stays, latest-more, reads-append}
 use Rattle.btr_hist.proofs.ReadsLemmas.{AreThere, may_read-there, may_read-latest, may_read-more, inputs_at-append}
-use Rattle.btr_hist.proofs.OutputLemmas.{IsSound, follows-sound, follows-output}
+use Rattle.btr_hist.proofs.OutputLemmas.{follows-sound, follows-output}
 use Rattle.btr_hist.proofs.DistilLemmas.{good-is, distillate-change_accepted}
 use Rattle.btr_hist.proofs.RightLemmas.{inputs-bags, inputs-few}
 use Rattle.btr_hist.proofs.HistoryLemmas.{legal-follows}
@@ -135,29 +135,6 @@ next-none h stream s sight same = record {
   nothing = planned-none h stream s.spec (sym sight.has_read ∙ same ∙ sight.is_to_read);
   latest = sight.same_base;
 }
-
--- ---- what the model replies to the wish for a plan, and which plan it makes
-
--- A stream that is no output has no plan.
-pub reply-no_output : (h : List Entry) (stream : ℕ) → spec_of h stream ≡ None → (plan_reply h stream (spec_of h stream) ≡ NotOutput) × (plan_of h stream (spec_of h stream) ≡ None)
-reply-no_output h stream none = (ap (λ (o : Option Spec). plan_reply h stream o) none, ap (λ (o : Option Spec). plan_of h stream o) none)
-
--- An output that is up to date has none.
-pub reply-up_to_date : (h : List Entry) (stream version : ℕ) → IsUpToDate h stream version → (plan_reply h stream (spec_of h stream) ≡ Planned false) × (plan_of h stream (spec_of h stream) ≡ None)
-reply-up_to_date h stream version is = (
-  ap (λ (o : Option Spec). plan_reply h stream o) is.output ∙ ap (λ (o : Option Landing). Planned (is_some o)) is.nothing,
-  ap (λ (o : Option Spec). plan_of h stream o) is.output ∙ is.nothing,
-)
-
--- The next plan of an output is that of the model.
-pub reply-next : (h : List Entry) (stream : ℕ) (p : PlanValue) → IsNextPlan h stream p → (plan_reply h stream (spec_of h stream) ≡ Planned true) × (plan_of h stream (spec_of h stream) ≡ Some (landing_of p))
-reply-next h stream p is =
-    let spec = is.of.spec in
-    let output : spec_of h stream ≡ Some spec = subst (λ (n : ℕ). spec_of h n ≡ Some spec) is.same_stream is.of.output in
-    let is_planned : planned h stream spec ≡ Some (landing_of p) = sym (ap (λ (o : Option Spec). plan_of h stream o) output) ∙ is.planned in (
-      ap (λ (o : Option Spec). plan_reply h stream o) output ∙ ap (λ (o : Option Landing). Planned (is_some o)) is_planned,
-      is.planned,
-    )
 
 -- ---- a plan stays one in each longer history
 

@@ -1,10 +1,10 @@
 //! The test of a distillate: whether it is the one that the definition gives.
 ghost use Rattle.std.specs.Prelude.{◌≡◌, ◌↔◌, true, List, None, IfOk, IsTrue};
 ghost use Rattle.btr_hist.specs.declared.entry.Entry.{Entry as EntrySpec};
-ghost use Rattle.btr_hist.specs.History.{spec_of};
-ghost use Rattle.btr_hist.specs.Legal.{rejection, takes_reads, IsDistillate, IsComputed};
+ghost use Rattle.btr_hist.specs.Legal.{rejection, IsDistillate, IsComputed};
 ghost use Rattle.btr_streams.specs.Snapshot.{IsSnapshotOf};
 ghost use Rattle.btr_distil.specs.Plan.{change};
+ghost use Rattle.btr_plan.specs.Sight.{TakesReads};
 
 use crate::sighting::sight_to;
 use btr_base::{Bag, Ranges};
@@ -44,7 +44,7 @@ fn is_distillate(
     added: &Bag,
     reads: Reads,
 ) -> Result<bool, AllocError>
-    ensures { (h : List EntrySpec) → IsSnapshotOf h snapshot.now → takes_reads h stream (spec_of h stream) reads ≡ true
+    ensures { (h : List EntrySpec) → IsSnapshotOf h snapshot.now → TakesReads h stream reads
         → IfOk result (λ is. IsTrue is ↔ IsDistillate h stream (record { cut = cut.now; added = added.now }) reads) }
 {
     let Some(sight) = sight_to(snapshot, stream, reads) else {

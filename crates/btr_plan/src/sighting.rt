@@ -1,20 +1,19 @@
 //! The sight of an output: what its next commit is planned from.
 ghost use Rattle.std.specs.Prelude.{◌≡◌, ◌<◌, ◌≤◌, true, List, length, Some, None, MatchOption};
 ghost use Rattle.btr_hist.specs.declared.entry.Entry.{Entry as EntrySpec};
-ghost use Rattle.btr_hist.specs.History.{ids, spec_of, latest, bag, reads, latest_reads};
-ghost use Rattle.btr_hist.specs.Legal.{has_inputs, may_read, takes_reads};
+ghost use Rattle.btr_hist.specs.History.{ids, spec_of, latest, reads, latest_reads};
+ghost use Rattle.btr_hist.specs.Legal.{has_inputs};
 ghost use Rattle.btr_streams.specs.Snapshot.{IsSnapshotOf};
-ghost use Rattle.btr_distil.specs.Sight.{IsInput};
-ghost use Rattle.btr_plan.specs.Sight.{IsSightAfter, IsSightTo};
+ghost use Rattle.btr_plan.specs.Sight.{AreVersionTrees, IsSightAfter, IsSightTo, MayRead, TakesReads};
 
-use btr_distil::Sight;
+use btr_distil::{InputTrees, Sight};
 use btr_hist::{Reads, Spec};
 use btr_streams::Snapshot;
 use btr_tree::Tree;
 
 /// The trees of an input, at two versions.
 #[derive(Drop)]
-struct InputTrees<'a> {
+struct VersionTrees<'a> {
     old: &'a Tree,
     new: &'a Tree,
 }
@@ -36,7 +35,7 @@ pub fn sight(snapshot: &Snapshot, stream: u32) -> Option<Sight<'_>>
 /// the output may read these versions; of other versions nothing is said. It borrows the trees of the snapshot. It takes logarithmic
 /// time and no memory.
 pub fn sight_to(snapshot: &Snapshot, stream: u32, new: Reads) -> Option<Sight<'_>>
-    ensures { (h : List EntrySpec) → IsSnapshotOf h snapshot.now → takes_reads h stream (spec_of h stream) new ≡ true
+    ensures { (h : List EntrySpec) → IsSnapshotOf h snapshot.now → TakesReads h stream new
         → MatchOption result ⊥ (IsSightTo h stream new) }
 {
     let spec = snapshot.spec(stream)?;
@@ -54,46 +53,56 @@ fn sight_of<'a>(
     new: Reads,
 ) -> Option<Sight<'a>>
     ensures { (h : List EntrySpec) → IsSnapshotOf h snapshot.now → spec_of h stream ≡ Some spec → version ≡ latest h stream
-        → may_read h spec (reads h stream spec (latest h stream)) new ≡ true → MatchOption result ⊥ (IsSightTo h stream new) }
+        → MayRead h stream spec new → MatchOption result ⊥ (IsSightTo h stream new) }
 {
     if !spec.is_good() {
         return None;
     }
     let old = reads_of(snapshot, stream, version, &spec);
-    let first = input_trees(snapshot, spec.first, old.first, new.first)?;
+    let first = version_trees(snapshot, spec.first, old.first, new.first)?;
     match (spec.second, old.second, new.second) {
-        (None, None, None) => Some(Sight::new(
-            spec, stream, version, old, new, first.old, first.new, None, None,
-        )),
+        (None, None, None) => {
+            let read = InputTrees {
+                reads: old,
+                first: first.old,
+                second: None,
+            };
+            let to_read = InputTrees {
+                reads: new,
+                first: first.new,
+                second: None,
+            };
+            Some(Sight::new(spec, stream, version, read, to_read))
+        }
         (Some(input), Some(before), Some(now)) => {
-            let second = input_trees(snapshot, input, before, now)?;
-            Some(Sight::new(
-                spec,
-                stream,
-                version,
-                old,
-                new,
-                first.old,
-                first.new,
-                Some(second.old),
-                Some(second.new),
-            ))
+            let second = version_trees(snapshot, input, before, now)?;
+            let read = InputTrees {
+                reads: old,
+                first: first.old,
+                second: Some(second.old),
+            };
+            let to_read = InputTrees {
+                reads: new,
+                first: first.new,
+                second: Some(second.new),
+            };
+            Some(Sight::new(spec, stream, version, read, to_read))
         }
         _ => None,
     }
 }
 
 /// Returns the trees of an input at two of its versions.
-fn input_trees<'a>(
+fn version_trees<'a>(
     snapshot: &'a Snapshot,
     stream: u32,
     old: u64,
     new: u64,
-) -> Option<InputTrees<'a>>
+) -> Option<VersionTrees<'a>>
     ensures { (h : List EntrySpec) → IsSnapshotOf h snapshot.now → stream < length (ids h) → old ≤ new → new ≤ latest h stream
-        → MatchOption result ⊥ (λ t. IsInput old t.old.now t.new.now (bag h stream old) (bag h stream new)) }
+        → MatchOption result ⊥ (AreVersionTrees h stream old new) }
 {
-    Some(InputTrees {
+    Some(VersionTrees {
         old: snapshot.tree(stream, old)?,
         new: snapshot.tree(stream, new)?,
     })

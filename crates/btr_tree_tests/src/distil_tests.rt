@@ -4,7 +4,7 @@ use super::fixture::{
     Pairs, Row, after, all_hold, are_pairs, bag_of, have_bounds, points_from, ranges_of,
 };
 use btr_base::{Bag, END, FIRST, Point, Ranges};
-use btr_distil::{Plan, Sight, plan, plan_shared};
+use btr_distil::{InputTrees, Plan, Sight, plan, plan_shared};
 use btr_hist::{Entry, Kernel, Reads, Spec};
 use btr_tree::Tree;
 use std::alloc::Global;
@@ -104,9 +104,17 @@ fn sight_over(spec: Spec, old: Reads, new: Reads, inputs: Inputs<'_>) -> Result<
     {
         return Err("no spec with its inputs".into());
     }
-    let sight = Sight::new(
-        spec, 7, 3, old, new, old_first, new_first, old_second, new_second,
-    );
+    let read = InputTrees {
+        reads: old,
+        first: old_first,
+        second: old_second,
+    };
+    let to_read = InputTrees {
+        reads: new,
+        first: new_first,
+        second: new_second,
+    };
+    let sight = Sight::new(spec, 7, 3, read, to_read);
     if sight.base() != 3 {
         return Err("another version of the output".into());
     }

@@ -5,11 +5,10 @@ use Rattle.btr_hist.specs.declared.kernel.Reads.{Reads}
 use Rattle.btr_hist.specs.declared.entry.Entry.{Entry}
 use Rattle.btr_hist.specs.declared.kernel.Spec.{Spec}
 use Rattle.btr_hist.specs.History.{ids, spec_of, latest, reads, second_points}
-use Rattle.btr_hist.specs.Legal.{may_read}
 use Rattle.btr_tree.specs.Root.{TreeValue}
 use Rattle.btr_streams.specs.Snapshot.{IsSnapshotOf}
 use Rattle.btr_distil.specs.Sight.{SightValue, IsSecondInput}
-use Rattle.btr_plan.specs.Sight.{IsSightTo}
+use Rattle.btr_plan.specs.Sight.{IsSightTo, MayRead}
 use Rattle.btr_plan.proofs.SightLemmas.{inputs-known, spec-good, first-known, second-known, first-low, first-last, second-low, second-last}
 use Rattle.btr_plan.proofs.SightLemmas.{second-none, second-some, sight-one}
 use Rattle.btr_plan.proofs.sighting.sight_of.Goals.{In_ok-first, In-Some-Some-Some}
@@ -18,10 +17,6 @@ use Rattle.btr_plan.proofs.sighting.sight_of.Goals as goal
 -- What was read of the inputs is what the latest version has read.
 read_are : (h : List Entry) (stream version : ℕ) (spec : Spec) (old : Reads) → old ≡ reads h stream spec version → version ≡ latest h stream → old ≡ reads h stream spec (latest h stream)
 read_are h stream version spec old is last = is ∙ ap (λ (v : ℕ). reads h stream spec v) last
-
--- The next distillate of the output may read the new versions.
-abbrev MayRead : List Entry → ℕ → Spec → Reads → Type 0
-MayRead h stream spec new = may_read h spec (reads h stream spec (latest h stream)) new ≡ true
 
 -- The sight with these trees of the second input.
 abbrev sight_with : In_ok-first → Option TreeValue → Option TreeValue → SightValue

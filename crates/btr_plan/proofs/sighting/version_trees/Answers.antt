@@ -1,6 +1,6 @@
 -- The trees of two versions of a stream.
 use Rattle.btr_plan.proofs.SightLemmas.{input-trees}
-use Rattle.btr_plan.proofs.sighting.input_trees.Goals as goal
+use Rattle.btr_plan.proofs.sighting.version_trees.Goals as goal
 
 pub returns : goal.returns
 returns c = λ h of known le low.
