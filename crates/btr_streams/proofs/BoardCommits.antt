@@ -1,14 +1,13 @@
 -- Why a commit of a stream is rejected, as the tree of the stream's latest version finds it.
-use Rattle.std.specs.Prelude.{◌≡◌, ℕ, ◌+◌, ◌-◌, ◌<◌, ◌≤◌, nat_le, not, Bool, List, [], ◌∷◌, ◌++◌, length, slice_get, slice_index_or, Option, Some, None, Result, Ok, Err, IfOk, OnOk}
+use Rattle.std.specs.Prelude.{◌≡◌, ℕ, ◌+◌, ◌-◌, ◌<◌, ◌≤◌, nat_le, not, Bool, List, [], ◌∷◌, ◌++◌, length, slice_get, slice_index_or, Option, Some, None}
 use Rattle.std.specs.List.{AllByRecursion}
 use Rattle.std.proofs.Common.{zero, suc, refl, sym, ap, ◌∙◌, arith, subst}
 use Rattle.std.proofs.lemmas.List.{length-append}
-use Rattle.std.proofs.lemmas.Bool.{lt-leb, le-leb}
+use Rattle.std.proofs.lemmas.Bool.{lt-leb}
 use Rattle.std.proofs.lemmas.Option.{get_or_from_slice_get}
 use Rattle.btr_base.specs.declared.limits.TheConstants.{FIRST, END, MAX_VERSIONS}
 use Rattle.btr_base.specs.declared.point.Point.{Point}
 use Rattle.btr_base.specs.Point.{InDomain, AreInDomain}
-use Rattle.btr_base.specs.Range.{RangeValue}
 use Rattle.btr_base.specs.Bag.{sort, outside}
 use Rattle.btr_base.specs.Commit.{Change, after}
 use Rattle.btr_base.proofs.PointLemmas.{length-sort}
@@ -27,7 +26,7 @@ use Rattle.btr_hist.proofs.RejectionLemmas.{first_none, map_none, none_out_of_do
 use Rattle.btr_streams.specs.declared.board.PushFault.{PushFault}
 use Rattle.btr_streams.specs.Past.{commits_to}
 use Rattle.btr_streams.specs.Board.{HasPast, HasTrees}
-use Rattle.btr_streams.specs.Stage.{PushCause, IsNextTree, change, version_rejection}
+use Rattle.btr_streams.specs.Stage.{PushCause, IsNextTree, version_rejection}
 use Rattle.btr_streams.proofs.BoardTrees.{made_by, bag-commits_to}
 use Rattle.btr_streams.proofs.Crowded.{room-allowed}
 
@@ -61,11 +60,6 @@ pub version-points : (h : List Entry) (stream : ℕ) (c : Change) → latest h s
 version-points h stream c few =
     ap (λ t. first_some (when t VersionLimit ∷ points_rejection (next_bag h stream c) ∷ [])) (lt-leb MAX_VERSIONS (latest h stream) few)
     ∙ last_some (points_rejection (next_bag h stream c))
-
--- A stream that has as many versions as it may have gets no more.
-pub version-limit : (h : List Entry) (stream : ℕ) (c : Change) → MAX_VERSIONS ≤ latest h stream → version_rejection h stream c ≡ Some VersionLimit
-version-limit h stream c many =
-    ap (λ t. first_some (when t VersionLimit ∷ points_rejection (next_bag h stream c) ∷ [])) (le-leb MAX_VERSIONS (latest h stream) many)
 
 -- The points of a commit, and of a distillate, that passes the tests of its change lie in the domain.
 pub change-times : (c : Change) → change_rejection c ≡ None → AreInDomain c.added
@@ -124,8 +118,3 @@ module _ (h : List Entry) (stream : ℕ) (trees : List TreeValue) (kept : HasTre
     next-times t version k inside = each-after (λ p. InDomain p.time) (tree.bag (commits_to h stream (latest h stream))) c k.times inside
 
 -- ---- results
-
--- What holds of each value if a fact holds, which each value brings.
-pub if_both : {X E A B : Type 0} (P : X → Type 0) (r : Result X E) → (A → B) → OnOk r A → (B → IfOk r P) → IfOk r P
-if_both P (Ok x) f a k = k (f a)
-if_both P (Err e) f a k = tt

@@ -291,6 +291,10 @@ module _ (streams : List Versions) (number : ℕ → Option ℕ) (was : IsWellFo
   stream-grown s kept at =
       subst IsGrown (get_or_from_slice_get streams s kept kept at) (was.each s kept (slice_get_within streams s kept at))
 
+  -- What is kept of a stream at a place of the board's fields is kept at that place of the board, and is grown.
+  pub kept-at : (entries : ℕ) (b : Kept) → record { streams = streams; entries = entries } ≡ b → (s : ℕ) (kept : Versions) → slice_get streams s ≡ Some kept → (slice_get b.streams s ≡ Some kept) × IsGrown kept
+  kept-at entries b view s kept at = (ap (λ (x : Kept). slice_get x.streams s) (sym view) ∙ at, stream-grown s kept at)
+
   -- A board stays well formed with one version more of one stream.
   pub formed-version : (s : ℕ) (kept : Versions) (t : TreeValue) (read : Option Reads) (entry : ℕ) (next : ℕ → Option ℕ) (after : List Versions) → slice_get streams s ≡ Some kept → length kept.trees ≤ MAX_VERSIONS → HasPast t → is_some read ≡ is_some kept.spec → after ≡ slice_set streams s (with_version kept t read entry) → ((q : ℕ) → next q ≡ number q) → IsWellFormed after next
   formed-version s kept t read entry next after at room past kind set same =

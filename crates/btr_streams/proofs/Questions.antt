@@ -1,13 +1,12 @@
 -- The answer to a question: by the version that is asked, by whether the question is good, and by the tree of the version.
 use Rattle.std.specs.Prelude.{◌≡◌, ℕ, ◌+◌, ◌-◌, ◌^◌, ◌<◌, ◌≤◌, ℤ, nat_le, nat_lt, Bool, true, false, List, [], ◌∷◌, ◌++◌, length, take, cond, slice_get, Option, Some, is_some}
 use Rattle.std.proofs.Common.{zero, suc, refl, sym, ap, ◌∙◌, arith, subst}
-use Rattle.std.proofs.lemmas.Int.{ints}
 use Rattle.std.proofs.lemmas.List.{take_more}
 use Rattle.std.proofs.lemmas.Option.{slice_get_within, get_or_from_slice_get}
-use Rattle.std.proofs.lemmas.Bool.{lt-leb, le-ltb, le-leb, and_from, false_from_ne_true}
+use Rattle.std.proofs.lemmas.Bool.{lt-leb, le-ltb, le-leb, and_from}
 use Rattle.btr_base.specs.declared.limits.TheConstants.{FIRST, END}
 use Rattle.btr_base.specs.declared.point.Point.{Point}
-use Rattle.btr_base.specs.Range.{RangeValue, IsRange}
+use Rattle.btr_base.specs.Range.{RangeValue}
 use Rattle.btr_base.specs.Agg.{agg, agg_within}
 use Rattle.btr_base.proofs.WithinLemmas.{within-all}
 use Rattle.btr_tree.specs.History as tree
@@ -54,22 +53,6 @@ module _ (h : List Entry) (stream version asked : ℕ) (t : TreeValue) (there : 
       ∙ sym (good_or_bad good rows ∙ ap (λ t. cond t (Found asked (rows (bag h stream asked))) (Refused BadRange)) is_good)
 
 -- ---- ranges
-
--- The bounds are those that were asked.
-module _ {a b : ℤ} (from to : ℤ) (begins : a ≡ from) (ends : b ≡ to) where
-  pub range_is : (r : RangeValue) → r ≡ record { from = a; to = b } → r ≡ record { from = from; to = to }
-  range_is r is = cc
-
-  pub range_good : IsRange (record { from = a; to = b }) → is_range from to ≡ true
-  range_good r =
-      let low = r.begins in
-      let some = r.not_empty in
-      let high = r.ends in
-      grind (arith, ints)
-
-  pub range_bad : (IsRange (record { from = a; to = b }) → ⊥) → is_range from to ≡ false
-  range_bad none =
-      false_from_ne_true (is_range from to) (λ t. none (record { begins = grind (arith, ints); not_empty = grind (arith, ints); ends = grind (arith, ints) }))
 
 -- What holds of the bounds holds of equal ones.
 module _ {a b : ℤ} (from to : ℤ) (begins : a ≡ from) (ends : b ≡ to) where

@@ -1,5 +1,5 @@
 -- The board of a roll: its invariant, of which history it is, and that its roll is the one that it was made of.
-use Rattle.std.specs.Prelude.{◌≡◌, ◌≢◌, ℕ, ◌+◌, ◌-◌, ◌<◌, ◌≤◌, Bool, true, false, cond, not, nat_eq, nat_le, List, [], ◌∷◌, ◌++◌, length, take, drop, map, get_or, slice_get, slice_index_or, Option, Some, None, IfSome, is_some}
+use Rattle.std.specs.Prelude.{◌≡◌, ◌≢◌, ℕ, ◌+◌, ◌-◌, ◌<◌, ◌≤◌, Bool, true, false, cond, not, nat_eq, List, [], ◌∷◌, ◌++◌, length, take, drop, map, get_or, slice_get, slice_index_or, Option, Some, None, IfSome, is_some}
 use Rattle.std.specs.List.{AllByRecursion, filter_map, cons_option, position_from}
 use Rattle.std.specs.Option.{option_map, option_to_list}
 use Rattle.std.proofs.Common.{zero, suc, refl, sym, ap, ◌∙◌, arith, subst, inl, inr, length-append}
@@ -7,7 +7,7 @@ use Rattle.std.proofs.lemmas.List.{take_all, take_more, length-map, length-take-
 use Rattle.std.proofs.lemmas.List.Elements.{filter_map-append}
 use Rattle.std.proofs.lemmas.Bool.{cases_lt, cases_eq, ne_eqb, not-false}
 use Rattle.std.proofs.lemmas.Option.{slice_get-get_or, slice_get-map, get_or_from_slice_get, slice_get_within}
-use Rattle.btr_base.specs.declared.limits.TheConstants.{MAX_STREAMS, MAX_VERSIONS}
+use Rattle.btr_base.specs.declared.limits.TheConstants.{MAX_STREAMS}
 use Rattle.btr_base.specs.Commit.{Change}
 use Rattle.btr_base.proofs.ListLemmas.{each-append}
 use Rattle.btr_board.specs.Put.{put_at}
@@ -17,10 +17,10 @@ use Rattle.btr_hist.specs.declared.entry.Entry.{Entry}
 use Rattle.btr_hist.specs.declared.entry.Entry.TheVariants.{Create, Commit, Define, Distillate}
 use Rattle.btr_hist.specs.declared.kernel.Spec.{Spec}
 use Rattle.btr_hist.specs.declared.kernel.Reads.{Reads}
-use Rattle.btr_hist.specs.declared.rejection.Rejection.TheVariants.{NoStream, NotWritable, VersionLimit}
+use Rattle.btr_hist.specs.declared.rejection.Rejection.TheVariants.{NotWritable}
 use Rattle.btr_hist.specs.declared.rejection.Rejection.{Rejection}
-use Rattle.btr_hist.specs.History.{ids, kinds, spec_of, is_output, latest, recorded, read_by}
-use Rattle.btr_hist.specs.Legal.{first_some, when, rejection, change_rejection, points_rejection, next_bag, takes_reads, Follows}
+use Rattle.btr_hist.specs.History.{ids, kinds, spec_of, is_output, latest, recorded}
+use Rattle.btr_hist.specs.Legal.{first_some, rejection, takes_reads, Follows}
 use Rattle.btr_hist.proofs.HistoryLemmas.{length-kinds, length-recorded, follows-none, follows-push, unknown}
 use Rattle.btr_hist.proofs.RejectionLemmas.{first_none, rest_none, when_none}
 use Rattle.btr_hist.proofs.AcceptedLemmas.{distillate_causes}
@@ -37,6 +37,7 @@ use Rattle.btr_streams.specs.Restoring.{restored_stream, restored_streams, FitTr
 use Rattle.btr_streams.proofs.BoardStreamLemmas.{places-push, kinds-more, recorded-still, kinds-still, recorded-more, recorded-other, unknown-recorded}
 use Rattle.btr_streams.proofs.BoardStreamLemmas.{create-makes, define-makes, commit-makes, distillate-makes}
 use Rattle.btr_streams.proofs.NumberingLemmas.{numbers-counted}
+use Rattle.btr_streams.proofs.RollFits as fits
 use Rattle.btr_streams.proofs.StreamsLemmas.{is-board}
 
 -- ---- lists
@@ -402,16 +403,6 @@ takes-some : (h : List Entry) (s : ℕ) (o : Option Spec) (new : Reads) → take
 takes-some h s None new takes = absurd (cc)
 takes-some h s (Some spec) new takes = refl
 
--- The causes for which a commit is rejected, in their order.
-abbrev commit_causes : List Entry → ℕ → Change → List (Option Rejection)
-commit_causes h s c =
-    when (nat_le (length (ids h)) s) NoStream
-    ∷ when (is_output h s) NotWritable
-    ∷ change_rejection c
-    ∷ when (nat_le MAX_VERSIONS (latest h s)) VersionLimit
-    ∷ points_rejection (next_bag h s c)
-    ∷ []
-
 second-cause : (a b : Option Rejection) (os : List (Option Rejection)) → first_some (a ∷ b ∷ os) ≡ None → b ≡ None
 second-cause a b os accepted = first_none b os (rest_none a (b ∷ os) accepted)
 
@@ -419,7 +410,7 @@ keeps-push : (h : List Entry) → KeepsReads h → (e : Entry) → rejection h e
 keeps-push h was (Create id) accepted = keeps-stream h was (Create id) accepted id None (create-makes id)
 keeps-push h was (Define id spec) accepted = keeps-stream h was (Define id spec) accepted id (Some spec) (define-makes id spec)
 keeps-push h was (Commit s cut added) accepted =
-    let plain = when_none (is_output h s) NotWritable (second-cause _ _ (drop 2 (commit_causes h s (change cut added))) accepted) in
+    let plain = when_none (is_output h s) NotWritable (second-cause _ _ (drop 2 (fits.commit_causes h s (change cut added))) accepted) in
     keeps-version h was (Commit s cut added) accepted s (change cut added) None (commit-makes s cut added) (sym plain)
 keeps-push h was (Distillate s cut added new) accepted =
     let takes = not-false (takes_reads h s (spec_of h s) new) (when_none (not (takes_reads h s (spec_of h s) new)) NotWritable (second-cause _ _ (drop 2 (distillate_causes h s (change cut added) new)) accepted)) in
@@ -472,45 +463,15 @@ reads-kept (Some spec) rs count are kinds = let long = all-records rs kinds in (
 -- ---- the board of a history
 
 module _ (h : List Entry) (roots : List ℕ) where
-  roll-at : (n : ℕ) (xs : List ℕ) (i id : ℕ) → slice_get xs i ≡ Some id → slice_get (rolled_from h roots n xs) i ≡ Some (rolled_stream h roots (n + i) id)
-  roll-at n [] i id at = absurd (cc)
-  roll-at n (x ∷ xs) zero id at =
-      let here : n ≡ n + 0 = omega arith in
-      let same : x ≡ id = cc in
-      ap (λ (y : ℕ). Some (rolled_stream h roots n y)) same ∙ ap (λ (k : ℕ). Some (rolled_stream h roots k id)) here
-  roll-at n (x ∷ xs) (suc i) id at =
-      let step : (n + 1) + i ≡ n + suc i = omega arith in
-      roll-at (n + 1) xs i id at ∙ ap (λ (k : ℕ). Some (rolled_stream h roots k id)) step
-
-  roll-length : (n : ℕ) (xs : List ℕ) → length (rolled_from h roots n xs) ≡ length xs
-  roll-length n [] = refl
-  roll-length n (x ∷ xs) = ap (λ (k : ℕ). suc k) (roll-length (n + 1) xs)
-
-  -- The numbers of the entries of the versions, and what they have read.
+  -- The numbers of the entries of the versions.
   entries-are : (s v : ℕ) (ns : List ℕ) → map (λ v. v.entry) (rolled_versions h roots s v ns) ≡ ns
   entries-are s v [] = refl
   entries-are s v (n ∷ ns) = ap (λ (l : List ℕ). n ∷ l) (entries-are s (v + 1) ns)
 
-  reads-are : (s v : ℕ) (ns : List ℕ) (rs : List (Option Reads)) → length ns ≡ length rs → ((i : ℕ) → read_by h s (v + i) ≡ slice_index_or rs i None) → reads_of_versions (rolled_versions h roots s v ns) ≡ the_reads rs
-  reads-are s v [] [] long each = refl
-  reads-are s v [] (r ∷ rs) long each = absurd (omega arith)
-  reads-are s v (n ∷ ns) [] long each = absurd (omega arith)
-  reads-are s v (n ∷ ns) (r ∷ rs) long each =
-      let here : v ≡ v + 0 = omega arith in
-      let first : read_by h s v ≡ r = ap (read_by h s) here ∙ each 0 in
-      let step : (i : ℕ) → (v + 1) + i ≡ v + suc i = λ i. omega arith in
-      let rest = reads-are s (v + 1) ns rs (omega arith) (λ i. ap (read_by h s) (step i) ∙ each (suc i)) in
-      λ i. cons_option (first i) (rest i)
-
   module _ (follows : Follows h) where
-    -- The numbers of the versions of a stream, without the first.
-    numbers-less : (s : ℕ) → s < length (ids h) → length (drop 1 (stream_numbers h s)) ≡ length (recorded h s)
-    numbers-less s low = omega (arith, one-less (stream_numbers h s), numbers-counted h s low, length-recorded h s)
-
     stream-reads : (s : ℕ) → s < length (ids h) → reads_of_versions (rolled_versions h roots s 1 (drop 1 (stream_numbers h s))) ≡ the_reads (recorded h s)
     stream-reads s low =
-        let one : (i : ℕ) → 1 + i ≡ suc i = λ i. omega arith in
-        reads-are s 1 (drop 1 (stream_numbers h s)) (recorded h s) (numbers-less s low) (λ i. ap (read_by h s) (one i))
+        fits.versions-reads (rolled_versions h roots s 1 (drop 1 (stream_numbers h s))) ∙ ap the_reads (fits.stream-reads h roots s low)
 
     numbers-again : (s : ℕ) → s < length (ids h) → get_or (stream_numbers h s) 0 0 ∷ map (λ v. v.entry) (rolled_versions h roots s 1 (drop 1 (stream_numbers h s))) ≡ stream_numbers h s
     numbers-again s low =
@@ -541,13 +502,13 @@ module _ (h : List Entry) (roots : List ℕ) where
       restored-there s low =
           let id = get_or (ids h) s 0 in
           let place : 0 + s ≡ s = omega arith in
-          let at = roll-at 0 (ids h) s id (slice_get-get_or (ids h) s 0 low) ∙ ap (λ (k : ℕ). Some (rolled_stream h roots k id)) place in
+          let at = fits.roll-at h roots 0 (ids h) s id (slice_get-get_or (ids h) s 0 low) ∙ ap (λ (k : ℕ). Some (rolled_stream h roots k id)) place in
           restored-at (roll_of h roots) trees s (rolled_stream h roots s id) (slice_index_or trees s []) at (slice_get-get_or trees s [] (omega (arith, counted)))
 
       -- The board of the roll of a history has its streams, if there is one tree more than versions of each stream.
       pub restored-streams-of : ((stream : ℕ) (d : List TreeValue) → stream < length (ids h) → length (slice_index_or trees stream d) ≡ latest h stream + 1) → HasStreamsOf h (record { streams = restored_streams (roll_of h roots) trees; entries = length h })
       restored-streams-of long = record {
-        counted = restored-length (roll_of h roots) trees (counted ∙ sym (roll-length 0 (ids h))) ∙ roll-length 0 (ids h);
+        counted = restored-length (roll_of h roots) trees (counted ∙ sym (fits.roll-length h roots 0 (ids h))) ∙ fits.roll-length h roots 0 (ids h);
         each = λ s d low.
             let id = get_or (ids h) s 0 in
             let one : Versions = restored_stream (rolled_stream h roots s id) (slice_index_or trees s []) in

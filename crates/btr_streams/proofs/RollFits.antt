@@ -270,7 +270,7 @@ define_causes h id spec =
     ∷ when (not (is_good spec)) BadSpec
     ∷ []
 
-abbrev commit_causes : List Entry → ℕ → Change → List (Option Rejection)
+abbrev pub commit_causes : List Entry → ℕ → Change → List (Option Rejection)
 commit_causes h s c =
     when (nat_le (length (ids h)) s) NoStream
     ∷ when (is_output h s) NotWritable
@@ -409,7 +409,7 @@ module _ (streams : List RollStreamValue) where
 abbrev reads_of : RollVersion → Option Reads
 reads_of v = v.reads
 
-versions-reads : (vs : List RollVersion) → reads_of_versions vs ≡ filter_map (λ o. o) (map reads_of vs)
+pub versions-reads : (vs : List RollVersion) → reads_of_versions vs ≡ filter_map (λ o. o) (map reads_of vs)
 versions-reads [] = refl
 versions-reads (v ∷ vs) = ap (cons_option v.reads) (versions-reads vs)
 
@@ -421,7 +421,7 @@ versions-fit output (v ∷ vs) numbers reads =
 -- ---- the roll of a history
 
 module _ (h : List Entry) (roots : List ℕ) where
-  roll-length : (n : ℕ) (xs : List ℕ) → length (rolled_from h roots n xs) ≡ length xs
+  pub roll-length : (n : ℕ) (xs : List ℕ) → length (rolled_from h roots n xs) ≡ length xs
   roll-length n [] = refl
   roll-length n (x ∷ xs) = ap (λ (k : ℕ). suc k) (roll-length (n + 1) xs)
 
@@ -429,7 +429,7 @@ module _ (h : List Entry) (roots : List ℕ) where
   roll-ids n [] = refl
   roll-ids n (x ∷ xs) = ap (λ (l : List ℕ). x ∷ l) (roll-ids (n + 1) xs)
 
-  roll-at : (n : ℕ) (xs : List ℕ) (i id : ℕ) → slice_get xs i ≡ Some id → slice_get (rolled_from h roots n xs) i ≡ Some (rolled_stream h roots (n + i) id)
+  pub roll-at : (n : ℕ) (xs : List ℕ) (i id : ℕ) → slice_get xs i ≡ Some id → slice_get (rolled_from h roots n xs) i ≡ Some (rolled_stream h roots (n + i) id)
   roll-at n [] i id at = absurd (cc)
   roll-at n (x ∷ xs) zero id at =
       let here : n ≡ n + 0 = omega arith in
@@ -469,7 +469,7 @@ module _ (h : List Entry) (roots : List ℕ) where
       go [] long = absurd (omega arith)
       go (n ∷ ns) long = omega arith
 
-  stream-reads : (s : ℕ) → s < length (ids h) → map reads_of (rolled_versions h roots s 1 (drop 1 (stream_numbers h s))) ≡ recorded h s
+  pub stream-reads : (s : ℕ) → s < length (ids h) → map reads_of (rolled_versions h roots s 1 (drop 1 (stream_numbers h s))) ≡ recorded h s
   stream-reads s low =
       let one : (i : ℕ) → 1 + i ≡ suc i = λ i. omega arith in
       reads-are s 1 (drop 1 (stream_numbers h s)) (recorded h s) (versions-counted s low ∙ sym (length-recorded h s)) (λ i. ap (read_by h s) (one i))

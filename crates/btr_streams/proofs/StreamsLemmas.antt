@@ -8,10 +8,6 @@ use Rattle.std.proofs.lemmas.Option.{slice_get_within, slice_get-get_or, slice_g
 use Rattle.std.proofs.lemmas.Bool.{cases_lt, le-leb, lt-leb, lt-ltb}
 use Rattle.std.proofs.lemmas.Bool.Decides.{nat_tests}
 use Rattle.btr_base.specs.declared.limits.TheConstants.{MAX_VERSIONS}
-use Rattle.btr_tree.specs.History.{Opened}
-use Rattle.btr_tree.specs.Root.{root_part, TreeValue, WasOpened}
-use Rattle.btr_base.specs.Span.{SpanValue}
-use Rattle.btr_tree.proofs.RootLemmas.{opened-whole}
 use Rattle.btr_hist.specs.declared.entry.Entry.{Entry}
 use Rattle.btr_hist.specs.declared.kernel.Spec.{Spec}
 use Rattle.btr_hist.specs.declared.kernel.Reads.{Reads}
@@ -20,18 +16,12 @@ use Rattle.btr_hist.specs.declared.rejection.Rejection.TheVariants.{VersionLimit
 use Rattle.btr_hist.specs.History.{ids, spec_of, latest, read_by}
 use Rattle.btr_hist.specs.Legal.{when, create_rejection, define_rejection, takes_reads, Follows}
 use Rattle.btr_hist.proofs.HistoryLemmas.{unknown}
-use Rattle.btr_streams.specs.Board.{Versions, Kept, HasPast, HasTrees, IsStreamOf, IsBoardOf, HasStreamOf, HasStreamsOf, latest_of, ids_of}
+use Rattle.btr_streams.specs.Board.{Versions, Kept, HasTrees, IsStreamOf, IsBoardOf, HasStreamOf, HasStreamsOf, latest_of, ids_of}
 use Rattle.btr_streams.specs.Rolling.{kept_stream, rolled}
 use Rattle.btr_streams.specs.Outline.{Outlined, outlined, outline_from, outline_of, outlined_in_roll, outline_in, stream_at, takes_reads_in}
 use Rattle.btr_streams.specs.Outline.{create_refusal, define_refusal, refusal}
 use Rattle.btr_streams.proofs.OutlineLemmas.{IsOutlineOf, outline-of, takes-here, create-same, define-same}
 use Rattle.btr_streams.proofs.RolledOutline.{latest-rolled, reads-rolled, at-rolled}
-
--- A tree that was opened and whose span is the whole domain is that of some past.
-pub opened-past : (t : TreeValue) → WasOpened t → t.span ≡ root_part → HasPast t
-opened-past t o whole =
-    let height : t.span.height ≡ 10 = ap (λ (s : SpanValue). s.height) whole in
-    (Opened o.0 o.1, opened-whole o.0 o.1 t o.2 (omega (arith, height)))
 
 -- A stream that is not refused for the number of its versions may have one more.
 pub room-if : (count : ℕ) → IsNone (when (nat_lt MAX_VERSIONS count) VersionLimit) → count ≤ MAX_VERSIONS

@@ -102,6 +102,13 @@ abbrev pub IsNextTree : List Entry → ℕ → Change → TreeValue → Type 0
 IsNextTree h stream c t =
     IsTree (record { version = latest h stream + 1; cut = c.cut; added = c.added } ▷ commits_to h stream (latest h stream)) t
 
+-- The entry may follow, and makes the next version of this stream, which has read these versions or none and has this tree.
+pub record MakesNext (h : List Entry) (e : Entry) (stream : ℕ) (read : Option Reads) (t : TreeValue) : Type 0 where
+  pub change_made : Change
+  pub makes : MakesVersion e stream change_made read
+  pub tree : IsNextTree h stream change_made t
+  pub allowed : rejection h e ≡ None
+
 -- P holds of each stream of a history whose versions have these trees.
 abbrev pub OfEachStream : List TreeValue → (List Entry → ℕ → Type 0) → Type 0
 OfEachStream trees P = (h : List Entry) (stream : ℕ) → HasTrees h stream trees → P h stream

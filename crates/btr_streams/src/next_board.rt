@@ -3,14 +3,13 @@ ghost use Rattle.std.specs.Prelude.{◌≡◌, ◌+◌, ◌-◌, ◌^◌, ◌<�
 ghost use Rattle.btr_base.specs.declared.limits.TheConstants.{MAX_STREAMS, MAX_VERSIONS};
 ghost use Rattle.std.specs.Prelude.{slice_get, slice_set, IfOk, Some, None};
 ghost use Rattle.std.specs.Option.{is_some, option_to_list};
-ghost use Rattle.btr_base.specs.Commit.{Change};
 ghost use Rattle.btr_tree.specs.History.{nothing};
 ghost use Rattle.btr_tree.specs.Root.{TreeValue, IsTree};
 ghost use Rattle.btr_hist.specs.declared.entry.Entry.{Entry as EntrySpec};
 ghost use Rattle.btr_hist.specs.declared.entry.Entry.TheVariants as entry;
 ghost use Rattle.btr_hist.specs.Legal.{rejection};
 ghost use Rattle.btr_streams.specs.Board.{IsBoardOf, HasPast, HasGoodSpec, place_of, ids_of};
-ghost use Rattle.btr_streams.specs.Stage.{MakesStream, MakesVersion, IsNextTree};
+ghost use Rattle.btr_streams.specs.Stage.{MakesStream, MakesNext};
 ghost use Rattle.btr_streams.specs.Stage.{HasRoomFor, HasRoomForVersion, ReadsVersion, ReadsOn};
 ghost use Rattle.btr_streams.specs.Stage.{with_version, new_stream};
 ghost use Rattle.btr_streams.specs.Stage.{AddsStream};
@@ -128,8 +127,8 @@ impl Board {
         requires room { length kept.now.trees ≤ MAX_VERSIONS }
         requires grown { HasPast tree }
         requires of_kind { is_some read ≡ is_some kept.now.spec }
-        ensures next { (h : List EntrySpec) (e : EntrySpec) (c : Change) → IsBoardOf h self.now → MakesVersion e place c read
-            → IsNextTree h place c tree → rejection h e ≡ None → IfOk result (IsBoardOf (h ++ e ∷ [])) }
+        ensures next { (h : List EntrySpec) (e : EntrySpec) → IsBoardOf h self.now → MakesNext h e place read tree
+            → IfOk result (IsBoardOf (h ++ e ∷ [])) }
         ensures counted { IfOk result (λ b. b.entries ≡ self.now.entries + 1) }
         ensures streams { IfOk result (λ b. b.streams
             ≡ slice_set self.now.streams place (with_version kept.now tree read (self.now.entries + 1))) }

@@ -30,5 +30,5 @@ returns-clause-next g c h of =
     let next = c.in_ok-next.ensures.next h c.args.new.now.stream (trees g (goal.at.returns-clause-next g c).After-next_tree h of) in
     record {
       allowed = next.0;
-      of = λ e makes allowed. c.in_ok-board.ensures.next h e (change_in c.args.new.now.commit) of makes next.1 allowed;
+      of = λ e makes allowed. c.in_ok-board.ensures.next h e of (record { change_made = change_in c.args.new.now.commit; makes = makes; tree = next.1; allowed = allowed });
     }

@@ -13,9 +13,9 @@ invariant_of-result c =
     (λ id. ap (λ m. number_of m id) c.in_ok-numbers.ensures)
 
 pub returns-clause-next : goal.returns-clause-next
-returns-clause-next c h e change of makes next allowed =
+returns-clause-next c h e of next =
     let fields : Kept = record { streams = c.self.inside.streams; entries = c.self.inside.entries } in
     let was : IsBoardOf h fields = subst (IsBoardOf h) (sym c.self.view_is) of in
     let there : slice_get c.self.inside.streams c.args.place ≡ Some c.args.kept.now = ap (λ (b : Kept). slice_get b.streams c.args.place) c.self.view_is ∙ c.requires.there in
     let set = c.in_ok-streams.ensures ∙ ap (slice_set c.self.inside.streams c.args.place) c.in_ok-next.ensures in
-    push-version h fields was e allowed c.args.place change c.args.read c.args.kept.now c.args.tree c.in_ok-streams.streams (c.self.inside.entries + 1) makes c.requires.of_kind next there set refl
+    push-version h fields was e next.allowed c.args.place next.change_made c.args.read c.args.kept.now c.args.tree c.in_ok-streams.streams (c.self.inside.entries + 1) next.makes c.requires.of_kind next.tree there set refl
