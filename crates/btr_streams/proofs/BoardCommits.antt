@@ -20,13 +20,13 @@ use Rattle.btr_hist.specs.declared.kernel.Reads.{Reads}
 use Rattle.btr_hist.specs.declared.rejection.Rejection.{Rejection}
 use Rattle.btr_hist.specs.declared.rejection.Rejection.TheVariants.{NoStream, NotWritable, VersionLimit, OutOfDomain}
 use Rattle.btr_hist.specs.History.{ids, spec_of, is_output, latest}
-use Rattle.btr_hist.specs.Legal.{first_some, when, first_out_of_domain, change_rejection, distillate_change_rejection, points_rejection, next_bag, takes_reads, commit_rejection, distillate_rejection}
+use Rattle.btr_hist.specs.Legal.{version_rejection, first_some, when, first_out_of_domain, change_rejection, distillate_change_rejection, points_rejection, next_bag, takes_reads, commit_rejection, distillate_rejection}
 use Rattle.btr_hist.proofs.HistoryLemmas.{each-after}
 use Rattle.btr_hist.proofs.RejectionLemmas.{first_none, map_none, none_out_of_domain}
 use Rattle.btr_streams.specs.declared.board.PushFault.{PushFault}
 use Rattle.btr_streams.specs.Past.{commits_to}
 use Rattle.btr_streams.specs.Board.{HasPast, HasTrees}
-use Rattle.btr_streams.specs.Stage.{PushCause, IsNextTree, version_rejection}
+use Rattle.btr_streams.specs.Stage.{PushCause, IsNextTree}
 use Rattle.btr_streams.proofs.BoardTrees.{made_by, bag-commits_to}
 use Rattle.btr_streams.proofs.Crowded.{room-allowed}
 

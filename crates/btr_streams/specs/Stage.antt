@@ -1,6 +1,6 @@
 -- What the functions promise that stage an entry: why none is staged, what each stream of the next board has, and what the entry
 -- writes.
-use Rattle.std.specs.Prelude.{◌≡◌, ℕ, ◌+◌, ◌-◌, ◌*◌, ◌^◌, ◌<◌, ◌≤◌, nat_le, Bool, true, false, List, [], ◌∷◌, ◌++◌, length}
+use Rattle.std.specs.Prelude.{◌≡◌, ℕ, ◌+◌, ◌-◌, ◌*◌, ◌^◌, ◌<◌, ◌≤◌, Bool, true, false, List, [], ◌∷◌, ◌++◌, length}
 use Rattle.std.specs.Prelude.{slice_get, slice_set, Option, Some, None}
 use Rattle.std.specs.Option.{option_to_list, is_some}
 use Rattle.btr_base.specs.declared.limits.TheConstants.{FIRST, MAX_STREAMS, MAX_VERSIONS}
@@ -20,9 +20,9 @@ use Rattle.btr_hist.specs.declared.entry.Entry.TheVariants.{Create, Define, Comm
 use Rattle.btr_hist.specs.declared.kernel.Spec.{Spec}
 use Rattle.btr_hist.specs.declared.kernel.Reads.{Reads}
 use Rattle.btr_hist.specs.declared.rejection.Rejection.{Rejection}
-use Rattle.btr_hist.specs.declared.rejection.Rejection.TheVariants.{VersionLimit, Crowded, TooManyPoints}
+use Rattle.btr_hist.specs.declared.rejection.Rejection.TheVariants.{Crowded, TooManyPoints}
 use Rattle.btr_hist.specs.History.{latest, new_id, new_kind, change_of, read_of}
-use Rattle.btr_hist.specs.Legal.{first_some, when, points_rejection, next_bag, rejection}
+use Rattle.btr_hist.specs.Legal.{rejection, version_rejection}
 use Rattle.btr_hist.specs.Machine as machine
 use Rattle.btr_streams.specs.declared.board.Receipt.{Receipt}
 use Rattle.btr_streams.specs.declared.board.Staged.{Staged}
@@ -89,13 +89,6 @@ pub record MakesVersion (e : Entry) (stream : ℕ) (c : Change) (read : Option R
   pub no_other_read : (other : ℕ) → (stream ≡ other → ⊥) → read_of other e ≡ None
 
 -- ---- the next version of a stream
-
--- The reason why a stream has no next version with this change, if all other tests pass.
-abbrev pub version_rejection : List Entry → ℕ → Change → Option Rejection
-version_rejection h stream c = first_some (
-    when (nat_le MAX_VERSIONS (latest h stream)) VersionLimit
-    ∷ points_rejection (next_bag h stream c)
-    ∷ [])
 
 -- The tree of the version that a commit makes.
 abbrev pub IsNextTree : List Entry → ℕ → Change → TreeValue → Type 0

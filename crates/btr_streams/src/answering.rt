@@ -10,7 +10,9 @@ ghost use Rattle.btr_streams.specs.Answering.{IsVersion, IsAskedRange, RefusesVe
 use crate::board::Board;
 use btr_base::{MAX_EXPONENT, MAX_WIDTH, Range, Toward};
 use btr_diff::changes;
-use btr_hist::{Answer, At, CellList, PointList, Query, Refusal, Rows, StreamList, StreamRow};
+use btr_hist::{
+    Answer, At, CellList, PointList, Query, Refusal, Rows, StreamList, StreamRow, VersionAsked,
+};
 use btr_scan::{nearest, range};
 use btr_tree::{Label, Steps, Tree};
 use btr_window::{aligned, windows};
@@ -33,34 +35,34 @@ impl Board {
                 from,
                 to,
                 at,
-            } => self.points(alloc, stream, from, to, at),
+            } => self.points(alloc, VersionAsked { stream, at }, from, to),
             Query::Nearest {
                 stream,
                 time,
                 toward,
                 at,
-            } => self.nearest(alloc, stream, time, toward, at),
+            } => self.nearest(alloc, VersionAsked { stream, at }, time, toward),
             Query::Aligned {
                 stream,
                 from,
                 to,
                 p,
                 at,
-            } => self.aligned(alloc, stream, from, to, p, at),
+            } => self.aligned(alloc, VersionAsked { stream, at }, from, to, p),
             Query::Windows {
                 stream,
                 from,
                 to,
                 width,
                 at,
-            } => self.windows(alloc, stream, from, to, width, at),
+            } => self.windows(alloc, VersionAsked { stream, at }, from, to, width),
             Query::Changes {
                 stream,
                 old,
                 new,
                 p,
             } => self.changes(alloc, stream, old, new, p),
-            Query::Info { stream, at } => Ok(self.info(stream, at)),
+            Query::Info { stream, at } => Ok(self.info(VersionAsked { stream, at })),
             Query::Streams => self.all_streams(alloc),
         }
     }
@@ -69,15 +71,14 @@ impl Board {
     fn points(
         &self,
         alloc: Global,
-        stream: u32,
+        asked: VersionAsked,
         from: i64,
         to: i64,
-        at: At,
     ) -> Result<Answer, AllocError>
-        ensures { (h : List EntrySpec) → IsBoardOf h self.now → IfOk result (λ a. a ≡ answer h (ask.Points stream from to at)) }
+        ensures { (h : List EntrySpec) → IsBoardOf h self.now → IfOk result (λ a. a ≡ answer h (ask.Points asked.stream from to asked.at)) }
     {
-        let (version, tree, between) = match self.asked(stream, from, to, at) {
-            Ok(asked) => asked,
+        let (version, tree, between) = match self.range_at(asked, from, to) {
+            Ok(there) => there,
             Err(refusal) => return Ok(Answer::Refused(refusal)),
         };
         let found = range(alloc, tree, between)?;
@@ -91,15 +92,14 @@ impl Board {
     fn nearest(
         &self,
         alloc: Global,
-        stream: u32,
+        asked: VersionAsked,
         time: i64,
         toward: Toward,
-        at: At,
     ) -> Result<Answer, AllocError>
-        ensures { (h : List EntrySpec) → IsBoardOf h self.now → IfOk result (λ a. a ≡ answer h (ask.Nearest stream time toward at)) }
+        ensures { (h : List EntrySpec) → IsBoardOf h self.now → IfOk result (λ a. a ≡ answer h (ask.Nearest asked.stream time toward asked.at)) }
     {
-        let (version, tree) = match self.version_at(stream, at) {
-            Ok(asked) => asked,
+        let (version, tree) = match self.version_at(asked) {
+            Ok(there) => there,
             Err(refusal) => return Ok(Answer::Refused(refusal)),
         };
         let mut steps = Steps::<AnswerWalk>::new();
@@ -117,16 +117,15 @@ impl Board {
     fn aligned(
         &self,
         alloc: Global,
-        stream: u32,
+        asked: VersionAsked,
         from: i64,
         to: i64,
         p: u8,
-        at: At,
     ) -> Result<Answer, AllocError>
-        ensures { (h : List EntrySpec) → IsBoardOf h self.now → IfOk result (λ a. a ≡ answer h (ask.Aligned stream from to p at)) }
+        ensures { (h : List EntrySpec) → IsBoardOf h self.now → IfOk result (λ a. a ≡ answer h (ask.Aligned asked.stream from to p asked.at)) }
     {
-        let (version, tree, between) = match self.asked(stream, from, to, at) {
-            Ok(asked) => asked,
+        let (version, tree, between) = match self.range_at(asked, from, to) {
+            Ok(there) => there,
             Err(refusal) => return Ok(Answer::Refused(refusal)),
         };
         if p > MAX_EXPONENT {
@@ -143,16 +142,15 @@ impl Board {
     fn windows(
         &self,
         alloc: Global,
-        stream: u32,
+        asked: VersionAsked,
         from: i64,
         to: i64,
         width: u64,
-        at: At,
     ) -> Result<Answer, AllocError>
-        ensures { (h : List EntrySpec) → IsBoardOf h self.now → IfOk result (λ a. a ≡ answer h (ask.Windows stream from to width at)) }
+        ensures { (h : List EntrySpec) → IsBoardOf h self.now → IfOk result (λ a. a ≡ answer h (ask.Windows asked.stream from to width asked.at)) }
     {
-        let (version, tree, between) = match self.asked(stream, from, to, at) {
-            Ok(asked) => asked,
+        let (version, tree, between) = match self.range_at(asked, from, to) {
+            Ok(there) => there,
             Err(refusal) => return Ok(Answer::Refused(refusal)),
         };
         if width == 0 || width > MAX_WIDTH {
@@ -176,15 +174,19 @@ impl Board {
     ) -> Result<Answer, AllocError>
         ensures { (h : List EntrySpec) → IsBoardOf h self.now → IfOk result (λ a. a ≡ answer h (ask.Changes stream old new p)) }
     {
-        let (version, newer) = match self.version_at(stream, At::Number(old.max(new))) {
-            Ok(asked) => asked,
+        let newest = At::Number(old.max(new));
+        let (version, newer) = match self.version_at(VersionAsked { stream, at: newest }) {
+            Ok(there) => there,
             Err(refusal) => return Ok(Answer::Refused(refusal)),
         };
         if old > new || p > MAX_EXPONENT {
             return Ok(Answer::Refused(Refusal::BadRange));
         }
-        let (_, older) = match self.version_at(stream, At::Number(old)) {
-            Ok(asked) => asked,
+        let (_, older) = match self.version_at(VersionAsked {
+            stream,
+            at: At::Number(old),
+        }) {
+            Ok(there) => there,
             Err(refusal) => return Ok(Answer::Refused(refusal)),
         };
         let mut steps = Steps::<AnswerWalk>::new();
@@ -197,16 +199,16 @@ impl Board {
     }
 
     /// Answers with the kind of the stream, the aggregate of a whole version, and what the version has read.
-    fn info(&self, stream: u32, at: At) -> Answer
-        ensures { (h : List EntrySpec) → IsBoardOf h self.now → result ≡ answer h (ask.Info stream at) }
+    fn info(&self, asked: VersionAsked) -> Answer
+        ensures { (h : List EntrySpec) → IsBoardOf h self.now → result ≡ answer h (ask.Info asked.stream asked.at) }
     {
-        match self.version_at(stream, at) {
+        match self.version_at(asked) {
             Ok((version, tree)) => Answer::Found {
                 version,
                 rows: Rows::Info {
-                    output: self.spec(stream).is_some(),
+                    output: self.spec(asked.stream).is_some(),
                     agg: tree.root_agg(),
-                    reads: self.reads(stream, version),
+                    reads: self.reads(asked.stream, version),
                 },
             },
             Err(refusal) => Answer::Refused(refusal),
@@ -245,14 +247,19 @@ impl Board {
     }
 
     /// Returns the version that a question asks for, its tree, and the range, or why the question is refused.
-    fn asked(&self, stream: u32, from: i64, to: i64, at: At) -> Result<(u64, &Tree, Range), Refusal>
+    fn range_at(
+        &self,
+        asked: VersionAsked,
+        from: i64,
+        to: i64,
+    ) -> Result<(u64, &Tree, Range), Refusal>
         ensures there { (h : List EntrySpec) → IsBoardOf h self.now
-            → IfOk result (λ r. IsVersion h stream (version_of h stream at) r.0 r.1.now) }
+            → IfOk result (λ r. IsVersion h asked.stream (version_of h asked.stream asked.at) r.0 r.1.now) }
         ensures range { IfOk result (λ r. IsAskedRange from to r.2) }
-        ensures refused { (h : List EntrySpec) → IsBoardOf h self.now → IfErr result (RefusesRange h stream from to at) }
+        ensures refused { (h : List EntrySpec) → IsBoardOf h self.now → IfErr result (RefusesRange h asked.stream from to asked.at) }
     {
-        let (version, tree) = match self.version_at(stream, at) {
-            Ok(asked) => asked,
+        let (version, tree) = match self.version_at(asked) {
+            Ok(there) => there,
             Err(refusal) => return Err(refusal),
         };
         match Range::new(from, to) {
@@ -262,11 +269,12 @@ impl Board {
     }
 
     /// Returns the number of the version that a question asks for, and its tree, or why the question is refused.
-    fn version_at(&self, stream: u32, at: At) -> Result<(u64, &Tree), Refusal>
+    fn version_at(&self, asked: VersionAsked) -> Result<(u64, &Tree), Refusal>
         ensures there { (h : List EntrySpec) → IsBoardOf h self.now
-            → IfOk result (λ r. IsVersion h stream (version_of h stream at) r.0 r.1.now) }
-        ensures refused { (h : List EntrySpec) → IsBoardOf h self.now → IfErr result (RefusesVersion h stream at) }
+            → IfOk result (λ r. IsVersion h asked.stream (version_of h asked.stream asked.at) r.0 r.1.now) }
+        ensures refused { (h : List EntrySpec) → IsBoardOf h self.now → IfErr result (RefusesVersion h asked.stream asked.at) }
     {
+        let VersionAsked { stream, at } = asked;
         let Some(latest) = self.latest(stream) else {
             return Err(Refusal::NoStream);
         };

@@ -5,9 +5,9 @@ ghost use Rattle.btr_base.specs.declared.limits.TheConstants.{MAX_POINTS};
 ghost use Rattle.btr_base.specs.Bag.{IsInOrder};
 ghost use Rattle.btr_base.specs.Point.{AreInDomain};
 ghost use Rattle.btr_tree.specs.Root.{IsTreeFault};
-ghost use Rattle.btr_hist.specs.Legal.{points_rejection};
+ghost use Rattle.btr_hist.specs.Legal.{version_rejection, points_rejection};
 ghost use Rattle.btr_streams.specs.Board.{HasPast, AreTrees};
-ghost use Rattle.btr_streams.specs.Stage.{PushCause, OfEachStream, IsNextCommit, IsAllowedNext, version_rejection, change_in, WritesNext};
+ghost use Rattle.btr_streams.specs.Stage.{PushCause, OfEachStream, IsNextCommit, IsAllowedNext, change_in, WritesNext};
 
 use crate::board::PushFault;
 use crate::making::TreeMaker;

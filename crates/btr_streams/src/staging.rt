@@ -3,12 +3,12 @@ ghost use Rattle.std.specs.Prelude.{◌≡◌, ◌+◌, ◌-◌, ◌^◌, ◌<�
 ghost use Rattle.btr_base.specs.declared.limits.TheConstants.{MAX_POINTS};
 ghost use Rattle.btr_hist.specs.declared.entry.Entry.{Entry as EntrySpec};
 ghost use Rattle.btr_hist.specs.declared.entry.Entry.TheVariants as entry;
-ghost use Rattle.btr_hist.specs.Legal.{rejection};
+ghost use Rattle.btr_hist.specs.Legal.{version_rejection, rejection};
 ghost use Rattle.btr_entry.specs.Grammar.{IsWithinBounds};
 ghost use Rattle.btr_streams.specs.Board.{IsBoardOf, HasStreamsOf, HasPast};
 ghost use Rattle.btr_streams.specs.Outline.{outline_of, refusal};
 ghost use Rattle.btr_streams.specs.Stage.{PushCause, IsReceipt, IsStagedEntry, IsNumbered, IsNextBoard, IsNewVersion, IsBoardWith};
-ghost use Rattle.btr_streams.specs.Stage.{version_rejection, change_in, HasRoomFor, IsTreeAfter, ReadsEntry};
+ghost use Rattle.btr_streams.specs.Stage.{change_in, HasRoomFor, IsTreeAfter, ReadsEntry};
 ghost use Rattle.btr_streams.specs.Stage.{WritesCommit, WritesStream, WritesOn, WritesEntry};
 
 use crate::board::{Board, PushFault, Receipt, Staged, Stream};

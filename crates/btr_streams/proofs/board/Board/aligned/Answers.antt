@@ -17,16 +17,16 @@ returns-in-Err c h of =
 
 pub returns-then-p-gt-MAX_EXPONENT : goal.returns-then-p-gt-MAX_EXPONENT
 returns-then-p-gt-MAX_EXPONENT c h of =
-    let s = c.args.stream in
+    let s = c.args.asked.stream in
     let bad = and_right (is_range c.args.from c.args.to) (is_power c.args.p) (lt-leb c.args.p MAX_EXPONENT c.if-p-gt-MAX_EXPONENT.true) in
-    refused h s c.in-Ok.asked.0 (version_of h s c.args.at) c.in-Ok.asked.1.now (c.in-Ok.ensures.there h of) (is_range c.args.from c.args.to && is_power c.args.p) (λ b. Cells (aligned c.args.p c.args.from c.args.to b)) bad
+    refused h s c.in-Ok.there.0 (version_of h s c.args.asked.at) c.in-Ok.there.1.now (c.in-Ok.ensures.there h of) (is_range c.args.from c.args.to && is_power c.args.p) (λ b. Cells (aligned c.args.p c.args.from c.args.to b)) bad
 
 pub returns : goal.returns
 returns c h of =
-    let s = c.args.stream in
-    let v = c.in-Ok.asked.0 in
+    let s = c.args.asked.stream in
+    let v = c.in-Ok.there.0 in
     let there = c.in-Ok.ensures.there h of in
-    let range = asked_range c.args.from c.args.to (to_z-of_z w64 c.args.from c.ranges.from) (to_z-of_z w64 c.args.to c.ranges.to) c.in-Ok.asked.2 c.in-Ok.ensures.range in
+    let range = asked_range c.args.from c.args.to (to_z-of_z w64 c.args.from c.ranges.from) (to_z-of_z w64 c.args.to c.ranges.to) c.in-Ok.there.2 c.in-Ok.ensures.range in
     let good = and_from (is_range c.args.from c.args.to) (is_power c.args.p) range.good (power_good c.args.p (omega arith)) in
     let rows = c.in_ok-found.ensures (commits_to h s v) there.tree ∙ ap (λ r. aligned c.args.p r.from r.to (tree.bag (commits_to h s v))) range.is in
-    found h s v (version_of h s c.args.at) c.in-Ok.asked.1.now there (is_range c.args.from c.args.to && is_power c.args.p) (λ b. Cells (aligned c.args.p c.args.from c.args.to b)) (Cells c.from_cells.result) good (ap Cells (c.from_cells.ensures ∙ rows))
+    found h s v (version_of h s c.args.asked.at) c.in-Ok.there.1.now there (is_range c.args.from c.args.to && is_power c.args.p) (λ b. Cells (aligned c.args.p c.args.from c.args.to b)) (Cells c.from_cells.result) good (ap Cells (c.from_cells.ensures ∙ rows))

@@ -34,7 +34,7 @@ returns-in-Err-version_at c h of =
 pub returns : goal.returns
 returns c h of =
     let s = c.args.stream in
-    let v = c.in-Ok.asked.0 in
+    let v = c.in-Ok.there.0 in
     let old = c.args.old in
     let new = c.args.new in
     let good = and_from (nat_le old new) (is_power c.args.p) (le-leb old new c.if-old-new.false) (power_good c.args.p c.if-p-gt-MAX_EXPONENT.false) in
@@ -43,9 +43,9 @@ returns c h of =
     let last : v ≡ new = omega (arith, asked, c.if-old-new.false) in
     let both = sym (up_to-commits_to h s old new c.if-old-new.false (omega (arith, is.made, last))) in
     let before = c.in-Ok-version_at.ensures.there h of in
-    let older_tree = subst (λ n. IsTree (commits_to h s n) c.in-Ok-version_at.asked.1.now) before.same before.tree in
-    let newer_tree = subst (λ n. IsTree (commits_to h s n) c.in-Ok.asked.1.now) last is.tree in
+    let older_tree = subst (λ n. IsTree (commits_to h s n) c.in-Ok-version_at.there.1.now) before.same before.tree in
+    let newer_tree = subst (λ n. IsTree (commits_to h s n) c.in-Ok.there.1.now) last is.tree in
     let runs = c.in_ok-found.ensures.runs (commits_to h s old) (commits_to h s new) (subst (IsTree (commits_to h s old)) (sym c.uncounted-older.ensures) older_tree) newer_tree both in
     let older = ap (λ b. changes c.args.p b (tree.bag (commits_to h s new))) (bag-commits_to h s old) in
     let newer = ap (λ w. changes c.args.p (bag h s old) (tree.bag (commits_to h s w))) (sym last) in
-    found h s v (max old new) c.in-Ok.asked.1.now (record { known = is.known; made = is.made; same = asked; tree = is.tree }) (nat_le old new && is_power c.args.p) (λ b. Ranges (changes c.args.p (bag h s old) b)) (Ranges c.in_ok-found.found) good (ap Ranges (runs ∙ older ∙ newer))
+    found h s v (max old new) c.in-Ok.there.1.now (record { known = is.known; made = is.made; same = asked; tree = is.tree }) (nat_le old new && is_power c.args.p) (λ b. Ranges (changes c.args.p (bag h s old) b)) (Ranges c.in_ok-found.found) good (ap Ranges (runs ∙ older ∙ newer))

@@ -15,9 +15,9 @@ use Rattle.btr_streams.proofs.board.Board.info.Goals as goal
 
 pub returns-in-Ok : goal.returns-in-Ok
 returns-in-Ok c h of =
-    let s = c.args.stream in
+    let s = c.args.asked.stream in
     let v = c.in-Ok.version in
-    let asked = version_of h s c.args.at in
+    let asked = version_of h s c.args.asked.at in
     let there = c.in-Ok.ensures.there h of in
     let all = c.root_agg.ensures (commits_to h s v) there.tree ∙ within_domain (tree.bag (commits_to h s v)) there.tree.times in
     let output : c.is_some.result ≡ is_output h s = c.is_some.ensures ∙ ap (is_some {T = Spec}) (c.spec.ensures h of) in
@@ -29,4 +29,4 @@ returns-in-Ok c h of =
 
 pub returns-in-Err : goal.returns-in-Err
 returns-in-Err c h of =
-    c.in-Err.ensures.refused h of true (λ b. Info (is_output h c.args.stream) (agg_within FIRST END b) (read_by h c.args.stream (version_of h c.args.stream c.args.at)))
+    c.in-Err.ensures.refused h of true (λ b. Info (is_output h c.args.asked.stream) (agg_within FIRST END b) (read_by h c.args.asked.stream (version_of h c.args.asked.stream c.args.asked.at)))

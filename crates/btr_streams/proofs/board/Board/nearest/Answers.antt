@@ -14,8 +14,8 @@ returns-in-Err c h of = c.in-Err.ensures.refused h of true (λ b. Points (list_o
 
 pub returns : goal.returns
 returns c h of =
-    let s = c.args.stream in
-    let v = c.in-Ok.asked.0 in
+    let s = c.args.asked.stream in
+    let v = c.in-Ok.there.0 in
     let there = c.in-Ok.ensures.there h of in
     let time = ap (λ t. nearest c.args.toward t (tree.bag (commits_to h s v))) (to_z-of_z w64 c.args.time c.ranges.time) in
     let point = c.nearest.ensures.point (commits_to h s v) there.tree ∙ time in
@@ -23,4 +23,4 @@ returns c h of =
       | in-Some+in_ok-push w ↦ ap (λ f. f.items) w.found-is ∙ w.in_ok-push.ensures.items ∙ ap (λ ps. ps ++ w.in-Some.point ∷ []) c.new-found.ensures.items ∙ sym (ap list_of w.in-Some.is)
       | in_default w ↦ ap (λ f. f.items) w.found-is ∙ c.new-found.ensures.items ∙ sym (ap list_of w.in_default.is)
     ] in
-    found h s v (version_of h s c.args.at) c.in-Ok.asked.1.now there true (λ b. Points (list_of (nearest c.args.toward c.args.time b))) (Points c.from_points.result) refl (ap Points (c.from_points.ensures ∙ one ∙ ap list_of point))
+    found h s v (version_of h s c.args.asked.at) c.in-Ok.there.1.now there true (λ b. Points (list_of (nearest c.args.toward c.args.time b))) (Points c.from_points.result) refl (ap Points (c.from_points.ensures ∙ one ∙ ap list_of point))

@@ -6,9 +6,9 @@ use Rattle.btr_hist.specs.declared.entry.Entry.{Entry}
 use Rattle.btr_hist.specs.declared.entry.Entry.TheVariants.{Commit}
 use Rattle.btr_hist.specs.declared.kernel.Spec.{Spec}
 use Rattle.btr_hist.specs.History.{ids, is_output}
-use Rattle.btr_hist.specs.Legal.{rejection, change_rejection}
+use Rattle.btr_hist.specs.Legal.{version_rejection, rejection, change_rejection}
 use Rattle.btr_streams.specs.Board.{Versions, Kept, IsBoardOf}
-use Rattle.btr_streams.specs.Stage.{PushCause, change, version_rejection}
+use Rattle.btr_streams.specs.Stage.{PushCause, change}
 use Rattle.btr_streams.proofs.BoardStreamLemmas.{commit-makes}
 use Rattle.btr_streams.proofs.BoardCommits.{change-times, commit-tests}
 use Rattle.btr_streams.proofs.BoardNext.{kept-stream, stream-grown}

@@ -4,10 +4,10 @@ use Rattle.std.proofs.lemmas.Result.{on_ok_weaker, IfOk-weaker}
 use Rattle.btr_hist.specs.declared.entry.Entry.{Entry}
 use Rattle.btr_hist.specs.declared.entry.Entry.TheVariants.{Distillate}
 use Rattle.btr_hist.specs.History.{ids, spec_of}
-use Rattle.btr_hist.specs.Legal.{rejection, takes_reads, distillate_change_rejection}
+use Rattle.btr_hist.specs.Legal.{version_rejection, rejection, takes_reads, distillate_change_rejection}
 use Rattle.btr_board.specs.Numbers.{number_of}
 use Rattle.btr_streams.specs.Board.{Versions, Kept, IsBoardOf}
-use Rattle.btr_streams.specs.Stage.{PushCause, change, version_rejection}
+use Rattle.btr_streams.specs.Stage.{PushCause, change}
 use Rattle.btr_streams.proofs.BoardStreamLemmas.{distillate-makes}
 use Rattle.btr_streams.proofs.BoardCommits.{distillate-times, distillate-tests}
 use Rattle.btr_streams.proofs.StreamsLemmas.{has-streams, stream-of, takes-of}
