@@ -21,7 +21,7 @@ use Rattle.btr_tree.specs.Slots.{slot_in, child_in}
 use Rattle.btr_tree.specs.Shape.{slot_start, HasSlots, HasChildren, IsChild}
 use Rattle.btr_tree.proofs.NodeLemmas.{slot-at, points-slot}
 use Rattle.btr_tree.proofs.CutLemmas.{outside-alike, outside-nothing}
-use Rattle.btr_tree.proofs.UntouchedNodeLemmas.{many-inner, some-has}
+use Rattle.btr_tree.proofs.UntouchedNodeLemmas.{many-inner}
 use Rattle.btr_tree.proofs.BuiltNodeLemmas.{inner-child}
 use Rattle.btr_tree.proofs.SlotSplitLemmas.{IsPartedAt, parted-at}
 use Rattle.btr_tree.specs.Change.{IsFresh, IsChange, IsApplied, IsInnerOf, slot_at, end_of}
@@ -96,11 +96,6 @@ kept-all f (p ∷ b) =
       | true ↦ shorter (length (filter (λ q. not (f q)) b)) (length b) less
       | false ↦ both (length (filter (λ q. not (f q)) b)) (length b) ∙ rest
     ]
-
-pub untouched-added : (k : ℕ) (s : ℤ) (h : Past) (c : Commit) (cut : List RangeValue) (added : List Point) (v : ℕ) → IsChange k s c cut added v → 0 < length added → false ≡ not (touches c k s (bag h))
-untouched-added k s h c cut added v ch some =
-    let has : has_points (points_of k s c.added) ≡ true = ap has_points (sym ch.points) ∙ some-has added some in
-    sym (ap (λ t. not (t || list_any (λ p. covered c.cut p.time) (points_of k s (bag h)))) has)
 
 pub untouched-kept : (k : ℕ) (s : ℤ) (h : Past) (c : Commit) (cut : List RangeValue) (added : List Point) (v left count : ℕ) → IsChange k s c cut added v → added ≡ [] → left ≡ length (outside (points_of k s (bag h)) cut) → count ≡ length (points_of k s (bag h)) → eqb left count ≡ not (touches c k s (bag h))
 untouched-kept k s h c cut added v left count ch none e f =

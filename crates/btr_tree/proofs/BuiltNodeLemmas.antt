@@ -123,10 +123,6 @@ pub record HasFirst (below : ℕ) (s : ℤ) (h : Past) (n : ℕ) (x : Slots) : T
   pub slots : (i : ℕ) → i < n → slot_in x i ≡ slot_of_points (suc below) s below (slot_start below s i) h
   pub children : (i : ℕ) → i < n → IsChild below (slot_start below s i) (is_inner (suc below) s) h (child_in x i)
 
-pub first-none_yet : (below : ℕ) (s : ℤ) (h : Past) (x : Slots) → HasFirst below s h 0 x
-first-none_yet below s h x =
-    record { slots = λ i lt. absurd (omega arith); children = λ i lt. absurd (omega arith) }
-
 -- A slot more, which was put.
 pub first-put : (below : ℕ) (s : ℤ) (h : Past) (n : ℕ) (old new : Slots) (slot : Slot) (child : Option NodeData) → IsPut n slot child old new → HasFirst below s h n old → slot ≡ slot_of_points (suc below) s below (slot_start below s n) h → IsChild below (slot_start below s n) (is_inner (suc below) s) h child → HasFirst below s h (n + 1) new
 first-put below s h n old new slot child put holds e last =

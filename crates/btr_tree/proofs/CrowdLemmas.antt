@@ -24,9 +24,6 @@ room-none a xs j low high = absurd (omega (arith, ints))
 pub room-join : (a m b : ℤ) (xs : List Point) → HasNoCrowdedSpan a m xs → HasNoCrowdedSpan m b xs → HasNoCrowdedSpan a b xs
 room-join a m b xs h k j low high = by_lt_z (bottom j) m (λ lt. h j low lt) (λ le. k j le high)
 
-pub room-to : (a m b : ℤ) (xs : List Point) → m ≤ℤ b → HasNoCrowdedSpan a b xs → HasNoCrowdedSpan a m xs
-room-to a m b xs le h j low high = h j low (omega (arith, ints))
-
 -- Each bottom span that starts before the end ends by it.
 abbrev pub Whole : ℤ → Type 0
 Whole b = (j : ℕ) → bottom j <ℤ b → (bottom j +ℤ pos (width 0)) ≤ℤ b
@@ -50,10 +47,6 @@ bottom-same a b xs j whole low high =
 pub room-part : (a b : ℤ) (xs : List Point) → Whole b → HasNoCrowdedSpan a b (within a b xs) → HasNoCrowdedSpan a b xs
 room-part a b xs whole h j low high =
     subst (λ ps. length ps ≤ LEAF_POINTS) (bottom-same a b xs j whole low high) (h j low high)
-
-pub room-of : (a b : ℤ) (xs : List Point) → Whole b → HasNoCrowdedSpan a b xs → HasNoCrowdedSpan a b (within a b xs)
-room-of a b xs whole h j low high =
-    subst (λ ps. length ps ≤ LEAF_POINTS) (sym (bottom-same a b xs j whole low high)) (h j low high)
 
 -- The first crowded span of a part is that of the whole if there is none before the part.
 pub crowd-part : (a b c d : ℤ) (xs : List Point) (start : ℤ) (j : ℕ) → Whole d → a ≤ℤ c → d ≤ℤ b → HasNoCrowdedSpan a c xs → IsFirstCrowd c d (within c d xs) start j → IsFirstCrowd a b xs start j

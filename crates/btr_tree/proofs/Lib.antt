@@ -10,6 +10,7 @@ pub mod NodeLemmas
 pub mod OpenedLemmas
 pub mod PartLemmas
 pub mod PlaceLemmas
+pub mod RangeSlotLemmas
 pub mod ReadLemmas
 pub mod RootLemmas
 pub mod SharedLemmas

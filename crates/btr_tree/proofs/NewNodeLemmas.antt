@@ -11,7 +11,7 @@ use Rattle.btr_base.specs.Span.{SpanValue}
 use Rattle.btr_base.specs.declared.limits.TheConstants.{LEAF_POINTS}
 use Rattle.btr_tree.specs.declared.node.Slot.{Slot}
 use Rattle.btr_tree.specs.History.{Commit, Past, Opened, ◌▷◌, bag, IsBefore}
-use Rattle.btr_tree.specs.Change.{CountsNodes, IsInnerOf, IsLeafOf}
+use Rattle.btr_tree.specs.Change.{CountsNodes, IsInnerOf}
 use Rattle.btr_tree.specs.Nodes.{points_of, has_points, touches, is_inner, is_node, last_change, node_version}
 use Rattle.btr_tree.proofs.VersionLemmas.{points-untouched}
 use Rattle.btr_tree.specs.declared.node.Link.{Link}
@@ -88,16 +88,6 @@ points-of_leaf n v ps e = ap points_of_kind (ap out-NodeData e ∙ out-leaf v ps
 pub points-of_inner : {b : ℕ} (n : NodeData) (v : ℕ) (x : Slots) → n ≡ Inner b v x → points_of_node (Some n) ≡ []
 unfolding points_of_node
 points-of_inner n v x e = ap points_of_kind (ap out-NodeData e ∙ out-inner v x)
-
--- The points of a leaf that was made, and of an inner node that was made.
-kind-points : (v : ℕ) (ps : List Point) (n : NodeData-F NodeData Link Kept Slots) → ByKind (λ w qs. (w ≡ v) × (qs ≡ ps)) (λ w y. ⊥) n → points_of_kind n ≡ ps
-kind-points v ps (NodeData-F.Leaf block version points) is = is.1
-kind-points v ps (NodeData-F.Inner block version slots) is = absurd is
-
-pub points-of_made : (v : ℕ) (ps : List Point) (o : Option NodeData) → IsLeafOf v ps o → points_of_node o ≡ ps
-unfolding points_of_node
-points-of_made v ps None is = absurd is
-points-of_made v ps (Some n) is = kind-points v ps (out-NodeData n) is
 
 -- The slots of no node, of a leaf and of an inner node.
 pub slots-of_none : slots_of_node None ≡ []
@@ -257,17 +247,6 @@ stop-more a x y m = omega arith
 
 pub counts-none : (a : ℕ) (xs : List NewNodeValue) → CountsNodes a a xs xs
 counts-none a xs = record { grows = omega arith; keeps = λ i lt. refl; none = λ _. refl; some = λ less. absurd (omega arith) }
-
-pub counts-one : (a b : ℕ) (xs ys : List NewNodeValue) (x : NewNodeValue) → ys ≡ xs ++ x ∷ [] → b ≡ min (a + 1) 18446744073709551615 → CountsNodes a b xs ys
-counts-one a b xs ys x e n =
-    let long : length ys ≡ length xs + 1 = ap (length {A = NewNodeValue}) e ∙ length_push xs x in
-    let one : length ys - length xs ≡ 1 = omega arith in
-    record {
-      grows = omega arith;
-      keeps = λ i lt. ap (λ (zs : List NewNodeValue). slice_get zs i) e ∙ get-front xs x i lt;
-      none = λ same. absurd (omega arith);
-      some = λ _. n ∙ sym (ap (λ k. min (a + k) 18446744073709551615) one);
-    }
 
 pub counts-more : (a b c : ℕ) (xs ys zs : List NewNodeValue) → CountsNodes a b xs ys → CountsNodes b c ys zs → CountsNodes a c xs zs
 counts-more a b c xs ys zs f s =

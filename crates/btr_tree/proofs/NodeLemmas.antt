@@ -1,5 +1,5 @@
 -- Lemmas on nodes of a history: what a leaf and an inner node are, and how the slots part a span.
-use Rattle.std.specs.Prelude.{◌≡◌, ℕ, ◌+◌, ◌-◌, ◌*◌, ◌<◌, ◌≤◌, ℤ, pos, ◌+ℤ◌, ◌≤ℤ◌, Bool, List, [], ◌++◌, length, Option, Some, None, Vec}
+use Rattle.std.specs.Prelude.{◌≡◌, ℕ, ◌+◌, ◌-◌, ◌*◌, ◌^◌, ◌<◌, ◌≤◌, ℤ, pos, ◌+ℤ◌, ◌≤ℤ◌, Bool, List, [], ◌++◌, length, Option, Some, None, Vec}
 use Rattle.std.proofs.Common.{zero, suc, refl, sym, ap, ◌∙◌, arith, subst, Bor, mul-le-mul_right}
 use Rattle.std.proofs.lemmas.Int.{ints}
 use Rattle.std.specs.Option.{option_map}
@@ -26,7 +26,7 @@ use Rattle.btr_tree.specs.Slots.{node_of, slot_in, child_in}
 use Rattle.btr_tree.specs.History.{bag, Past}
 use Rattle.btr_tree.specs.Nodes.{points_of, is_inner}
 use Rattle.btr_tree.proofs.VersionLemmas.{bag-in_order}
-use Rattle.btr_tree.specs.Change.{joined_first}
+use Rattle.btr_tree.specs.Change.{joined_first, IsSomeChild, AreSomeSlots}
 use Rattle.btr_tree.specs.Shape.{ByKind, slot_start, IsLeaf, IsInner, HasSlots, HasChildren, IsNodeData, IsNode, IsChild}
 
 -- ---- a node in memory
@@ -74,14 +74,6 @@ inner-at (suc k) s above h v x holds =
 pub inner-is : (k : ℕ) (s : ℤ) (above : List Point → Bool) (h : Past) (n : Node) (v : ℕ) (x : Bor Slots) → n ≡ seen.Inner v x → IsNode k s above h n → IsBody k s above h v x.now
 inner-is k s above h n v x e holds = inner-at k s above h v x (subst (IsNode k s above h) e holds)
 
-pub inner-seen : (k : ℕ) (s : ℤ) (above : List Point → Bool) (h : Past) (v : ℕ) (x : Bor Slots) → IsBody k s above h v x.now → IsNode k s above h (seen.Inner v x)
-inner-seen zero s above h v x body = absurd (grind (arith, body.height))
-inner-seen (suc k) s above h v x body =
-    let same : body.below ≡ k = omega (arith, body.height) in (
-      subst (λ j. IsInner j s above h v x.now) same body.inner,
-      subst (λ j. HasChildren j s h x.now) same body.each,
-    )
-
 -- ---- a link
 
 pub child-is : (k : ℕ) (s : ℤ) (above : List Point → Bool) (h : Past) (child : Child) (a : Bor (Arc NodeData Global)) → child.node ≡ Some a → IsChild k s above h (node_of child) → IsNodeData k s above h a.now.value
@@ -95,10 +87,29 @@ none-is k s above h child e holds =
 pub child-same : (k : ℕ) (s : ℤ) (above : List Point → Bool) (h : Past) (p q : Option NodeData) → q ≡ p → IsChild k s above h p → IsChild k s above h q
 child-same k s above h p q e holds = subst (IsChild k s above h) (sym e) holds
 
+-- ---- the slots of an inner node, if its points can be counted together with `more` others
+
+slots-of : (k : ℕ) (s : ℤ) (above : List Point → Bool) (h : Past) (v : ℕ) (x : Slots) (more : ℕ) → IsBody k s above h v x → length (points_of k s (bag h)) + more < 2 ^ 64 → (below : ℕ) × (k ≡ suc below) × AreSomeSlots below s x more
+slots-of k s above h v x more body few =
+    let below_few = subst (λ j. length (points_of j s (bag h)) + more < 2 ^ 64) body.height few in
+    (body.below, body.height, record { commits = h; holds = body.inner.all; each = body.each; few = below_few })
+
+pub some-slots : {b : ℕ} (k : ℕ) (s : ℤ) (more : ℕ) (child : Child) (a : Bor (Arc NodeData Global)) (v : ℕ) (x : Slots) → child.node ≡ Some a → a.now.value ≡ Inner b v x → IsSomeChild k s (node_of child) more → (below : ℕ) × (k ≡ suc below) × AreSomeSlots below s x more
+some-slots k s more child a v x e is some =
+    slots-of k s some.above some.commits v x more (inner_data-is k s some.above some.commits a.now.value v x is (child-is k s some.above some.commits child a e some.holds)) some.few
+
+-- Those of a node that was visited.
+pub seen-slots : (k : ℕ) (s : ℤ) (more : ℕ) (child : Option NodeData) (n : Node) (v : ℕ) (x : Bor Slots) → (some : IsSomeChild k s child more) → n ≡ seen.Inner v x → IsNode k s some.above some.commits n → (below : ℕ) × (k ≡ suc below) × AreSomeSlots below s x.now more
+seen-slots k s more child n v x some e node =
+    slots-of k s some.above some.commits v x.now more (inner-is k s some.above some.commits n v x e node) some.few
+
 -- ---- the slots of a span
 
 pub slot-next : (below : ℕ) (s : ℤ) (i : ℕ) → slot_start below s (i + 1) ≡ slot_start below s i +ℤ pos (width below)
 slot-next below s i = let e : (i + 1) * width below ≡ i * width below + width below = omega arith in omega (arith, ints)
+
+pub slot-order : (below : ℕ) (s : ℤ) (i j : ℕ) → i ≤ j → slot_start below s i ≤ℤ slot_start below s j
+slot-order below s i j le = let up = mul-le-mul_right (width below) le in omega (arith, ints)
 
 pub slot-end : (below : ℕ) (s : ℤ) → slot_start below s 64 ≡ s +ℤ pos (width (suc below))
 slot-end below s = let e = width-next below in omega (arith, ints)

@@ -1,8 +1,8 @@
 -- Lemmas on trees that are made of nodes that were read: their base is glued of the bases of their parts.
-use Rattle.std.specs.Prelude.{◌≡◌, ◌⊎◌, ℕ, ◌+◌, ◌-◌, ◌<◌, ◌≤◌, ℤ, pos, ◌+ℤ◌, ◌≤ℤ◌, ◌<ℤ◌, int_le, int_lt, Bool, true, false, ◌&&◌, cond, nat_lt, List, [], ◌∷◌, ◌++◌, length, get_or, Option, Some, None, IfSome, if◌then◌else◌}
+use Rattle.std.specs.Prelude.{◌≡◌, ◌⊎◌, ℕ, ◌+◌, ◌-◌, ◌<◌, ◌≤◌, ℤ, pos, ◌+ℤ◌, ◌≤ℤ◌, ◌<ℤ◌, int_le, Bool, true, false, cond, nat_lt, List, [], ◌++◌, length, get_or, Option, Some, None, IfSome, if◌then◌else◌}
 use Rattle.std.specs.Prelude.{◌^◌, Vec}
 use Rattle.std.specs.declared.alloc.Global.{Global}
-use Rattle.std.proofs.Common.{zero, suc, refl, sym, ap, ◌∙◌, arith, subst, inl, inr, append-nil, mul-le-mul_right}
+use Rattle.std.proofs.Common.{zero, suc, refl, sym, ap, ◌∙◌, arith, subst, inl, inr, append-nil}
 use Rattle.std.proofs.lemmas.Int.{ints}
 use Rattle.std.proofs.lemmas.Bool.Decides.{nat_tests}
 use Rattle.std.proofs.Math.Nat.{eq-or-lt_of_le}
@@ -34,7 +34,8 @@ use Rattle.btr_tree.specs.Slots.{slot_in, child_in, block_of, block_of_kind, Are
 use Rattle.btr_tree.specs.Packed.{without_address}
 use Rattle.btr_tree.proofs.BuiltNodeLemmas.{by_kind-weaker, slots-same, children-same}
 use Rattle.btr_tree.proofs.NewNodeLemmas.{first-none}
-use Rattle.btr_tree.proofs.NodeLemmas.{out-leaf, slot-next, slot-from, slot-inside, slot-part, points-slot, joined-suc, joined-none, total-of}
+use Rattle.btr_tree.proofs.NodeLemmas.{out-leaf, slot-next, slot-order, slot-from, slot-inside, slot-part, points-slot, joined-suc, joined-none, total-of}
+use Rattle.btr_tree.proofs.RangeSlotLemmas.{within-apart}
 use Rattle.btr_tree.proofs.UntouchedNodeLemmas.{slot-same}
 
 -- ---- nodes of one base are nodes of another that is alike in the span
@@ -141,24 +142,8 @@ part-glued (Some t) span below v i p high =
 
 -- ---- points of parts
 
-apart : (a b c d t : ℤ) → b ≤ℤ c → ((int_le a t && int_lt t b) && (int_le c t && int_lt t d)) ≡ false
-apart a b c d t h = grind (arith, ints)
-
-within-apart : (a b c d : ℤ) (xs : List Point) → b ≤ℤ c → within c d (within a b xs) ≡ []
-within-apart a b c d [] h = refl
-within-apart a b c d (p ∷ xs) h =
-    elim (is_within a b p) as (λ u. is_within a b p ≡ u → within c d (cond u (p ∷ within a b xs) (within a b xs)) ≡ []) [
-      | false ↦ λ _. within-apart a b c d xs h
-      | true ↦ λ e.
-          let out : is_within c d p ≡ false = grind (arith, ints) in
-          ap (λ t. cond t (p ∷ within c d (within a b xs)) (within c d (within a b xs))) out ∙ within-apart a b c d xs h
-    ] refl
-
 within-swap : (a b c d : ℤ) (xs : List Point) → within c d (within a b xs) ≡ within a b (within c d xs)
 within-swap a b c d xs = filter-swap (is_within c d) (is_within a b) xs
-
-slot-rises : (below : ℕ) (s : ℤ) (i j : ℕ) → i ≤ j → slot_start below s i ≤ℤ slot_start below s j
-slot-rises below s i j le = let up = mul-le-mul_right (width below) le in omega (arith, ints)
 
 order : (i j : ℕ) → (i ≤ j) ⊎ (j < i)
 order i j =
@@ -178,10 +163,10 @@ other-slot below s i j xs ne inside =
         | inl e ↦ absurd (ne (sym e))
         | inr lt ↦ ap (points_of below (slot_start below s i)) (sym inside)
             ∙ within-swap (slot_start below s j) (slot_start below s j +ℤ pos w) (slot_start below s i) (slot_start below s i +ℤ pos w) xs
-            ∙ (let up = slot-rises below s (i + 1) j (omega arith) in within-apart (slot_start below s i) (slot_start below s i +ℤ pos w) (slot_start below s j) (slot_start below s j +ℤ pos w) xs (omega (arith, ints)))
+            ∙ (let up = slot-order below s (i + 1) j (omega arith) in within-apart (slot_start below s i) (slot_start below s i +ℤ pos w) (slot_start below s j) (slot_start below s j +ℤ pos w) xs (omega (arith, ints)))
       ]
       | inr lt ↦ ap (points_of below (slot_start below s i)) (sym inside)
-          ∙ (let up = slot-rises below s (j + 1) i (omega arith) in within-apart (slot_start below s j) (slot_start below s j +ℤ pos w) (slot_start below s i) (slot_start below s i +ℤ pos w) xs (omega (arith, ints)))
+          ∙ (let up = slot-order below s (j + 1) i (omega arith) in within-apart (slot_start below s j) (slot_start below s j +ℤ pos w) (slot_start below s i) (slot_start below s i +ℤ pos w) xs (omega (arith, ints)))
     ]
 
 within-concat : (a b : ℤ) (n : ℕ) (f : ℕ → List Point) → within a b (concat_first n f) ≡ concat_first n (λ i. within a b (f i))
@@ -254,7 +239,7 @@ pick-at below s d zero i k t le low high = let e : 0 ≡ i = omega arith in ap (
 pick-at below s d (suc n) i k t le low high =
     elim (eq-or-lt_of_le le) [
       | inl e ↦ (let yes : int_le (slot_start below s (suc n)) t ≡ true = is-from (slot_start below s (suc n)) t (subst (λ j. slot_start below s j ≤ℤ t) e low) in ap (λ u. cond u (d (suc n) k t) (pick below s d n k t)) yes ∙ sym (ap (λ j. d j k t) e))
-      | inr less ↦ (let up = slot-rises below s (i + 1) (suc n) (omega arith) in let next = slot-next below s i in let no : int_le (slot_start below s (suc n)) t ≡ false = not-from (slot_start below s (suc n)) t (omega (arith, ints)) in ap (λ u. cond u (d (suc n) k t) (pick below s d n k t)) no ∙ pick-at below s d n i k t (omega arith) low high)
+      | inr less ↦ (let up = slot-order below s (i + 1) (suc n) (omega arith) in let next = slot-next below s i in let no : int_le (slot_start below s (suc n)) t ≡ false = not-from (slot_start below s (suc n)) t (omega (arith, ints)) in ap (λ u. cond u (d (suc n) k t) (pick below s d n k t)) no ∙ pick-at below s d n i k t (omega arith) low high)
     ]
 
 pick-older : (below : ℕ) (s : ℤ) (d : ℕ → ℕ → ℤ → ℕ) (v : ℕ) → ((i k : ℕ) (t : ℤ) → d i k t ≤ v) → (n k : ℕ) (t : ℤ) → pick below s d n k t ≤ v

@@ -38,11 +38,11 @@ use Rattle.btr_tree.proofs.CrowdLemmas.{Whole, room-none, room-join, room-part, 
 use Rattle.btr_tree.proofs.AppliedNodeLemmas.{change-after}
 use Rattle.btr_tree.proofs.RootLemmas.{domain-after, root-change, root-points, tree-of, tree-none}
 use Rattle.btr_tree.proofs.BuiltNodeLemmas.{slot-fresh, slot-new, slot-made, inner-child_at, version-fresh}
-use Rattle.btr_tree.proofs.NodeLemmas.{slot-part, slot-next}
+use Rattle.btr_tree.proofs.NodeLemmas.{slot-order, slot-part, slot-next}
 use Rattle.btr_tree.proofs.NewNodeLemmas.{first-next, reported-more, bare-push, new_nodes-inner_at}
 use Rattle.btr_tree.proofs.NewNodeCountLemmas.{new_nodes-points}
 use Rattle.btr_tree.proofs.UntouchedNodeLemmas.{many-inner, child-counted}
-use Rattle.btr_tree.proofs.SharedLemmas.{slot-order, slot_from-is, slot_from-first, slot_from-last, whole-split, alone, alone-fresh}
+use Rattle.btr_tree.proofs.SharedLemmas.{slot_from-is, slot_from-first, slot_from-last, whole-split, alone, alone-fresh}
 use Rattle.btr_tree.proofs.SlotSplitLemmas.{parted-inside}
 use Rattle.btr_tree.proofs.StoredLemmas.{stored-below, laid-inner}
 
@@ -351,10 +351,6 @@ one-part span i version first points slot child old new reported height place pu
       few = subst (λ k. length reported ≤ k * length points) (sub-add_one span.height height) b.few;
       room = subst (λ e. HasNoCrowdedSpan (slot_from span i) e points) (sym (slot-next (span.height - 1) s i)) b.room;
     }
-
-pub one-fault : (span : SpanValue) (i : ℕ) (points : List Point) (e : TreeFault) → IsCrowdedFault (slot_of span i).start (end_of (slot_of span i)) points e → IsPartFault span i (i + 1) points e
-one-fault span i points e f =
-    subst (λ x. IsCrowdedFault (slot_from span i) x points e) (sym (slot-next (span.height - 1) span.start i)) f
 
 -- ---- all slots
 

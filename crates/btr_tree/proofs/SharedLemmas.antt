@@ -1,6 +1,6 @@
 -- Lemmas on parts of the slots of a span, whose nodes several threads build.
 use Rattle.std.specs.Prelude.{◌≡◌, ◌⊎◌, ℕ, ◌+◌, ◌-◌, ◌*◌, ◌<◌, ◌≤◌, ℤ, pos, ◌+ℤ◌, ◌≤ℤ◌, int_le, int_lt, Bool, true, ◌&&◌, ◌||◌, cond, List, [], ◌++◌, length}
-use Rattle.std.proofs.Common.{zero, suc, refl, sym, ap, ◌∙◌, arith, subst, inl, inr, mul-le-mul_right, mul-add, length-append}
+use Rattle.std.proofs.Common.{zero, suc, refl, sym, ap, ◌∙◌, arith, subst, inl, inr, mul-add, length-append}
 use Rattle.std.proofs.Math.Nat.{eq-or-lt_of_le, le_of_mul-le-mul_left}
 use Rattle.std.proofs.lemmas.Int.{ints}
 use Rattle.btr_base.specs.declared.point.Point.{Point}
@@ -19,15 +19,12 @@ use Rattle.btr_tree.specs.Shape.{slot_start}
 use Rattle.btr_tree.specs.Slots.{slot_in, child_in, IsFilled, IsPut}
 use Rattle.btr_tree.specs.Change.{IsFresh, end_of}
 use Rattle.btr_tree.specs.Shared.{slot_from, slot_nodes, IsSplitPart, AreJoined}
-use Rattle.btr_tree.proofs.NodeLemmas.{slot-next, slot-end}
+use Rattle.btr_tree.proofs.NodeLemmas.{slot-next, slot-end, slot-order}
 use Rattle.btr_tree.proofs.NewNodeLemmas.{first-next, few-inner, own-here}
 use Rattle.btr_tree.proofs.UntouchedNodeLemmas.{many-inner}
 use Rattle.btr_tree.proofs.SlotSplitLemmas.{IsPartedAt}
 
 -- ---- where slots begin
-
-pub slot-order : (below : ℕ) (s : ℤ) (a b : ℕ) → a ≤ b → slot_start below s a ≤ℤ slot_start below s b
-slot-order below s a b le = let m = mul-le-mul_right (width below) le in omega (arith, ints)
 
 pub slot_from-is : (span : SpanValue) (below i : ℕ) → span.height ≡ suc below → slot_from span i ≡ slot_start below span.start i
 slot_from-is span below i high =

@@ -126,12 +126,11 @@ CanBuildAll w = IsWork w.span w.points.now w.numbering.first
 abbrev pub CanBuildPart : PartWork → Type 0
 CanBuildPart w = IsPartWork w.span w.from w.to w.points.now w.numbering.first
 
--- The first half can be built, and the second, if it is built from the same block on.
-abbrev pub CanBuildFront : Halves → Type 0
-CanBuildFront w = IsPartWork w.span w.from w.mid w.front.now w.numbering.first
-
-abbrev pub CanBuildBack : Halves → Type 0
-CanBuildBack w = IsPartWork w.span w.mid w.to w.back.now w.numbering.first
+-- Each half can be built from the first block on, and the second one after the first.
+pub record CanBuildHalves (w : Halves) : Type 0 where
+  pub front : IsPartWork w.span w.from w.mid w.front.now w.numbering.first
+  pub back : IsPartWork w.span w.mid w.to w.back.now w.numbering.first
+  pub room : w.numbering.first + 11 * (length w.front.now + length w.back.now) ≤ 2 ^ 62
 
 -- The subtree was built.
 abbrev pub IsBuiltFor : Work → Option NodeData → List NewNodeValue → Type 0

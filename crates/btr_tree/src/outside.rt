@@ -1,5 +1,5 @@
 //! What a cut leaves of a span, found without a look into the slots that it misses or covers whole.
-ghost use Rattle.std.specs.Prelude.{◌≡◌, ◌<◌, ◌≤◌, ◌^◌, ◌+◌, ◌++◌, ◌-◌, ℕ, ℤ, suc, true, Bool, List, length, IfOk, OnOk, ◌≤ℤ◌, ◌<ℤ◌};
+ghost use Rattle.std.specs.Prelude.{◌≡◌, ◌<◌, ◌≤◌, ◌+◌, ◌++◌, ◌-◌, ℕ, ℤ, suc, true, length, IfOk, OnOk, ◌≤ℤ◌, ◌<ℤ◌};
 ghost use Rattle.btr_base.specs.Bag.{IsInOrder, outside};
 ghost use Rattle.btr_base.specs.Range.{IsCut, covered};
 ghost use Rattle.btr_tree.specs.History.{bag};
@@ -11,27 +11,6 @@ use crate::node::{Child, NodeData};
 use crate::slots::Slots;
 use btr_base::{FAN_OUT, Point, Range, Span, points_outside, ranges_before, ranges_from};
 use std::alloc::{AllocError, Global};
-
-/// Counts the points of a child that a cut leaves.
-#[cycle(count)]
-fn count_outside_child(
-    alloc: Global,
-    span: Span,
-    child: Child<'_>,
-    cut: &[Range],
-) -> Result<u64, AllocError>
-    requires some { IsSomeChild span.height span.start (node_of child) 0 }
-    requires cut { IsCut cut.now }
-    ensures { IfOk result (λ n. AtEachHistory span (node_of child.entry) (λ h. n ≡ length (outside (points_in span (bag h)) cut.now))) }
-{
-    match child.node {
-        None => Ok(0),
-        Some(node) => match &**node {
-            NodeData::Leaf { points, .. } => count_outside_points(alloc, points, cut),
-            NodeData::Inner { slots, .. } => count_outside_slots(alloc, span, slots, cut),
-        },
-    }
-}
 
 /// Counts the points of a leaf that a cut leaves.
 fn count_outside_points(alloc: Global, points: &[Point], cut: &[Range]) -> Result<u64, AllocError>
@@ -64,7 +43,7 @@ pub(crate) fn count_outside_slots(
     Ok(left)
 }
 
-/// Counts the points of a slot that a cut leaves. The slot has `count` points.
+/// Counts the points of a slot, which has `count` points and whose node is `child`, that a cut leaves.
 #[cycle(count)]
 pub(crate) fn count_outside_slot(
     alloc: Global,
@@ -85,28 +64,11 @@ pub(crate) fn count_outside_slot(
     if covers_all(here, span) {
         return Ok(0);
     }
-    count_outside_child(alloc, span, child, here)
-}
-
-/// Appends to `out` the points of a child that a cut leaves.
-#[cycle(gather)]
-fn gather_outside_child(
-    alloc: Global,
-    span: Span,
-    child: Child<'_>,
-    cut: &[Range],
-    out: &mut Vec<Point>,
-) -> Result<(), AllocError>
-    requires some { IsSomeChild span.height span.start (node_of child) 0 }
-    requires cut { IsCut cut.now }
-    ensures { OnOk result (AtEachHistory span (node_of child.entry) (λ h.
-        out.new.items ≡ out.old.items ++ outside (points_in span (bag h)) cut.now)) }
-{
     match child.node {
-        None => Ok(()),
+        None => Ok(0),
         Some(node) => match &**node {
-            NodeData::Leaf { points, .. } => gather_outside_points(alloc, points, cut, out),
-            NodeData::Inner { slots, .. } => gather_outside_slots(alloc, span, slots, cut, out),
+            NodeData::Leaf { points, .. } => count_outside_points(alloc, points, here),
+            NodeData::Inner { slots, .. } => count_outside_slots(alloc, span, slots, here),
         },
     }
 }
@@ -146,7 +108,7 @@ pub(crate) fn gather_outside_slots(
     Ok(())
 }
 
-/// Appends to `out` the points of a slot that a cut leaves.
+/// Appends to `out` the points of a slot, whose node is `child`, that a cut leaves.
 #[cycle(gather)]
 fn gather_outside_slot(
     alloc: Global,
@@ -164,7 +126,13 @@ fn gather_outside_slot(
     if covers_all(here, span) {
         return Ok(());
     }
-    gather_outside_child(alloc, span, child, here, out)
+    match child.node {
+        None => Ok(()),
+        Some(node) => match &**node {
+            NodeData::Leaf { points, .. } => gather_outside_points(alloc, points, here, out),
+            NodeData::Inner { slots, .. } => gather_outside_slots(alloc, span, slots, here, out),
+        },
+    }
 }
 
 /// Whether the first range of a cut covers the whole span.

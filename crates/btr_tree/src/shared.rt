@@ -1,12 +1,12 @@
 //! New nodes of given points, built by several threads.
-ghost use Rattle.std.specs.Prelude.{◌≡◌, ◌<◌, ◌≤◌, ◌+◌, ◌*◌, ◌++◌, ◌^◌, length, IfOk, IfErr};
+ghost use Rattle.std.specs.Prelude.{◌≡◌, ◌<◌, ◌≤◌, ◌+◌, ◌++◌, length, IfOk, IfErr};
 ghost use Rattle.std.specs.Thread.{IsSync};
 ghost use Rattle.btr_base.specs.Bag.{IsInOrder};
 ghost use Rattle.btr_tree.specs.Change.{end_of};
 ghost use Rattle.btr_tree.specs.Crowd.{IsCrowdedFault};
 ghost use Rattle.btr_tree.specs.Slots.{linked, base_of, IsFilled};
 ghost use Rattle.btr_tree.specs.Shared.{IsPartWork, IsBuiltPart, CountsAll, IsPartFault, AreJoined};
-ghost use Rattle.btr_tree.specs.Shared.{CanBuildAll, CanBuildPart, CanBuildFront, CanBuildBack, IsBuiltFor, IsPartFor, IsFrontFor, IsBackFor};
+ghost use Rattle.btr_tree.specs.Shared.{CanBuildAll, CanBuildPart, CanBuildHalves, IsBuiltFor, IsPartFor, IsFrontFor, IsBackFor};
 ghost use Rattle.btr_tree.specs.Shared.{IsFaultFor, IsFaultOfHalves};
 
 use crate::aggregate::agg_of_child;
@@ -207,9 +207,7 @@ fn build_two<R: Threads + Sync>(
     threads: usize,
     steps: &mut Steps<Forked>,
 ) -> Result<(Part, Part), TreeFault>
-    requires front { CanBuildFront halves.now }
-    requires back { CanBuildBack halves.now }
-    requires room { halves.now.numbering.first + 11 * (length halves.now.front.now + length halves.now.back.now) ≤ 2 ^ 62 }
+    requires { CanBuildHalves halves.now }
     ensures front { IfOk result (λ r. IsFrontFor halves.now r.0.slots r.0.nodes.items) }
     ensures back { IfOk result (λ r. IsBackFor halves.now (length r.0.nodes.items) r.1.slots r.1.nodes.items) }
     ensures counted { IfOk result (λ r. CountsAll steps.old steps.new (r.0.nodes.items ++ r.1.nodes.items)) }
@@ -252,9 +250,7 @@ fn build_at_once<R: Threads + Sync>(
     threads: usize,
     steps: &mut Steps<Forked>,
 ) -> Result<(Part, Part), TreeFault>
-    requires front { CanBuildFront halves.now }
-    requires back { CanBuildBack halves.now }
-    requires room { halves.now.numbering.first + 11 * (length halves.now.front.now + length halves.now.back.now) ≤ 2 ^ 62 }
+    requires halves { CanBuildHalves halves.now }
     requires many { (2 ≤ threads) × (252 < length halves.now.front.now) }
     ensures front { IfOk result (λ r. IsFrontFor halves.now r.0.slots r.0.nodes.items) }
     ensures back { IfOk result (λ r. IsBackFor halves.now (length r.0.nodes.items) r.1.slots r.1.nodes.items) }

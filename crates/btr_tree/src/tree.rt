@@ -2,13 +2,13 @@ ghost use Rattle.std.specs.Prelude.{◌≡◌, ◌⊎◌, None, ◌≤◌, ◌^�
 ghost use Rattle.btr_base.specs.Agg.{agg};
 ghost use Rattle.btr_base.specs.Point.{AreInDomain};
 ghost use Rattle.btr_base.specs.declared.limits.TheConstants.{FIRST as FIRST_TIME};
-ghost use Rattle.btr_tree.specs.History.{Past, bag, nothing, ◌▷◌};
+ghost use Rattle.btr_tree.specs.History.{Past, bag, nothing};
 ghost use Rattle.btr_tree.specs.Nodes.{above_root};
 ghost use Rattle.btr_tree.specs.Shape.{IsChild};
 ghost use Rattle.btr_tree.specs.Change.{IsSomeChild};
 ghost use Rattle.btr_tree.specs.Slots.{node_of, block_of};
-ghost use Rattle.btr_tree.specs.Root.{IsTree, IsTreeFault, AfterCommit, AtEachTree, root_part, version_of};
-ghost use Rattle.btr_tree.specs.Applied.{IsCommitApplied};
+ghost use Rattle.btr_tree.specs.Root.{IsTree, AtEachTree, root_part, version_of};
+ghost use Rattle.btr_tree.specs.Applied.{IsAppliedTo, IsApplyFault};
 
 use crate::aggregate::agg_of_child;
 use crate::apply::apply_slot;
@@ -160,10 +160,8 @@ impl Tree {
     ) -> Result<Applied, TreeFault>
         requires added { AreInDomain commit.now.added.now }
         requires first { (1 ≤ commit.now.first) × (commit.now.first ≤ 2 ^ 33) }
-        ensures applied { IfOk result (IsCommitApplied self.now commit.now.version commit.now.cut.now commit.now.added.now
-            commit.now.first steps.old steps.new) }
-        ensures fault { IfErr result (λ e. AfterCommit self.now commit.now.version commit.now.cut.now commit.now.added.now (λ h c.
-            IsTreeFault (bag (c ▷ h)) e)) }
+        ensures applied { IfOk result (IsAppliedTo self.now commit.now steps.old steps.new) }
+        ensures fault { IfErr result (IsApplyFault self.now commit.now) }
     {
         prove!(steps.count() <= u64::MAX);
         let mut nodes = Vec::new(alloc);
@@ -213,10 +211,8 @@ impl Tree {
     ) -> Result<Applied, TreeFault>
         requires added { AreInDomain commit.now.added.now }
         requires first { (1 ≤ commit.now.first) × (commit.now.first ≤ 2 ^ 33) }
-        ensures applied { IfOk result (IsCommitApplied self.now commit.now.version commit.now.cut.now commit.now.added.now
-            commit.now.first steps.old steps.new) }
-        ensures fault { IfErr result (λ e. AfterCommit self.now commit.now.version commit.now.cut.now commit.now.added.now (λ h c.
-            IsTreeFault (bag (c ▷ h)) e)) }
+        ensures applied { IfOk result (IsAppliedTo self.now commit.now steps.old steps.new) }
+        ensures fault { IfErr result (IsApplyFault self.now commit.now) }
     {
         let points = commit.added.as_slice();
         let count = points.len();

@@ -1,6 +1,5 @@
 use Rattle.std.proofs.Common.{◌∙◌, ◌++◌, ◌∷◌, [], refl, ap}
 use Rattle.btr_tree.specs.NewNodes.{points_of_node}
-use Rattle.btr_tree.specs.Slots.{linked}
 use Rattle.btr_tree.proofs.NewNodeLemmas.{new_node-by, points-of_leaf}
 use Rattle.btr_tree.proofs.build.push_leaf.Goals as goal
 

@@ -4,7 +4,7 @@ use Rattle.btr_tree.specs.Shape.{slot_start}
 use Rattle.btr_base.proofs.AggLemmas.{agg-count}
 use Rattle.btr_tree.specs.Change.{end_of}
 use Rattle.std.proofs.lemmas.Bool.Decides.{nat_tests}
-use Rattle.std.proofs.Common.{◌≡◌, ℕ, suc, ◌+◌, ◌<◌, ◌^◌, ◌++◌, ◌∷◌, [], true, List, length, refl, sym, ap, ◌∙◌, subst, arith, length-append, ◌==◌}
+use Rattle.std.proofs.Common.{◌≡◌, ℕ, suc, ◌+◌, ◌++◌, ◌∷◌, [], true, List, length, refl, sym, ap, ◌∙◌, subst, arith, length-append, ◌==◌}
 use Rattle.std.proofs.lemmas.Int.{ints}
 use Rattle.btr_base.specs.declared.point.Point.{Point}
 use Rattle.btr_base.specs.Bag.{outside, within, IsInOrder}
@@ -12,7 +12,7 @@ use Rattle.btr_base.specs.Range.{RangeValue, covered}
 use Rattle.btr_tree.specs.History.{bag}
 use Rattle.btr_tree.specs.Nodes.{points_of, is_inner}
 use Rattle.btr_tree.proofs.CutLemmas.{outside-alike, outside-whole, outside-missed, here-alike, outside-append, outside-length}
-use Rattle.btr_tree.proofs.NodeLemmas.{child-is, leaf_data-is, inner_data-is, slot-at, slot-few, prefix-none, prefix-part, prefix-done, prefix-fewer}
+use Rattle.btr_tree.proofs.NodeLemmas.{child-is, leaf_data-is, inner_data-is, slot-at, slot-few, some-slots, prefix-none, prefix-part, prefix-done, prefix-fewer}
 use Rattle.btr_tree.proofs.VersionLemmas.{points-in_order}
 use Rattle.btr_tree.proofs.outside.+count.Goals as goal
 
@@ -24,26 +24,32 @@ count-more : (before here next : List Point) (cut : List RangeValue) (m n : ℕ)
 count-more before here next cut m n e p q =
     omega (arith, ap (λ x. length (outside x cut)) e, ap length (outside-append before here cut), length-append (outside before cut) (outside here cut))
 
-pub count_outside_child-count_outside_points-requires-clause-order : goal.count_outside_child-count_outside_points-requires-clause-order
-count_outside_child-count_outside_points-requires-clause-order t c =
+pub count_outside_slot-count_outside_points-requires-clause-order : goal.count_outside_slot-count_outside_points-requires-clause-order
+count_outside_slot-count_outside_points-requires-clause-order t c =
     let st = c.requires.some in
     let node = child-is c.args.span.height c.args.span.start st.above st.commits c.args.child c.in-Some.node c.in-Some.is st.holds in
     let leaf = leaf_data-is c.args.span.height c.args.span.start st.above st.commits c.in-Some.node.now.value c.in-Leaf.version c.in-Leaf.points (sym c.deref.ensures ∙ c.in-Leaf.is) node in
     subst IsInOrder (sym (c.deref-in-Leaf.ensures.value ∙ leaf.same)) (points-in_order c.args.span.height c.args.span.start st.commits)
 
-pub count_outside_child-returns-in-Leaf : goal.count_outside_child-returns-in-Leaf
-count_outside_child-returns-in-Leaf t c =
-    IfOk-weaker c.count_outside_points.result _ _ (λ n e above h holds.
+pub count_outside_slot-returns-in-Leaf : goal.count_outside_slot-returns-in-Leaf
+count_outside_slot-returns-in-Leaf t c =
+    let begin = ap (λ p. p.start) c.span.view_is in
+    let end = c.end.ensures.end in
+    let alike = here-alike c.args.span.start (end_of c.args.span) c.args.cut.now c.ranges_from.result.now c.ranges_before-here.result.now (λ u low. c.ranges_from.ensures.times u (omega (arith, ints))) (λ u high. c.ranges_before-here.ensures.times u (omega (arith, ints))) in
+    IfOk-weaker c.count_outside_points.result _ _ (λ n e above h holds count.
     let node = child-is c.args.span.height c.args.span.start above h c.args.child c.in-Some.node c.in-Some.is holds in
     let leaf = leaf_data-is c.args.span.height c.args.span.start above h c.in-Some.node.now.value c.in-Leaf.version c.in-Leaf.points (sym c.deref.ensures ∙ c.in-Leaf.is) node in
-    e ∙ ap (λ x. length (outside x c.args.cut.now)) (c.deref-in-Leaf.ensures.value ∙ leaf.same)) c.count_outside_points.ensures
+    e ∙ ap (λ x. length (outside x c.ranges_before-here.result.now)) (c.deref-in-Leaf.ensures.value ∙ leaf.same) ∙ ap length (outside-alike c.args.span.start (end_of c.args.span) (bag h) c.ranges_before-here.result.now c.args.cut.now alike)) c.count_outside_points.ensures
 
-pub count_outside_child-returns-in-Inner : goal.count_outside_child-returns-in-Inner
-count_outside_child-returns-in-Inner t c =
-    IfOk-weaker c.count_outside_slots.result _ _ (λ n e above h holds.
+pub count_outside_slot-returns-in-Inner : goal.count_outside_slot-returns-in-Inner
+count_outside_slot-returns-in-Inner t c =
+    let begin = ap (λ p. p.start) c.span.view_is in
+    let end = c.end.ensures.end in
+    let alike = here-alike c.args.span.start (end_of c.args.span) c.args.cut.now c.ranges_from.result.now c.ranges_before-here.result.now (λ u low. c.ranges_from.ensures.times u (omega (arith, ints))) (λ u high. c.ranges_before-here.ensures.times u (omega (arith, ints))) in
+    IfOk-weaker c.count_outside_slots.result _ _ (λ n e above h holds count.
     let node = child-is c.args.span.height c.args.span.start above h c.args.child c.in-Some.node c.in-Some.is holds in
     let body = inner_data-is c.args.span.height c.args.span.start above h c.in-Some.node.now.value c.in-Inner.version c.in-Inner.slots (sym c.deref.ensures ∙ c.in-Inner.is) node in
-    e body.below h body.height body.inner.all body.each) c.count_outside_slots.ensures
+    e body.below h body.height body.inner.all body.each ∙ ap length (outside-alike c.args.span.start (end_of c.args.span) (bag h) c.ranges_before-here.result.now c.args.cut.now alike)) c.count_outside_slots.ensures
 
 pub count_outside_slot-returns-then-is_empty : goal.count_outside_slot-returns-then-is_empty
 count_outside_slot-returns-then-is_empty t c above h holds count =
@@ -61,13 +67,6 @@ count_outside_slot-returns-then-covers_all t c above h holds count =
     let alike = here-alike c.args.span.start (end_of c.args.span) c.args.cut.now c.ranges_from.result.now c.ranges_before-here.result.now (λ u low. c.ranges_from.ensures.times u (omega (arith, ints))) (λ u high. c.ranges_before-here.ensures.times u (omega (arith, ints))) in
     let gone = outside-whole c.args.span.start (end_of c.args.span) (bag h) c.args.cut.now (λ u low high. sym (alike u low high) ∙ c.covers_all.ensures c.if-covers_all.true u low high) in
     sym (ap length gone)
-
-pub count_outside_slot-returns : goal.count_outside_slot-returns
-count_outside_slot-returns t c =
-    let begin = ap (λ p. p.start) c.span.view_is in
-    let end = c.end.ensures.end in
-    let alike = here-alike c.args.span.start (end_of c.args.span) c.args.cut.now c.ranges_from.result.now c.ranges_before-here.result.now (λ u low. c.ranges_from.ensures.times u (omega (arith, ints))) (λ u high. c.ranges_before-here.ensures.times u (omega (arith, ints))) in
-    IfOk-weaker c.count_outside_child.result _ _ (λ n e above h holds count. e above h holds ∙ ap length (outside-alike c.args.span.start (end_of c.args.span) (bag h) c.ranges_before-here.result.now c.args.cut.now alike)) c.count_outside_child.ensures
 
 pub count_outside_slots-loop-i-init : goal.count_outside_slots-loop-i-init
 count_outside_slots-loop-i-init t c below h e slots each =
@@ -121,26 +120,9 @@ count_outside_slots-returns t c below h e slots each =
     c.loop-i.invariant below h e slots each
     ∙ ap (λ x. length (outside x c.args.cut.now)) (prefix-done c.args.span.height below c.args.span.start c.loop-i.i h (omega arith) e)
 
-pub count_outside_child-count_outside_slots-requires : goal.count_outside_child-count_outside_slots-requires
-count_outside_child-count_outside_slots-requires t c =
-    let st = c.requires.some in
-    let span = c.args.span in
-    let node = child-is span.height span.start st.above st.commits c.args.child c.in-Some.node c.in-Some.is st.holds in
-    let body = inner_data-is span.height span.start st.above st.commits c.in-Some.node.now.value c.in-Inner.version c.in-Inner.slots (sym c.deref.ensures ∙ c.in-Inner.is) node in
+pub count_outside_slot-count_outside_slots-requires : goal.count_outside_slot-count_outside_slots-requires
+count_outside_slot-count_outside_slots-requires t c =
     let d = c.decreases in
-    let high = body.height in (
-      omega arith,
-      (
-        (
-          body.below,
-          high,
-          record {
-            commits = st.commits;
-            holds = body.inner.all;
-            each = body.each;
-            few = subst (λ k. length (points_of k span.start (bag st.commits)) + 0 < 2 ^ 64) high st.few;
-          },
-        ),
-        c.requires.cut,
-      ),
-    )
+    let some = some-slots c.args.span.height c.args.span.start 0 c.args.child c.in-Some.node c.in-Inner.version c.in-Inner.slots c.in-Some.is (sym c.deref.ensures ∙ c.in-Inner.is) c.requires.some in
+    let high = some.1 in
+    (omega arith, (some, c.ranges_before-here.ensures.cut))

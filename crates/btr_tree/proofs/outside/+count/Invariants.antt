@@ -8,11 +8,8 @@ use Rattle.btr_tree.proofs.outside.+count.Given as goal
 abbrev pub invariant-count_outside_slots-loop-i : goal.invariant-count_outside_slots-loop-i
 invariant-count_outside_slots-loop-i l = (below : ℕ) (h : Past) → l.span.height ≡ suc below → HasSlots below l.span.start h l.slots → HasChildren below l.span.start h l.slots → l.left ≡ length (outside (within l.span.start (slot_start below l.span.start l.i) (bag h)) l.cut)
 
-abbrev pub decreases-count_outside_child : goal.decreases-count_outside_child
-decreases-count_outside_child l = 3 * l.span.height + 1
-
 abbrev pub decreases-count_outside_slots : goal.decreases-count_outside_slots
-decreases-count_outside_slots l = 3 * l.span.height
+decreases-count_outside_slots l = 2 * l.span.height
 
 abbrev pub decreases-count_outside_slot : goal.decreases-count_outside_slot
-decreases-count_outside_slot l = 3 * l.span.height + 2
+decreases-count_outside_slot l = 2 * l.span.height + 1

@@ -2,7 +2,7 @@ use Rattle.std.proofs.lemmas.Result.{on_ok_weaker}
 use Rattle.btr_tree.specs.Slots.{node_of}
 use Rattle.btr_tree.specs.Shape.{slot_start}
 use Rattle.btr_tree.specs.Change.{end_of}
-use Rattle.std.proofs.Common.{◌≡◌, suc, ◌+◌, ◌<◌, ◌^◌, ◌++◌, List, length, sym, ap, ◌∙◌, subst, arith, append-nil, append_assoc}
+use Rattle.std.proofs.Common.{◌≡◌, suc, ◌+◌, ◌++◌, List, sym, ap, ◌∙◌, subst, arith, append-nil, append_assoc}
 use Rattle.std.proofs.lemmas.Int.{ints}
 use Rattle.btr_base.specs.declared.point.Point.{Point}
 use Rattle.btr_base.specs.Bag.{outside, within, IsInOrder}
@@ -10,7 +10,7 @@ use Rattle.btr_base.specs.Range.{RangeValue}
 use Rattle.btr_tree.specs.History.{bag}
 use Rattle.btr_tree.specs.Nodes.{points_of, is_inner}
 use Rattle.btr_tree.proofs.CutLemmas.{outside-alike, outside-whole, here-alike, outside-append}
-use Rattle.btr_tree.proofs.NodeLemmas.{child-is, leaf_data-is, inner_data-is, child-at, slot-few, prefix-none, prefix-part, prefix-done}
+use Rattle.btr_tree.proofs.NodeLemmas.{child-is, leaf_data-is, inner_data-is, child-at, slot-few, some-slots, prefix-none, prefix-part, prefix-done}
 use Rattle.btr_tree.proofs.VersionLemmas.{points-in_order}
 use Rattle.btr_tree.proofs.outside.+gather.Goals as goal
 
@@ -21,26 +21,32 @@ points-more before here next cut old mid new e p q =
     ∙ append_assoc old (outside before cut) (outside here cut)
     ∙ sym (ap (λ x. old ++ x) (ap (λ x. outside x cut) e ∙ outside-append before here cut))
 
-pub gather_outside_child-gather_outside_points-requires-clause-order : goal.gather_outside_child-gather_outside_points-requires-clause-order
-gather_outside_child-gather_outside_points-requires-clause-order t c =
+pub gather_outside_slot-gather_outside_points-requires-clause-order : goal.gather_outside_slot-gather_outside_points-requires-clause-order
+gather_outside_slot-gather_outside_points-requires-clause-order t c =
     let st = c.requires.some in
     let node = child-is c.args.span.height c.args.span.start st.above st.commits c.args.child c.in-Some.node c.in-Some.is st.holds in
     let leaf = leaf_data-is c.args.span.height c.args.span.start st.above st.commits c.in-Some.node.now.value c.in-Leaf.version c.in-Leaf.points (sym c.deref.ensures ∙ c.in-Leaf.is) node in
     subst IsInOrder (sym (c.deref-in-Leaf.ensures.value ∙ leaf.same)) (points-in_order c.args.span.height c.args.span.start st.commits)
 
-pub gather_outside_child-returns-in-Leaf : goal.gather_outside_child-returns-in-Leaf
-gather_outside_child-returns-in-Leaf t c =
+pub gather_outside_slot-returns-in-Leaf : goal.gather_outside_slot-returns-in-Leaf
+gather_outside_slot-returns-in-Leaf t c =
+    let begin = ap (λ p. p.start) c.span.view_is in
+    let end = c.end.ensures.end in
+    let alike = here-alike c.args.span.start (end_of c.args.span) c.args.cut.now c.ranges_from.result.now c.ranges_before-here.result.now (λ u low. c.ranges_from.ensures.times u (omega (arith, ints))) (λ u high. c.ranges_before-here.ensures.times u (omega (arith, ints))) in
     on_ok_weaker c.gather_outside_points.result (λ e above h holds.
     let node = child-is c.args.span.height c.args.span.start above h c.args.child c.in-Some.node c.in-Some.is holds in
     let leaf = leaf_data-is c.args.span.height c.args.span.start above h c.in-Some.node.now.value c.in-Leaf.version c.in-Leaf.points (sym c.deref.ensures ∙ c.in-Leaf.is) node in
-    e ∙ ap (λ x. c.args.out.now.items ++ outside x c.args.cut.now) (c.deref-in-Leaf.ensures.value ∙ leaf.same)) c.gather_outside_points.ensures
+    e ∙ ap (λ x. c.args.out.now.items ++ outside x c.ranges_before-here.result.now) (c.deref-in-Leaf.ensures.value ∙ leaf.same) ∙ ap (λ x. c.args.out.now.items ++ x) (outside-alike c.args.span.start (end_of c.args.span) (bag h) c.ranges_before-here.result.now c.args.cut.now alike)) c.gather_outside_points.ensures
 
-pub gather_outside_child-returns-in-Inner : goal.gather_outside_child-returns-in-Inner
-gather_outside_child-returns-in-Inner t c =
+pub gather_outside_slot-returns-in-Inner : goal.gather_outside_slot-returns-in-Inner
+gather_outside_slot-returns-in-Inner t c =
+    let begin = ap (λ p. p.start) c.span.view_is in
+    let end = c.end.ensures.end in
+    let alike = here-alike c.args.span.start (end_of c.args.span) c.args.cut.now c.ranges_from.result.now c.ranges_before-here.result.now (λ u low. c.ranges_from.ensures.times u (omega (arith, ints))) (λ u high. c.ranges_before-here.ensures.times u (omega (arith, ints))) in
     on_ok_weaker c.gather_outside_slots.result (λ e above h holds.
     let node = child-is c.args.span.height c.args.span.start above h c.args.child c.in-Some.node c.in-Some.is holds in
     let body = inner_data-is c.args.span.height c.args.span.start above h c.in-Some.node.now.value c.in-Inner.version c.in-Inner.slots (sym c.deref.ensures ∙ c.in-Inner.is) node in
-    e body.below h body.height body.inner.all body.each) c.gather_outside_slots.ensures
+    e body.below h body.height body.inner.all body.each ∙ ap (λ x. c.args.out.now.items ++ x) (outside-alike c.args.span.start (end_of c.args.span) (bag h) c.ranges_before-here.result.now c.args.cut.now alike)) c.gather_outside_slots.ensures
 
 pub gather_outside_slot-returns-then-covers_all : goal.gather_outside_slot-returns-then-covers_all
 gather_outside_slot-returns-then-covers_all t c above h holds =
@@ -49,13 +55,6 @@ gather_outside_slot-returns-then-covers_all t c above h holds =
     let alike = here-alike c.args.span.start (end_of c.args.span) c.args.cut.now c.ranges_from.result.now c.ranges_before-here.result.now (λ u low. c.ranges_from.ensures.times u (omega (arith, ints))) (λ u high. c.ranges_before-here.ensures.times u (omega (arith, ints))) in
     let gone = outside-whole c.args.span.start (end_of c.args.span) (bag h) c.args.cut.now (λ u low high. sym (alike u low high) ∙ c.covers_all.ensures c.if-covers_all.true u low high) in
     sym (ap (λ x. c.args.out.now.items ++ x) gone ∙ append-nil c.args.out.now.items)
-
-pub gather_outside_slot-returns : goal.gather_outside_slot-returns
-gather_outside_slot-returns t c =
-    let begin = ap (λ p. p.start) c.span.view_is in
-    let end = c.end.ensures.end in
-    let alike = here-alike c.args.span.start (end_of c.args.span) c.args.cut.now c.ranges_from.result.now c.ranges_before-here.result.now (λ u low. c.ranges_from.ensures.times u (omega (arith, ints))) (λ u high. c.ranges_before-here.ensures.times u (omega (arith, ints))) in
-    on_ok_weaker c.gather_outside_child.result (λ e above h holds. e above h holds ∙ ap (λ x. c.args.out.now.items ++ x) (outside-alike c.args.span.start (end_of c.args.span) (bag h) c.ranges_before-here.result.now c.args.cut.now alike)) c.gather_outside_child.ensures
 
 pub gather_outside_slots-loop-i-init : goal.gather_outside_slots-loop-i-init
 gather_outside_slots-loop-i-init t c below h e slots each =
@@ -87,26 +86,9 @@ gather_outside_slots-returns t c below h e slots each =
     c.loop-i.invariant below h e slots each
     ∙ ap (λ x. c.args.out.now.items ++ outside x c.args.cut.now) (prefix-done c.args.span.height below c.args.span.start c.loop-i.i h (omega arith) e)
 
-pub gather_outside_child-gather_outside_slots-requires : goal.gather_outside_child-gather_outside_slots-requires
-gather_outside_child-gather_outside_slots-requires t c =
-    let st = c.requires.some in
-    let span = c.args.span in
-    let node = child-is span.height span.start st.above st.commits c.args.child c.in-Some.node c.in-Some.is st.holds in
-    let body = inner_data-is span.height span.start st.above st.commits c.in-Some.node.now.value c.in-Inner.version c.in-Inner.slots (sym c.deref.ensures ∙ c.in-Inner.is) node in
+pub gather_outside_slot-gather_outside_slots-requires : goal.gather_outside_slot-gather_outside_slots-requires
+gather_outside_slot-gather_outside_slots-requires t c =
     let d = c.decreases in
-    let high = body.height in (
-      omega arith,
-      (
-        (
-          body.below,
-          high,
-          record {
-            commits = st.commits;
-            holds = body.inner.all;
-            each = body.each;
-            few = subst (λ k. length (points_of k span.start (bag st.commits)) + 0 < 2 ^ 64) high st.few;
-          },
-        ),
-        c.requires.cut,
-      ),
-    )
+    let some = some-slots c.args.span.height c.args.span.start 0 c.args.child c.in-Some.node c.in-Inner.version c.in-Inner.slots c.in-Some.is (sym c.deref.ensures ∙ c.in-Inner.is) c.requires.some in
+    let high = some.1 in
+    (omega arith, (some, c.ranges_before-here.ensures.cut))

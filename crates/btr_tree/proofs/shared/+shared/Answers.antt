@@ -12,7 +12,7 @@ use Rattle.btr_tree.specs.Shared.{slot_nodes, IsBuilt, IsBuiltPart}
 use Rattle.btr_tree.specs.Slots.{linked, node_of}
 use Rattle.btr_tree.proofs.NodeLemmas.{child-same}
 use Rattle.btr_tree.proofs.SharedLemmas.{alone, alone-fresh, alone-part}
-use Rattle.btr_tree.proofs.PartLemmas.{later-room, later-work, halved, front-work, back-work, halves-fault, part-joined, counted-reported, one-inside, one-part, whole-work, whole-fault, whole-built}
+use Rattle.btr_tree.proofs.PartLemmas.{later-room, later-work, halved, front-work, back-work, both-room, halves-fault, part-joined, counted-reported, one-inside, one-part, whole-work, whole-fault, whole-built}
 use Rattle.btr_tree.proofs.UntouchedNodeLemmas.{child-counted}
 use Rattle.btr_tree.proofs.shared.+shared.Goals as goal
 
@@ -21,7 +21,7 @@ use Rattle.btr_tree.proofs.shared.+shared.Goals as goal
 pub build_at_once-returns-clause-back : goal.build_at_once-returns-clause-back
 build_at_once-returns-clause-back g t c =
     let below = c.args.halves.now.span.height - 1 in
-    let w = c.requires.front in
+    let w = c.requires.halves.front in
     let some = w.height in
     let high : c.args.halves.now.span.height ≡ suc below = omega arith in
     let split = alone-part below c.args.halves.now.span c.args.halves.now.from c.args.halves.now.mid c.args.halves.now.numbering.version c.args.halves.now.front.now high w.place c.requires.many.1 w.order w.inside in
@@ -33,7 +33,7 @@ build_at_once-returns-clause-back g t c =
 pub build_at_once-overflow_add-after : goal.build_at_once-overflow_add-after
 build_at_once-overflow_add-after g t c =
     let span = c.args.halves.now.span in
-    let most = later-room span c.args.halves.now.numbering.first c.count_slots-count.result (length c.args.halves.now.front.now) (length c.args.halves.now.back.now) (subst IsSpan c.span.view_is c.span.invariant) c.count_slots-count.ensures.few c.requires.room in
+    let most = later-room span c.args.halves.now.numbering.first c.count_slots-count.result (length c.args.halves.now.front.now) (length c.args.halves.now.back.now) (subst IsSpan c.span.view_is c.span.invariant) c.count_slots-count.ensures.few c.requires.halves.room in
     omega arith
 
 pub build_two-build_part-requires-2-after_bounds : goal.build_two-build_part-requires-2-after_bounds
@@ -69,19 +69,16 @@ build_one-returns-clause-part g t c =
 
 -- ---- some slots
 
-pub build_part-build_two-requires-clause-front : goal.build_part-build_two-requires-clause-front
-build_part-build_two-requires-clause-front g t c κs outlives =
+pub build_part-build_two-requires-after_bounds : goal.build_part-build_two-requires-after_bounds
+build_part-build_two-requires-after_bounds g t c κs outlives =
     let aligned : IsSpan (slot_of c.args.work.now.span c.middle-mid.result) = subst IsSpan (c.parted.view_is ∙ c.slot.ensures) c.parted.invariant in
     let begin = ap (λ (p : SpanValue). p.start) (c.parted.view_is ∙ c.slot.ensures) in
     let h = halved c.args.work.now.span c.args.work.now.from c.middle-mid.result c.args.work.now.to c.args.work.now.points.now c.parted-2.result.0.now c.parted-2.result.1.now _ c.middle-mid.ensures.0 c.middle-mid.ensures.1 aligned (omega (arith, ints)) c.requires.inside c.parted-2.ensures.before c.parted-2.ensures.from c.parted-2.ensures.all in
-    front-work c.args.work.now.span c.args.work.now.from c.middle-mid.result c.args.work.now.to c.args.work.now.points.now c.parted-2.result.0.now c.parted-2.result.1.now c.args.work.now.numbering.first c.requires h
-
-pub build_part-build_two-requires-clause-back : goal.build_part-build_two-requires-clause-back
-build_part-build_two-requires-clause-back g t c κs outlives =
-    let aligned : IsSpan (slot_of c.args.work.now.span c.middle-mid.result) = subst IsSpan (c.parted.view_is ∙ c.slot.ensures) c.parted.invariant in
-    let begin = ap (λ (p : SpanValue). p.start) (c.parted.view_is ∙ c.slot.ensures) in
-    let h = halved c.args.work.now.span c.args.work.now.from c.middle-mid.result c.args.work.now.to c.args.work.now.points.now c.parted-2.result.0.now c.parted-2.result.1.now _ c.middle-mid.ensures.0 c.middle-mid.ensures.1 aligned (omega (arith, ints)) c.requires.inside c.parted-2.ensures.before c.parted-2.ensures.from c.parted-2.ensures.all in
-    back-work c.args.work.now.span c.args.work.now.from c.middle-mid.result c.args.work.now.to c.args.work.now.points.now c.parted-2.result.0.now c.parted-2.result.1.now c.args.work.now.numbering.first c.requires h
+    record {
+      front = front-work c.args.work.now.span c.args.work.now.from c.middle-mid.result c.args.work.now.to c.args.work.now.points.now c.parted-2.result.0.now c.parted-2.result.1.now c.args.work.now.numbering.first c.requires h;
+      back = back-work c.args.work.now.span c.args.work.now.from c.middle-mid.result c.args.work.now.to c.args.work.now.points.now c.parted-2.result.0.now c.parted-2.result.1.now c.args.work.now.numbering.first c.requires h;
+      room = both-room c.args.work.now.span c.args.work.now.from c.middle-mid.result c.args.work.now.to c.args.work.now.points.now c.parted-2.result.0.now c.parted-2.result.1.now c.args.work.now.numbering.first c.requires h;
+    }
 
 pub build_part-returns-in_err-low-clause-fault : goal.build_part-returns-in_err-low-clause-fault
 build_part-returns-in_err-low-clause-fault g t c =
