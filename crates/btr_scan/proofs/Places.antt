@@ -59,31 +59,6 @@ pub none-until : (k : ℕ) (s : ℤ) (b : List Point) (time : ℤ) → time ≤�
 none-until k s b time high none =
     sym (within-before s (s +ℤ pos (width k)) time b high) ∙ ap (filter (λ p. int_lt p.time time)) none
 
--- The slots and children of an inner node.
-pub record HasInner (k : ℕ) (s : ℤ) (h : Past) (x : Slots) : Type 0 where
-  pub below : ℕ
-  pub height : k ≡ suc below
-  pub all : HasSlots below s h x
-  pub each : HasChildren below s h x
-
-pub inner-parts : (k : ℕ) (s : ℤ) (above : List Point → Bool) (h : Past) (n : Node) (v : ℕ) (x : Bor Slots) → n ≡ Inner v x → IsNode k s above h n → HasInner k s h x.now
-inner-parts k s above h n v x e holds =
-    let body = inner-is k s above h n v x e holds in
-    record { below = body.below; height = body.height; all = body.inner.all; each = body.each }
-
--- An inner node is of a history if its link was.
-pub inner-stands : (k : ℕ) (s : ℤ) (h : Past) (x : Slots) → HasInner k s h x → length (points_of k s (bag h)) + 0 < 2 ^ 64 → (below : ℕ) × (k ≡ suc below) × AreSomeSlots below s x 0
-inner-stands k s h x body few = (
-  body.below,
-  body.height,
-  record {
-    commits = h;
-    holds = body.all;
-    each = body.each;
-    few = subst (λ j. length (points_of j s (bag h)) + 0 < 2 ^ 64) body.height few;
-  },
-)
-
 -- ---- a slot's child
 
 -- A slot's child is of a history if its inner node is.

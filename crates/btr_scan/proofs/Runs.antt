@@ -16,28 +16,10 @@ use Rattle.btr_tree.proofs.VersionLemmas.{bag-in_order}
 use Rattle.btr_tree.specs.Change.{end_of}
 use Rattle.btr_tree.specs.Shape.{HasSlots, slot_start}
 use Rattle.btr_tree.proofs.NodeLemmas.{slot-end, slot-from, slot-inside, slot-next, prefix-next, prefix-none, rest-next}
+use Rattle.btr_tree.proofs.RangeSlotLemmas.{slot-count, slot-empty, slot-ends, prefix-gap}
 use Rattle.btr_scan.proofs.Firsts.{first-some, first-found, first-missed, last-some, last-found, last-missed}
 
-le-gap : (a b : ℕ) → a ≤ b → (n : ℕ) × (n + a ≡ b)
-le-gap a b h = (b - a, omega arith)
-
--- ---- the points of a slot, by its count
-
-slot-count : (below : ℕ) (s : ℤ) (h : Past) (x : Slots) (m : ℕ) → HasSlots below s h x → m < 64 → (slot_in x m).agg.count ≡ length (points_of below (slot_start below s m) (bag h))
-slot-count below s h x m slots place =
-    ap (λ y. y.agg.count) (slots.each m place) ∙ agg-count (points_of below (slot_start below s m) (bag h))
-
-none-counted : (b : List Point) → length b ≡ 0 → b ≡ []
-none-counted [] e = refl
-none-counted (p ∷ b) e = absurd (omega arith)
-
--- The slots from one up to, and without, another have no point.
-abbrev pub IsBlockRange : ℕ → ℤ → Past → ℕ → ℕ → Type 0
-IsBlockRange below s h i j = (m : ℕ) → i ≤ m → m < j → points_of below (slot_start below s m) (bag h) ≡ []
-
-run-of : (below : ℕ) (s : ℤ) (h : Past) (x : Slots) (i j : ℕ) → HasSlots below s h x → j ≤ 64 → AreEmpty x i j → IsBlockRange below s h i j
-run-of below s h x i j slots up none m low high =
-    none-counted (points_of below (slot_start below s m) (bag h)) (sym (slot-count below s h x m slots (omega arith)) ∙ none m low high)
+-- ---- a slot with a point
 
 full-of : (below : ℕ) (s : ℤ) (h : Past) (x : Slots) (i : ℕ) → HasSlots below s h x → i < 64 → IsOccupied x i → 0 < length (points_of below (slot_start below s i) (bag h))
 full-of below s h x i slots place some =
@@ -50,14 +32,14 @@ full-slot below s h x i part slots place some is =
 
 -- ---- after slots without a point
 
-rest-skip : (n below : ℕ) (s : ℤ) (h : Past) (i j : ℕ) → n + i ≡ j → j ≤ 64 → IsBlockRange below s h i j → within (slot_start below s i) (s +ℤ pos (width (suc below))) (bag h) ≡ within (slot_start below s j) (s +ℤ pos (width (suc below))) (bag h)
-rest-skip zero below s h i j e up run =
+rest-skip : (n below : ℕ) (s : ℤ) (h : Past) (x : Slots) (i j : ℕ) → n + i ≡ j → HasSlots below s h x → j ≤ 64 → AreEmpty x i j → within (slot_start below s i) (s +ℤ pos (width (suc below))) (bag h) ≡ within (slot_start below s j) (s +ℤ pos (width (suc below))) (bag h)
+rest-skip zero below s h x i j e slots up none =
     let same : i ≡ j = omega arith in
     ap (λ k. within (slot_start below s k) (s +ℤ pos (width (suc below))) (bag h)) same
-rest-skip (suc n) below s h i j e up run =
+rest-skip (suc n) below s h x i j e slots up none =
     rest-next below s i h (omega arith)
-    ∙ ap (λ x. x ++ within (slot_start below s (i + 1)) (s +ℤ pos (width (suc below))) (bag h)) (run i (omega arith) (omega arith))
-    ∙ rest-skip n below s h (i + 1) j (omega arith) up (λ m low high. run m (omega arith) high)
+    ∙ ap (λ b. b ++ within (slot_start below s (i + 1)) (s +ℤ pos (width (suc below))) (bag h)) (slot-empty below s h x i slots (omega arith) (none i (omega arith) (omega arith)))
+    ∙ rest-skip n below s h x (i + 1) j (omega arith) slots up (λ m low high. none m (omega arith) high)
 
 rest-none : (below : ℕ) (s : ℤ) (h : Past) → within (slot_start below s 64) (s +ℤ pos (width (suc below))) (bag h) ≡ []
 rest-none below s h =
@@ -67,59 +49,37 @@ rest-none below s h =
 pub first-behind : (span : SpanValue) (below : ℕ) (h : Past) (x : Slots) (from i : ℕ) (part : SpanValue) (r : Option Point) → span.height ≡ suc below → HasSlots below span.start h x → from ≤ i → i < 64 → IsOccupied x i → AreEmpty x from i → part ≡ record { start = slot_start below span.start i; height = below } → r ≡ slice_get (points_of part.height part.start (bag h)) 0 → r ≡ slice_get (within (slot_start below span.start from) (end_of span) (bag h)) 0
 first-behind span below h x from i part r e slots low place some passed is found =
     let s = span.start in
-    let run = run-of below s h x from i slots (omega arith) passed in
     let full = full-of below s h x i slots place some in
-    let gap = le-gap from i low in
+    let gap : (i - from) + from ≡ i = omega arith in
     found
     ∙ ap (λ (u : SpanValue). slice_get (points_of u.height u.start (bag h)) 0) is
     ∙ sym (first-some (points_of below (slot_start below s i) (bag h)) (within (slot_start below s (i + 1)) (s +ℤ pos (width (suc below))) (bag h)) full)
-    ∙ sym (ap (λ (x : List Point). slice_get x 0) (rest-skip gap.0 below s h from i gap.1 (omega arith) run ∙ rest-next below s i h place))
+    ∙ sym (ap (λ (x : List Point). slice_get x 0) (rest-skip (i - from) below s h x from i gap slots (omega arith) passed ∙ rest-next below s i h place))
     ∙ ap (λ k. slice_get (within (slot_start below s from) (s +ℤ pos (width k)) (bag h)) 0) (sym e)
 
 -- There is no point if no slot there has one.
 pub none-behind : (span : SpanValue) (below : ℕ) (h : Past) (x : Slots) (from : ℕ) (r : Option Point) → span.height ≡ suc below → HasSlots below span.start h x → from ≤ 64 → AreEmpty x from 64 → r ≡ None → r ≡ slice_get (within (slot_start below span.start from) (end_of span) (bag h)) 0
 none-behind span below h x from r e slots up none is =
     let s = span.start in
-    let run = run-of below s h x from 64 slots (omega arith) none in
-    let gap = le-gap from 64 up in
+    let gap : (64 - from) + from ≡ 64 = omega arith in
     is
-    ∙ sym (ap (λ (x : List Point). slice_get x 0) (rest-skip gap.0 below s h from 64 gap.1 (omega arith) run ∙ rest-none below s h))
+    ∙ sym (ap (λ (x : List Point). slice_get x 0) (rest-skip (64 - from) below s h x from 64 gap slots (omega arith) none ∙ rest-none below s h))
     ∙ ap (λ k. slice_get (within (slot_start below s from) (s +ℤ pos (width k)) (bag h)) 0) (sym e)
 
 -- ---- before slots without a point
 
-prefix-skip : (n below : ℕ) (s : ℤ) (h : Past) (i j : ℕ) → n + i ≡ j → IsBlockRange below s h i j → within s (slot_start below s j) (bag h) ≡ within s (slot_start below s i) (bag h)
-prefix-skip zero below s h i j e run =
-    let same : j ≡ i = omega arith in
-    ap (λ k. within s (slot_start below s k) (bag h)) same
-prefix-skip (suc n) below s h i j e run =
-    prefix-skip n below s h (i + 1) j (omega arith) (λ m low high. run m (omega arith) high)
-    ∙ prefix-next below s i h
-    ∙ ap (λ x. within s (slot_start below s i) (bag h) ++ x) (run i (omega arith) (omega arith))
-    ∙ append-nil (within s (slot_start below s i) (bag h))
-
--- If no slot from one up to, and without, another has a point, the points before the other are those before the one.
-pub prefix-gap : (below : ℕ) (s : ℤ) (h : Past) (x : Slots) (i j : ℕ) → HasSlots below s h x → i ≤ j → j ≤ 64 → AreEmpty x i j → within s (slot_start below s j) (bag h) ≡ within s (slot_start below s i) (bag h)
-prefix-gap below s h x i j slots low up none =
-    let gap = le-gap i j low in
-    prefix-skip gap.0 below s h i j gap.1 (run-of below s h x i j slots up none)
-
 -- The last point before a slot is that of the last slot there with a point.
 pub last-before : (below : ℕ) (s : ℤ) (h : Past) (x : Slots) (to i : ℕ) (part : SpanValue) (r : Option Point) → HasSlots below s h x → i < to → to ≤ 64 → IsOccupied x i → AreEmpty x (i + 1) to → part ≡ record { start = slot_start below s i; height = below } → r ≡ last_or None (points_of part.height part.start (bag h)) → r ≡ last_or None (within s (slot_start below s to) (bag h))
 last-before below s h x to i part r slots high place some passed is found =
-    let run = run-of below s h x (i + 1) to slots place passed in
     let full = full-of below s h x i slots (omega arith) some in
-    let gap = le-gap (i + 1) to (omega arith) in
     found
     ∙ ap (λ (u : SpanValue). last_or None (points_of u.height u.start (bag h))) is
     ∙ sym (last-some (within s (slot_start below s i) (bag h)) (points_of below (slot_start below s i) (bag h)) full)
-    ∙ sym (ap (last_or None) (prefix-skip gap.0 below s h (i + 1) to gap.1 run ∙ prefix-next below s i h))
+    ∙ sym (ap (last_or None) (prefix-gap below s h x (i + 1) to slots (omega arith) place passed ∙ prefix-next below s i h))
 
 pub none-before : (below : ℕ) (s : ℤ) (h : Past) (x : Slots) (to : ℕ) (r : Option Point) → HasSlots below s h x → to ≤ 64 → AreEmpty x 0 to → r ≡ None → r ≡ last_or None (within s (slot_start below s to) (bag h))
 none-before below s h x to r slots place none is =
-    let run = run-of below s h x 0 to slots place none in
-    is
-    ∙ sym (ap (last_or None) (prefix-skip to below s h 0 to (omega arith) run ∙ prefix-none below s h))
+    is ∙ sym (ap (last_or None) (prefix-gap below s h x 0 to slots (omega arith) place none ∙ prefix-none below s h))
 
 -- ---- the slot that a time lies in
 
@@ -127,7 +87,7 @@ none-before below s h x to r slots place none is =
 from-parts : (span : SpanValue) (below : ℕ) (h : Past) (time : ℤ) (i : ℕ) (part : SpanValue) → span.height ≡ suc below → i < 64 → part ≡ record { start = slot_start below span.start i; height = below } → time ≤ℤ end_of part → within time (end_of span) (bag h) ≡ within time (end_of part) (bag h) ++ within (slot_start below span.start (i + 1)) (end_of span) (bag h)
 from-parts span below h time i part e place is early =
     let s = span.start in
-    let ends : end_of part ≡ slot_start below s (i + 1) = ap (λ (u : SpanValue). end_of u) is ∙ sym (slot-next below s i) in
+    let ends = slot-ends below s i part is in
     let inside = slot-inside below s i place in
     let next = slot-next below s i in
     let high : slot_start below s (i + 1) ≤ℤ end_of span = subst (λ k. slot_start below s (i + 1) ≤ℤ (s +ℤ pos (width k))) (sym e) (omega (arith, ints)) in

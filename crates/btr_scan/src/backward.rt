@@ -5,11 +5,12 @@ ghost use Rattle.btr_base.specs.Bag.{within};
 ghost use Rattle.btr_base.specs.declared.limits.TheConstants.{FIRST as FIRST_TIME};
 ghost use Rattle.btr_tree.specs.History.{Past, bag};
 ghost use Rattle.btr_tree.specs.Nodes.{above_root};
-ghost use Rattle.btr_tree.specs.Shape.{IsChild, HasSlots, HasChildren, slot_start};
+ghost use Rattle.btr_tree.specs.Shape.{IsChild};
 ghost use Rattle.btr_tree.specs.EachHistory.{AtEachHistory, AtEachInner, points_in};
 ghost use Rattle.btr_tree.specs.Change.{IsSomeChild, AreSomeSlots, end_of};
 ghost use Rattle.btr_tree.specs.Slots.{node_of};
 ghost use Rattle.btr_base.specs.Point.{AreInDomain};
+ghost use Rattle.btr_scan.specs.SlotStart.{AtEachSlotStart};
 
 use btr_base::{END, FAN_OUT, FIRST, Point, Span, parted};
 use btr_tree::{Child, Node, Slots, Steps, root_span, visit};
@@ -99,9 +100,7 @@ fn last_in_child<L>(span: Span, child: Child<'_>, steps: &mut Steps<L>) -> Optio
 fn last_in_slots<L>(span: Span, slots: &Slots, to: u8, steps: &mut Steps<L>) -> Option<Point>
     requires some { (below : ℕ) × (span.height ≡ suc below) × AreSomeSlots below span.start slots.now 0 }
     requires place { to ≤ 64 }
-    ensures point { (below : ℕ) (h : Past) → span.height ≡ suc below → HasSlots below span.start h slots.now
-        → HasChildren below span.start h slots.now
-        → result ≡ last_or None (within span.start (slot_start below span.start to) (bag h)) }
+    ensures point { AtEachSlotStart span slots.now to (λ start h. result ≡ last_or None (within span.start start (bag h))) }
     ensures bounded { steps.new ≤ steps.old + span.height }
     ensures none { IsNone result → steps.new ≡ steps.old }
     ensures never_falls { steps.old ≤ steps.new }

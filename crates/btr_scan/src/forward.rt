@@ -4,11 +4,12 @@ ghost use Rattle.btr_base.specs.Bag.{within};
 ghost use Rattle.btr_base.specs.declared.limits.TheConstants.{FIRST as FIRST_TIME};
 ghost use Rattle.btr_tree.specs.History.{Past, bag};
 ghost use Rattle.btr_tree.specs.Nodes.{above_root};
-ghost use Rattle.btr_tree.specs.Shape.{IsChild, HasSlots, HasChildren, slot_start};
+ghost use Rattle.btr_tree.specs.Shape.{IsChild};
 ghost use Rattle.btr_tree.specs.EachHistory.{AtEachHistory, AtEachInner, points_in};
 ghost use Rattle.btr_tree.specs.Change.{IsSomeChild, AreSomeSlots, end_of};
 ghost use Rattle.btr_tree.specs.Slots.{node_of};
 ghost use Rattle.btr_base.specs.Point.{AreInDomain};
+ghost use Rattle.btr_scan.specs.SlotStart.{AtEachSlotStart};
 
 use btr_base::{END, FIRST, Point, Span, parted};
 use btr_tree::{Child, Node, Slots, Steps, root_span, visit};
@@ -90,9 +91,7 @@ fn first_in_child<L>(span: Span, child: Child<'_>, steps: &mut Steps<L>) -> Opti
 fn first_in_slots<L>(span: Span, slots: &Slots, from: u8, steps: &mut Steps<L>) -> Option<Point>
     requires some { (below : ℕ) × (span.height ≡ suc below) × AreSomeSlots below span.start slots.now 0 }
     requires place { from ≤ 64 }
-    ensures point { (below : ℕ) (h : Past) → span.height ≡ suc below → HasSlots below span.start h slots.now
-        → HasChildren below span.start h slots.now
-        → result ≡ slice_get (within (slot_start below span.start from) (end_of span) (bag h)) 0 }
+    ensures point { AtEachSlotStart span slots.now from (λ start h. result ≡ slice_get (within start (end_of span) (bag h)) 0) }
     ensures bounded { steps.new ≤ steps.old + span.height }
     ensures none { IsNone result → steps.new ≡ steps.old }
     ensures never_falls { steps.old ≤ steps.new }

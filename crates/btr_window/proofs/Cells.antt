@@ -113,14 +113,6 @@ begin-bounds first width t some h =
     let low = n.low in
     (omega (arith, ints), omega (arith, ints))
 
--- A time between two times of one window is in that window.
-pub begin-between : (first : ℤ) (width : ℕ) (t u v : ℤ) → 1 ≤ width → first ≤ℤ t → t ≤ℤ u → u ≤ℤ v → begin_of first width t ≡ begin_of first width v → begin_of first width u ≡ begin_of first width t
-begin-between first width t u v some h le up e =
-    let low = window-rise first width t u some h le in
-    let high = window-rise first width u v some (omega (arith, ints)) up in
-    let same = nat-same (window_of first width t) (window_of first width v) (sym (at-same first width (window_of first width t) (window_of first width v) some) ∙ same-eq _ _ e) in
-    ap (window_at first width) (omega arith)
-
 -- ---- Numbers, each once.
 
 -- The numbers that follow those that equal the first one.

@@ -2,6 +2,6 @@ pub mod EndsInside
 pub mod Adding
 pub mod Cells
 pub mod Starts
-pub mod Slots
+pub mod Ranges
 pub mod Joined
 pub mod Bounds

@@ -1,7 +1,7 @@
 -- Lemmas on the starts of windows: which window a time near a start is in, and that added windows start where those of the grid do.
-use Rattle.std.specs.Prelude.{◌≡◌, ℕ, zero, suc, ◌+◌, ◌*◌, ◌≤◌, nat_eq, ℤ, pos, ◌+ℤ◌, ◌≤ℤ◌, ◌<ℤ◌, true, false, ◌&&◌, int_le, int_lt, List, [], ◌∷◌, Some, slice_get, cond}
+use Rattle.std.specs.Prelude.{◌≡◌, ℕ, ◌+◌, ◌*◌, ◌≤◌, nat_eq, ℤ, pos, ◌+ℤ◌, ◌≤ℤ◌, ◌<ℤ◌, true, false, ◌&&◌, int_le, int_lt, List, [], ◌∷◌, cond}
 use Rattle.std.specs.Ordering.{int_eq}
-use Rattle.std.proofs.Common.{sym, ap, ◌∙◌, arith, subst}
+use Rattle.std.proofs.Common.{sym, ap, ◌∙◌, arith}
 use Rattle.std.proofs.lemmas.Int.{ints}
 use Rattle.std.proofs.lemmas.Bool.Decides.{nat_tests}
 use Rattle.btr_base.specs.declared.cell.Cell.{Cell}
@@ -48,12 +48,3 @@ starts-part grid (c ∷ []) start a all is =
       | false ↦ (all.0, (is, tt))
     ]
 starts-part grid (c ∷ d ∷ cs) start a all is = (all.0, starts-part grid (d ∷ cs) start a all.1 is)
-
--- ---- The last window.
-
-pub starts-get : (grid : Grid) (cs : List Cell) (i : ℕ) (c : Cell) → AreStarts grid cs → Some c ≡ slice_get cs i → IsStart grid c.start
-starts-get grid [] i c all e = absurd (cc)
-starts-get grid (d ∷ cs) zero c all e =
-    let same : d ≡ c = cc in
-    subst (λ x. IsStart grid x.start) same all.0
-starts-get grid (d ∷ cs) (suc i) c all e = starts-get grid cs i c all.1 e

@@ -1,11 +1,12 @@
 //! The aggregate of a range.
 ghost use Rattle.std.specs.Prelude.{◌≡◌, ℕ, suc, ◌+◌, ◌*◌, ◌<◌, ◌≤◌, ◌<ℤ◌};
-ghost use Rattle.btr_base.specs.Agg.{agg, agg_within};
+ghost use Rattle.btr_base.specs.Agg.{agg_within};
 ghost use Rattle.btr_tree.specs.History.{Past, bag};
 ghost use Rattle.btr_tree.specs.Change.{IsSomeChild, AreSomeSlots, IsSomeSlot, end_of};
 ghost use Rattle.btr_tree.specs.EachHistory.{AtEachHistory, AtEachInner, points_in};
 ghost use Rattle.btr_tree.specs.Root.{IsTree};
 ghost use Rattle.btr_tree.specs.Slots.{node_of, slot_in, child_in};
+ghost use Rattle.btr_window.specs.EachSlot.{AtEachSlot};
 ghost use Rattle.btr_window.specs.RangeEnds.{ends_inside};
 
 use crate::inside::is_inside;
@@ -72,8 +73,7 @@ fn agg_in_slot<L>(span: Span, slots: &Slots, i: u8, range: Range, steps: &mut St
     requires some { IsSomeSlot span.height span.start (slot_in slots.now i) (child_in slots.now i) 0 }
     requires begins { range.from <ℤ end_of span }
     requires ends { span.start <ℤ range.to }
-    ensures agg { AtEachHistory span (child_in slots.now i) (λ h. (slot_in slots.now i).agg ≡ agg (points_in span (bag h))
-        → result ≡ agg_within range.from range.to (points_in span (bag h))) }
+    ensures agg { AtEachSlot span slots.now i (λ h. result ≡ agg_within range.from range.to (points_in span (bag h))) }
     ensures bounded { steps.new ≤ steps.old + (span.height + 1) * ends_inside span.start (end_of span) range.from range.to }
     ensures never_falls { steps.old ≤ steps.new }
 {

@@ -1,12 +1,12 @@
 //! The aggregates of the windows of a range.
 ghost use Rattle.std.specs.Prelude.{◌≡◌, ℕ, suc, ◌≤◌, ◌^◌, ◌<◌, ◌≤ℤ◌, ◌<ℤ◌, IfOk, OnOk};
-ghost use Rattle.btr_base.specs.Agg.{agg};
 ghost use Rattle.btr_base.specs.Windows.{IsGrid, cells as cells_between, aligned as aligned_of, windows as windows_of};
 ghost use Rattle.btr_tree.specs.History.{Past, bag};
 ghost use Rattle.btr_tree.specs.Change.{IsSomeChild, AreSomeSlots, IsSomeSlot, end_of};
 ghost use Rattle.btr_tree.specs.EachHistory.{AtEachHistory, AtEachInner, points_in};
 ghost use Rattle.btr_tree.specs.Root.{IsTree};
 ghost use Rattle.btr_tree.specs.Slots.{node_of, slot_in, child_in, IsOccupied};
+ghost use Rattle.btr_window.specs.EachSlot.{AtEachSlot};
 ghost use Rattle.btr_window.specs.Accumulate.{AddsWithin, counted, IsStart, AreStarts};
 
 use crate::accumulate::{add_part, add_points, start_around};
@@ -79,14 +79,13 @@ fn cells_of(alloc: Global, tree: &Tree, grid: Grid, range: Range) -> Result<Vec<
 {
     prove!(FIRST < range.to && range.from < END);
     let mut cells = Vec::new(alloc);
-    walk_child(alloc, root_span(), tree.link(), grid, range, &mut cells)?;
+    walk_child(root_span(), tree.link(), grid, range, &mut cells)?;
     Ok(cells)
 }
 
 /// Adds to the windows the points of a span in a range that meets it.
 #[cycle(window_walk)]
 fn walk_child(
-    alloc: Global,
     span: Span,
     child: Child<'_>,
     grid: Grid,
@@ -108,7 +107,7 @@ fn walk_child(
             Node::Leaf { points, .. } => {
                 add_points(cells, grid, points_between(points, range.from, range.to))
             }
-            Node::Inner { slots, .. } => walk_slots(alloc, span, slots, grid, range, cells),
+            Node::Inner { slots, .. } => walk_slots(span, slots, grid, range, cells),
         },
     }
 }
@@ -116,7 +115,6 @@ fn walk_child(
 /// Adds to the windows the points of an inner node in a range that meets it. It goes from one slot with a point to the next.
 #[cycle(window_walk)]
 fn walk_slots(
-    alloc: Global,
     span: Span,
     slots: &Slots,
     grid: Grid,
@@ -139,7 +137,7 @@ fn walk_slots(
         if i > last {
             return Ok(());
         }
-        walk_slot(alloc, span.slot(i), slots, i, grid, range, cells)?;
+        walk_slot(span.slot(i), slots, i, grid, range, cells)?;
         from = i + 1;
     }
     Ok(())
@@ -149,7 +147,6 @@ fn walk_slots(
 /// if the slot is inside the range and one window.
 #[cycle(window_walk)]
 fn walk_slot(
-    alloc: Global,
     span: Span,
     slots: &Slots,
     i: u8,
@@ -163,8 +160,8 @@ fn walk_slot(
     requires begins { range.from <ℤ end_of span }
     requires ends { span.start <ℤ range.to }
     requires starts { AreStarts grid cells.old.items }
-    ensures cells { OnOk result (AtEachHistory span (child_in slots.now i) (λ h. (slot_in slots.now i).agg ≡ agg (points_in span (bag h))
-        → AddsWithin grid range cells.old.items cells.new.items (points_in span (bag h)))) }
+    ensures cells { OnOk result (AtEachSlot span slots.now i (λ h.
+        AddsWithin grid range cells.old.items cells.new.items (points_in span (bag h)))) }
     ensures starts { OnOk result (AreStarts grid cells.new.items) }
 {
     if is_inside(span, range) {
@@ -173,5 +170,5 @@ fn walk_slot(
             return add_part(cells, start, &slot.agg);
         }
     }
-    walk_child(alloc, span, slots.child(i), grid, range, cells)
+    walk_child(span, slots.child(i), grid, range, cells)
 }

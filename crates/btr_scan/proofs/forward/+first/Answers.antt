@@ -6,8 +6,8 @@ use Rattle.btr_tree.specs.Change.{end_of}
 use Rattle.btr_tree.specs.History.{bag}
 use Rattle.btr_tree.specs.Slots.{node_of}
 use Rattle.btr_tree.specs.Nodes.{is_inner}
-use Rattle.btr_tree.proofs.NodeLemmas.{child-at, slot-first}
-use Rattle.btr_scan.proofs.Places.{leaf-points, inner-parts, inner-stands, child-stands}
+use Rattle.btr_tree.proofs.NodeLemmas.{inner-is, seen-slots, child-at, slot-first}
+use Rattle.btr_scan.proofs.Places.{leaf-points, child-stands}
 use Rattle.btr_scan.proofs.Runs.{full-slot, first-behind, none-behind}
 use Rattle.btr_scan.proofs.Firsts.{first-any}
 use Rattle.btr_scan.proofs.forward.+first.Goals as goal
@@ -19,8 +19,8 @@ first_in_child-first_in_slots-requires over t c κs outlives =
     let s = c.args.span.start in
     let d = c.decreases in
     let node = c.in_ok-points.ensures.node k s st.above st.commits st.holds in
-    let body = inner-parts k s st.above st.commits c.in_ok-points.field-0 c.in-Inner.version c.in-Inner.slots c.in-Inner.is node in
-    (omega arith, (outlives, (inner-stands k s st.commits _ body st.few, omega arith)))
+    let slots = seen-slots k s 0 (node_of c.args.child) c.in_ok-points.field-0 c.in-Inner.version c.in-Inner.slots st c.in-Inner.is node in
+    (omega arith, (outlives, (slots, omega arith)))
 
 pub first_in_child-returns-in-Leaf-clause-point : goal.first_in_child-returns-in-Leaf-clause-point
 first_in_child-returns-in-Leaf-clause-point over t c above h holds =
@@ -35,8 +35,8 @@ first_in_child-returns-in-Inner-clause-point over t c above h holds =
     let k = c.args.span.height in
     let s = c.args.span.start in
     let node = c.in_ok-points.ensures.node k s above h holds in
-    let body = inner-parts k s above h c.in_ok-points.field-0 c.in-Inner.version c.in-Inner.slots c.in-Inner.is node in
-    c.first_in_slots.ensures.point body.below h body.height body.all body.each
+    let body = inner-is k s above h c.in_ok-points.field-0 c.in-Inner.version c.in-Inner.slots c.in-Inner.is node in
+    c.first_in_slots.ensures.point body.below h body.height body.inner.all body.each
     ∙ ap (λ a. slice_get (within a (end_of c.args.span) (bag h)) 0) (slot-first body.below s)
 
 pub first_in_slots-returns-in_err-i-clause-point : goal.first_in_slots-returns-in_err-i-clause-point

@@ -8,8 +8,8 @@ use Rattle.btr_tree.specs.Change.{end_of}
 use Rattle.btr_tree.specs.History.{bag}
 use Rattle.btr_tree.specs.Slots.{node_of}
 use Rattle.btr_tree.specs.Nodes.{is_inner}
-use Rattle.btr_tree.proofs.NodeLemmas.{child-at}
-use Rattle.btr_scan.proofs.Places.{leaf-points, leaf-in_order, leaf-from, none-from, inner-parts, inner-stands, child-stands}
+use Rattle.btr_tree.proofs.NodeLemmas.{inner-is, seen-slots, child-at}
+use Rattle.btr_scan.proofs.Places.{leaf-points, leaf-in_order, leaf-from, none-from, child-stands}
 use Rattle.btr_scan.proofs.Runs.{next-here, next-behind}
 use Rattle.btr_scan.proofs.forward.+next.Goals as goal
 
@@ -37,16 +37,10 @@ next_in_child-next_in_slots-requires over t c κs outlives =
     let d = c.decreases in
     let same = to_z-of_z w64 c.args.time c.ranges.time in
     let node = c.in_ok-points.ensures.node k s st.above st.commits st.holds in
-    let body = inner-parts k s st.above st.commits c.in_ok-points.field-0 c.in-Inner.version c.in-Inner.slots c.in-Inner.is node in (
-      omega arith,
-      (
-        outlives,
-        (
-          inner-stands k s st.commits _ body st.few,
-          (subst (λ x. s ≤ℤ x) (sym same) c.requires.begins, subst (λ x. x <ℤ end_of c.args.span) (sym same) c.requires.ends),
-        ),
-      ),
-    )
+    let slots = seen-slots k s 0 (node_of c.args.child) c.in_ok-points.field-0 c.in-Inner.version c.in-Inner.slots st c.in-Inner.is node in
+    let begins = subst (λ x. s ≤ℤ x) (sym same) c.requires.begins in
+    let ends = subst (λ x. x <ℤ end_of c.args.span) (sym same) c.requires.ends in
+    (omega arith, (outlives, (slots, (begins, ends))))
 
 pub next_in_child-returns-in-Leaf-clause-point : goal.next_in_child-returns-in-Leaf-clause-point
 next_in_child-returns-in-Leaf-clause-point over t c above h holds =
@@ -64,8 +58,8 @@ next_in_child-returns-in-Inner-clause-point over t c above h holds =
     let s = c.args.span.start in
     let same = to_z-of_z w64 c.args.time c.ranges.time in
     let node = c.in_ok-points.ensures.node k s above h holds in
-    let body = inner-parts k s above h c.in_ok-points.field-0 c.in-Inner.version c.in-Inner.slots c.in-Inner.is node in
-    c.next_in_slots.ensures.point body.below h body.height body.all body.each
+    let body = inner-is k s above h c.in_ok-points.field-0 c.in-Inner.version c.in-Inner.slots c.in-Inner.is node in
+    c.next_in_slots.ensures.point body.below h body.height body.inner.all body.each
     ∙ ap (λ x. slice_get (within x (end_of c.args.span) (bag h)) 0) same
 
 pub next_in_slots-next_in_child-requires : goal.next_in_slots-next_in_child-requires

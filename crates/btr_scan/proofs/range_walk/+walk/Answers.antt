@@ -1,4 +1,4 @@
-use Rattle.std.proofs.Common.{◌≡◌, suc, ◌+◌, ◌-◌, ◌++◌, pos, ◌+ℤ◌, ◌≤ℤ◌, ◌<ℤ◌, SFits, rules, sym, ap, ◌∙◌, subst, arith, append-nil, w64, to_z, of_z}
+use Rattle.std.proofs.Common.{◌≡◌, ℕ, suc, ◌+◌, ◌-◌, ◌++◌, pos, ◌+ℤ◌, ◌≤ℤ◌, ◌<ℤ◌, SFits, rules, sym, ap, ◌∙◌, subst, arith, append-nil, w64, to_z, of_z}
 use Rattle.std.proofs.lemmas.Result.{on_ok_weaker}
 use Rattle.std.proofs.lemmas.Int.{to_z-of_z}
 use Rattle.btr_base.specs.Bag.{within}
@@ -7,10 +7,10 @@ use Rattle.btr_tree.specs.History.{bag}
 use Rattle.btr_tree.specs.Nodes.{points_of, is_inner}
 use Rattle.btr_tree.specs.Shape.{slot_start}
 use Rattle.btr_tree.specs.Slots.{node_of}
-use Rattle.btr_tree.proofs.NodeLemmas.{child-at, prefix-part}
-use Rattle.btr_scan.proofs.Places.{where_ok, leaf-points, leaf-in_order, inner-parts, inner-stands, child-stands}
-use Rattle.btr_scan.proofs.Runs.{prefix-gap}
-use Rattle.btr_scan.proofs.Parts.{before-first, rows-end, rows-more, slot-met}
+use Rattle.btr_tree.proofs.NodeLemmas.{inner-is, seen-slots, child-at, prefix-part}
+use Rattle.btr_scan.proofs.Places.{where_ok, leaf-points, leaf-in_order, child-stands}
+use Rattle.btr_tree.proofs.RangeSlotLemmas.{range-from, range-to, between-is, rest-empty, slot-met, prefix-gap}
+use Rattle.btr_scan.proofs.Parts.{rows-more}
 use Rattle.btr_scan.proofs.range_walk.+walk.Goals as goal
 
 pub walk_child-points_between-requires : goal.walk_child-points_between-requires
@@ -28,17 +28,15 @@ walk_child-walk_slots-requires over t c κs outlives =
     let s = c.args.span.start in
     let d = c.decreases in
     let node = c.in-Some.ensures.node k s st.above st.commits st.holds in
-    let body = inner-parts k s st.above st.commits c.in-Some.node c.in-Inner.version c.in-Inner.slots c.in-Inner.is node in
-    (omega arith, (outlives, (inner-stands k s st.commits _ body st.few, (c.requires.begins, c.requires.ends))))
+    let slots = seen-slots k s 0 (node_of c.args.child) c.in-Some.node c.in-Inner.version c.in-Inner.slots st c.in-Inner.is node in
+    (omega arith, (outlives, (slots, (c.requires.begins, c.requires.ends))))
 
 pub walk_child-returns-in-Leaf : goal.walk_child-returns-in-Leaf
 walk_child-returns-in-Leaf over t c =
     let k = c.args.span.height in
     let s = c.args.span.start in
-    let low_fits : SFits w64 c.range.inside.from = search rules in
-    let high_fits : SFits w64 c.range.inside.to = search rules in
-    let low : to_z w64 (of_z w64 c.range.inside.from) ≡ c.args.range.from = to_z-of_z w64 c.range.inside.from low_fits ∙ ap (λ r. r.from) c.range.view_is in
-    let high : to_z w64 (of_z w64 c.range.inside.to) ≡ c.args.range.to = to_z-of_z w64 c.range.inside.to high_fits ∙ ap (λ r. r.to) c.range.view_is in
+    let low = range-from _ _ c.range.invariant c.range.view_is in
+    let high = range-to _ _ c.range.invariant c.range.view_is in
     let between : c.points_between.result.now ≡ within c.args.range.from c.args.range.to c.in-Leaf.points.now = c.points_between.ensures ∙ (λ i. within (low i) (high i) c.in-Leaf.points.now) in
     on_ok_weaker c.extend_from_slice.result (λ e above h holds.
     let node = c.in-Some.ensures.node k s above h holds in
@@ -51,54 +49,42 @@ walk_child-returns-in-Inner over t c =
     let s = c.args.span.start in
     on_ok_weaker c.walk_slots.result (λ e above h holds.
     let node = c.in-Some.ensures.node k s above h holds in
-    let body = inner-parts k s above h c.in-Some.node c.in-Inner.version c.in-Inner.slots c.in-Inner.is node in
-    e body.below h body.height body.all body.each) c.walk_slots.ensures
+    let body = inner-is k s above h c.in-Some.node c.in-Inner.version c.in-Inner.slots c.in-Inner.is node in
+    e body.below h body.height body.inner.all body.each) c.walk_slots.ensures
 
 pub walk_slots-loop-i-init : goal.walk_slots-loop-i-init
 walk_slots-loop-i-init over t c =
-    let low_fits : SFits w64 c.range.inside.from = search rules in
-    let low : to_z w64 (of_z w64 c.range.inside.from) ≡ c.args.range.from = to_z-of_z w64 c.range.inside.from low_fits ∙ ap (λ r. r.from) c.range.view_is in
-    let all = c.slots_between-first.ensures in
-    let first = c.slots_between-first.result.0 in
+    let said = c.slots_between-first.ensures in
+    let between = λ (below : ℕ) (e : c.args.span.height ≡ suc below). between-is c.args.span below _ _ c.args.range.from c.args.range.to _ _ e (range-from _ _ c.range.invariant c.range.view_is) (range-to _ _ c.range.invariant c.range.view_is) said.order said.place said.before said.first said.last said.behind in
     record {
+      between = between;
       low = omega arith;
-      high = omega (arith, all.order);
-      rows = λ below h e slots each.
-          let none = before-first c.args.span below h c.args.range.from c.args.range.to first e (λ i less. subst (λ x. ((slot_of c.args.span i).start +ℤ pos (width (c.args.span.height - 1))) ≤ℤ x) low (all.before i less)) in
-          sym (ap (λ x. c.args.rows.now.items ++ x) none ∙ append-nil c.args.rows.now.items);
+      high = omega (arith, said.order);
+      rows = λ below h e slots each. sym (ap (λ x. c.args.rows.now.items ++ x) ((between below e).before (bag h)) ∙ append-nil c.args.rows.now.items);
     }
 
 pub walk_slots-returns-then-i-last : goal.walk_slots-returns-then-i-last
 walk_slots-returns-then-i-last over t c below h e slots each =
-    let high_fits : SFits w64 c.range.inside.to = search rules in
-    let high : to_z w64 (of_z w64 c.range.inside.to) ≡ c.args.range.to = to_z-of_z w64 c.range.inside.to high_fits ∙ ap (λ r. r.to) c.range.view_is in
-    let all = c.slots_between-first.ensures in
-    let last = c.slots_between-first.result.1 in
-    c.loop-i.invariant.rows below h e slots each
-    ∙ ap (λ x. c.args.rows.now.items ++ x) (rows-end c.args.span below h c.args.slots.now c.args.range.from c.args.range.to c.loop-i.from last e slots all.place (λ i less place. subst (λ x. x ≤ℤ (slot_of c.args.span i).start) high (all.behind i less place)) c.loop-i.invariant.high (λ m from to. c.in-Some.ensures.3 m from (omega (arith, c.if-i-last.true))))
+    let so_far = c.loop-i.invariant in
+    let rest = rest-empty below c.args.span.start c.args.range.from c.args.range.to _ c.slots_between-first.result.1 h c.args.slots.now c.loop-i.from (so_far.between below e) slots so_far.high (λ m from to. c.in-Some.ensures.3 m from (omega (arith, c.if-i-last.true))) in
+    so_far.rows below h e slots each
+    ∙ ap (λ x. c.args.rows.now.items ++ x) rest
+    ∙ ap (λ k. c.args.rows.now.items ++ within c.args.range.from c.args.range.to (points_of k c.args.span.start (bag h))) (sym e)
 
 pub walk_slots-walk_child-requires : goal.walk_slots-walk_child-requires
 walk_slots-walk_child-requires over t c κs outlives =
     let st = c.requires.some in
     let below = st.0 in
     let d = c.decreases in
-    let low_fits : SFits w64 c.range.inside.from = search rules in
-    let low : to_z w64 (of_z w64 c.range.inside.from) ≡ c.args.range.from = to_z-of_z w64 c.range.inside.from low_fits ∙ ap (λ r. r.from) c.range.view_is in
-    let high_fits : SFits w64 c.range.inside.to = search rules in
-    let high : to_z w64 (of_z w64 c.range.inside.to) ≡ c.args.range.to = to_z-of_z w64 c.range.inside.to high_fits ∙ ap (λ r. r.to) c.range.view_is in
-    let all = c.slots_between-first.ensures in
-    let first = c.slots_between-first.result.0 in
-    let last = c.slots_between-first.result.1 in
     let i = c.in-Some.i in
     let found = c.in-Some.ensures in
-    let begins = subst (λ x. x <ℤ ((slot_of c.args.span first).start +ℤ pos (width (c.args.span.height - 1)))) low all.first in
-    let ends = subst (λ x. (slot_of c.args.span last).start <ℤ x) high all.last in
+    let so_far = c.loop-i.invariant in
     let at = child-at c.args.span below st.2.commits i c.slot.result (node_of c.child.result) c.args.slots.now st.1 st.2.each found.1 c.slot.ensures c.child.ensures in
     let stands = child-stands below c.args.span.start st.2.commits i c.slot.result (node_of c.child.result) at.is at.holds found.1 st.2.few in
-    let met = slot-met c.args.span below c.args.range.from c.args.range.to first last i c.slot.result st.1 at.is (omega (arith, c.loop-i.invariant.low, found.0)) (omega (arith, c.if-i-last.false)) begins ends in
+    let met = slot-met below c.args.span.start c.args.range.from c.args.range.to _ _ i c.slot.result (so_far.between below st.1) at.is (omega (arith, so_far.low, found.0)) (omega (arith, c.if-i-last.false)) in
     let down : c.slot.result.height ≡ below = ap (λ u. u.height) at.is in
     let up = st.1 in
-    (omega arith, (outlives, (stands, (met.0, met.1))))
+    (omega arith, (outlives, (stands, met)))
 
 pub walk_slots-loop-i-preserved : goal.walk_slots-loop-i-preserved
 walk_slots-loop-i-preserved over t c =
@@ -107,6 +93,7 @@ walk_slots-loop-i-preserved over t c =
     let found = c.in-Some.ensures in
     let part = c.slot.result in
     record {
+      between = c.loop-i.invariant.between;
       low = omega (arith, c.loop-i.invariant.low, found.0);
       high = omega (arith, c.if-i-last.false);
       rows = λ below h e slots each.
@@ -120,9 +107,8 @@ walk_slots-loop-i-preserved over t c =
 
 pub walk_slots-returns : goal.walk_slots-returns
 walk_slots-returns over t c below h e slots each =
-    let high_fits : SFits w64 c.range.inside.to = search rules in
-    let high : to_z w64 (of_z w64 c.range.inside.to) ≡ c.args.range.to = to_z-of_z w64 c.range.inside.to high_fits ∙ ap (λ r. r.to) c.range.view_is in
-    let all = c.slots_between-first.ensures in
-    let last = c.slots_between-first.result.1 in
-    c.loop-i.invariant.rows below h e slots each
-    ∙ ap (λ x. c.args.rows.now.items ++ x) (rows-end c.args.span below h c.args.slots.now c.args.range.from c.args.range.to c.loop-i.from last e slots all.place (λ i less place. subst (λ x. x ≤ℤ (slot_of c.args.span i).start) high (all.behind i less place)) c.loop-i.invariant.high (λ m from to. c.in_default.ensures m from (omega (arith, all.place))))
+    let so_far = c.loop-i.invariant in
+    let rest = rest-empty below c.args.span.start c.args.range.from c.args.range.to _ c.slots_between-first.result.1 h c.args.slots.now c.loop-i.from (so_far.between below e) slots so_far.high (λ m from to. c.in_default.ensures m from (omega (arith, c.slots_between-first.ensures.place))) in
+    so_far.rows below h e slots each
+    ∙ ap (λ x. c.args.rows.now.items ++ x) rest
+    ∙ ap (λ k. c.args.rows.now.items ++ within c.args.range.from c.args.range.to (points_of k c.args.span.start (bag h))) (sym e)

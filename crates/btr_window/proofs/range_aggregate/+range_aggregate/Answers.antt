@@ -7,15 +7,16 @@ use Rattle.btr_base.specs.Bag.{within, IsInOrder}
 use Rattle.btr_base.specs.Span.{width, SpanValue}
 use Rattle.btr_tree.specs.History.{bag}
 use Rattle.btr_tree.specs.Nodes.{points_of, is_inner}
-use Rattle.btr_tree.specs.Change.{end_of}
+use Rattle.btr_tree.specs.Change.{IsSomeSlot, end_of}
 use Rattle.btr_tree.specs.Shape.{slot_start}
 use Rattle.btr_tree.specs.declared.node.Slot.{Slot}
 use Rattle.btr_tree.specs.Slots.{node_of, slot_in, child_in}
-use Rattle.btr_tree.proofs.NodeLemmas.{leaf-is, inner-is, slot-at, slot-few, slot-from, slot-part, slot-end, prefix-part, prefix-fewer}
+use Rattle.btr_tree.proofs.NodeLemmas.{leaf-is, inner-is, seen-slots, slot-order, slot-at, slot-few, slot-from, slot-part, slot-end, prefix-part, prefix-fewer}
 use Rattle.btr_tree.proofs.VersionLemmas.{points-in_order}
 use Rattle.btr_window.specs.RangeEnds.{ends_inside}
 use Rattle.btr_window.proofs.EndsInside.{ends-longer, ends-some, steps-first, steps-next, cost-as}
-use Rattle.btr_window.proofs.Slots.{inner-some, between-is, range-from, range-to, slot-rise, slot-begins, slot-ends, within-as, within-inside}
+use Rattle.btr_tree.proofs.RangeSlotLemmas.{range-from, range-to, between-is, slot-begins, slot-ends, slot-met}
+use Rattle.btr_window.proofs.Ranges.{within-as, within-inside}
 use Rattle.btr_window.proofs.Joined.{agg-more, count-fits, agg-empty}
 use Rattle.btr_window.proofs.range_aggregate.+range_aggregate.Goals as goal
 use Rattle.btr_window.proofs.range_aggregate.+range_aggregate.Goals.{agg_in_slot-then-agg-eq0-via-then-agg-eq0, agg_in_slot-then-agg-eq0-via-else-agg-eq0+then-is_inside}
@@ -34,7 +35,7 @@ agg_in_child-agg_in_slots-requires over t c κs outlives =
     let some = c.requires.some in
     let span = c.args.span in
     let d = c.decreases in
-    let slots = inner-some span 0 (node_of c.args.child) c.in-Some.node c.in-Inner.version c.in-Inner.slots some c.in-Inner.is (c.in-Some.ensures.node span.height span.start some.above some.commits some.holds) in
+    let slots = seen-slots span.height span.start 0 (node_of c.args.child) c.in-Some.node c.in-Inner.version c.in-Inner.slots some c.in-Inner.is (c.in-Some.ensures.node span.height span.start some.above some.commits some.holds) in
     let high = slots.1 in
     (omega arith, (outlives, (slots, (c.requires.begins, c.requires.ends))))
 
@@ -102,37 +103,16 @@ agg_in_slots-agg_in_slot-part-requires over t c κs outlives =
     let below = st.0 in
     let start = c.args.span.start in
     let i = c.loop-i.i in
+    let part = c.slot.result in
     let d = c.decreases in
-    let met = c.loop-i.invariant.between below st.1 in
-    let at = slot-at c.args.span below st.2.commits i c.slot.result (slot_in c.args.slots.now i) (child_in c.args.slots.now i) c.args.slots.now st.1 st.2.holds st.2.each (omega arith) c.slot.ensures refl refl in
-    let few = slot-few below start st.2.commits i c.slot.result (omega arith) at.is in
+    let at = slot-at c.args.span below st.2.commits i part (slot_in c.args.slots.now i) (child_in c.args.slots.now i) c.args.slots.now st.1 st.2.holds st.2.each (omega arith) c.slot.ensures refl refl in
+    let few = slot-few below start st.2.commits i part (omega arith) at.is in
     let all = st.2.few in
-    let low : c.slot.result.height ≡ below = ap (λ u. u.height) at.is in
+    let low : part.height ≡ below = ap (λ u. u.height) at.is in
     let high = st.1 in
-    let begins = slot-begins below start i c.slot.result at.is in
-    let ends = slot-ends below start i c.slot.result at.is in
-    let behind = slot-rise below start (c.slots_between-first.result.0 + 1) (i + 1) (omega arith) in
-    let before = slot-rise below start i c.slots_between-first.result.1 (omega arith) in
-    let first = met.begins in
-    let last = met.ends in (
-      omega arith,
-      (
-        outlives,
-        (
-          omega arith,
-          (
-            record {
-              above = is_inner (suc below) start;
-              commits = st.2.commits;
-              holds = at.holds;
-              counted = at.counted;
-              few = omega arith;
-            },
-            (omega (arith, ints), omega (arith, ints)),
-          ),
-        ),
-      ),
-    )
+    let met = slot-met below start c.args.range.from c.args.range.to _ _ i part (c.loop-i.invariant.between below st.1) at.is (omega arith) (omega arith) in
+    let some : IsSomeSlot part.height part.start (slot_in c.args.slots.now i) (child_in c.args.slots.now i) 0 = record { above = is_inner (suc below) start; commits = st.2.commits; holds = at.holds; counted = at.counted; few = omega arith } in
+    (omega arith, (outlives, (omega arith, (some, met))))
 
 pub agg_in_slots-join-all-requires : goal.agg_in_slots-join-all-requires
 agg_in_slots-join-all-requires over t c =
@@ -176,8 +156,8 @@ agg_in_slots-loop-i-preserved over t c =
             | inl seen ↦
                 let first = met.begins in
                 let last = met.ends in
-                let behind = slot-rise below start (c.slots_between-first.result.0 + 1) i (omega arith) in
-                let before = slot-rise below start i c.slots_between-first.result.1 (omega arith) in
+                let behind = slot-order below start (c.slots_between-first.result.0 + 1) i (omega arith) in
+                let before = slot-order below start i c.slots_between-first.result.1 (omega arith) in
                 steps-next c.args.span.height start (slot_start below start i) (slot_start below start (i + 1)) range.from range.to c.args.steps.now c.loop-i.steps c.agg_in_slot-part.new.steps (omega (arith, ints)) (omega (arith, ints)) (c.loop-i.invariant.bounded below e seen) cost
             | inr none ↦
                 steps-first c.args.span.height start (slot_start below start i) (slot_start below start (i + 1)) range.from range.to c.args.steps.now c.loop-i.steps c.agg_in_slot-part.new.steps from_start (c.loop-i.invariant.none (omega arith)) cost
@@ -202,7 +182,7 @@ agg_in_slots-returns-clause-bounded over t c =
     let range = c.args.range in
     let few = c.loop-i.invariant.bounded below st.1 (omega arith) in
     let end : slot_start below start 64 ≡ end_of c.args.span = slot-end below start ∙ ap (λ k. start +ℤ pos (width k)) (sym st.1) in
-    let rise = slot-rise below start c.loop-i.i 64 (omega arith) in
+    let rise = slot-order below start c.loop-i.i 64 (omega arith) in
     let more = ends-longer start (slot_start below start c.loop-i.i) (end_of c.args.span) range.from range.to (omega (arith, ints)) in
     let times = mul-le-mul_left c.args.span.height more in
     omega arith

@@ -4,7 +4,7 @@ use Rattle.btr_base.specs.Bag.{within}
 use Rattle.btr_tree.specs.History.{Past, bag}
 use Rattle.btr_tree.specs.Shape.{HasSlots, HasChildren, slot_start}
 use Rattle.btr_window.specs.RangeEnds.{ends_inside}
-use Rattle.btr_window.proofs.Slots.{IsBetween}
+use Rattle.btr_tree.proofs.RangeSlotLemmas.{IsBetween}
 use Rattle.btr_window.proofs.range_aggregate.+range_aggregate.Given as goal
 
 -- The aggregate of the slots so far, and the steps for the ends of the range inside them.

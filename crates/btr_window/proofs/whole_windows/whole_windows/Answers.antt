@@ -2,7 +2,8 @@ use Rattle.std.specs.Prelude.{pos, ◌+ℤ◌, ◌-ℤ◌, ◌≤ℤ◌}
 use Rattle.std.proofs.Common.{sym, ap, ◌∙◌, subst, arith}
 use Rattle.std.proofs.lemmas.Int.{ints}
 use Rattle.btr_base.specs.Windows.{begin_of}
-use Rattle.btr_window.proofs.Slots.{range-from, range-last, range-full, range-domain}
+use Rattle.btr_tree.proofs.RangeSlotLemmas.{range-from}
+use Rattle.btr_window.proofs.Ranges.{range-last, range-full, range-domain}
 use Rattle.btr_base.proofs.WindowLemmas.{aligned-grid, aligned-fits}
 use Rattle.btr_window.proofs.Bounds.{IsWhole, whole-is}
 use Rattle.btr_window.proofs.whole_windows.whole_windows.Goals as goal

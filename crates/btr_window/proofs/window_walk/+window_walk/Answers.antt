@@ -11,15 +11,16 @@ use Rattle.btr_base.specs.Bag.{within, IsInOrder, is_within}
 use Rattle.btr_base.proofs.ListLemmas.{each-weaker, length-filter}
 use Rattle.btr_tree.specs.History.{bag}
 use Rattle.btr_tree.specs.Nodes.{points_of, is_inner}
-use Rattle.btr_tree.specs.Change.{end_of}
+use Rattle.btr_tree.specs.Change.{IsSomeSlot, end_of}
 use Rattle.btr_tree.specs.Shape.{slot_start}
 use Rattle.btr_tree.specs.declared.node.Slot.{Slot}
-use Rattle.btr_tree.specs.Slots.{node_of, slot_in}
-use Rattle.btr_tree.proofs.NodeLemmas.{leaf-is, inner-is, child-same, slot-at, prefix-part, prefix-fewer}
+use Rattle.btr_tree.specs.Slots.{node_of, slot_in, child_in}
+use Rattle.btr_tree.proofs.NodeLemmas.{leaf-is, inner-is, seen-slots, child-same, slot-at, prefix-part, prefix-fewer}
 use Rattle.btr_tree.proofs.VersionLemmas.{points-in_order}
 use Rattle.btr_base.specs.Windows.{window_of, begin_of}
 use Rattle.btr_window.specs.Accumulate.{add_part, add_points, counted, AreStarts}
-use Rattle.btr_window.proofs.Slots.{inner-some, prefix-same, rest-empty, between-is, range-from, range-to, slot-rise, slot-begins, slot-ends, within-as, within-inside}
+use Rattle.btr_tree.proofs.RangeSlotLemmas.{range-from, range-to, prefix-gap, between-is, rest-empty, slot-met}
+use Rattle.btr_window.proofs.Ranges.{within-as, within-inside}
 use Rattle.btr_window.proofs.Adding.{points-more, room-more, add_points-part}
 use Rattle.btr_window.proofs.Cells.{within-between}
 use Rattle.btr_window.proofs.Starts.{starts-part}
@@ -56,7 +57,7 @@ walk_child-walk_slots-requires t c =
     let some = c.requires.some in
     let span = c.args.span in
     let d = c.decreases in
-    let slots = inner-some span (counted c.args.cells.now.items) (node_of c.args.child) c.in-Some.node c.in-Inner.version c.in-Inner.slots some c.in-Inner.is (c.in-Some.ensures.node span.height span.start some.above some.commits some.holds) in
+    let slots = seen-slots span.height span.start (counted c.args.cells.now.items) (node_of c.args.child) c.in-Some.node c.in-Inner.version c.in-Inner.slots some c.in-Inner.is (c.in-Some.ensures.node span.height span.start some.above some.commits some.holds) in
     let high = slots.1 in
     (omega arith, (slots, (c.requires.grid, (c.requires.begins, (c.requires.ends, c.requires.starts)))))
 
@@ -165,51 +166,29 @@ pub walk_slots-walk_slot-requires : goal.walk_slots-walk_slot-requires
 walk_slots-walk_slot-requires t c =
     let st = c.requires.some in
     let below = st.0 in
+    let h = st.2.commits in
     let start = c.args.span.start in
     let range = c.args.range in
     let grid = c.args.grid in
-    let old = c.args.cells.now.items in
-    let from = c.loop-i.from in
     let i = c.in-Some.i in
+    let part = c.slot.result in
     let found = c.in-Some.ensures in
     let order = found.0 in
     let place = found.1 in
-    let h = st.2.commits in
-    let part = c.slot.result in
     let d = c.decreases in
     let so_far = c.loop-i.invariant in
     let low_order = so_far.behind in
     let up_to_last = c.if-i-last.false in
-    let met = so_far.between below st.1 in
     let at = slot-at c.args.span below h i part _ _ c.args.slots.now st.1 st.2.holds st.2.each place c.slot.ensures refl refl in
-    let same = prefix-same below start h c.args.slots.now from i st.2.holds order (omega arith) found.3 in
-    let cells = so_far.cells below h st.1 st.2.holds st.2.each ∙ ap (λ b. add_points grid.first grid.width old (within range.from range.to b)) (sym same) in
-    let room = room-more grid.first grid.width range.from range.to old c.loop-i.cells.items (within start (slot_start below start i) (bag h)) (points_of part.height part.start (bag h)) (within start (slot_start below start (i + 1)) (bag h)) (prefix-part below start i h part at.is) cells in
+    let cells = so_far.cells below h st.1 st.2.holds st.2.each ∙ ap (λ b. add_points grid.first grid.width c.args.cells.now.items (within range.from range.to b)) (sym (prefix-gap below start h c.args.slots.now c.loop-i.from i st.2.holds order (omega arith) found.3)) in
+    let room = room-more grid.first grid.width range.from range.to c.args.cells.now.items c.loop-i.cells.items (within start (slot_start below start i) (bag h)) (points_of part.height part.start (bag h)) (within start (slot_start below start (i + 1)) (bag h)) (prefix-part below start i h part at.is) cells in
     let inside = prefix-fewer below start (i + 1) (bag h) (omega arith) in
     let all = st.2.few in
     let low : part.height ≡ below = ap (λ u. u.height) at.is in
     let high = st.1 in
-    let begins = slot-begins below start i part at.is in
-    let ends = slot-ends below start i part at.is in
-    let behind = slot-rise below start (c.slots_between-first.result.0 + 1) (i + 1) (omega arith) in
-    let before = slot-rise below start i c.slots_between-first.result.1 (omega arith) in
-    let first = met.begins in
-    let last = met.ends in (
-      omega arith,
-      (
-        (place, found.2),
-        (
-          record {
-            above = is_inner (suc below) start;
-            commits = h;
-            holds = at.holds;
-            counted = at.counted;
-            few = omega arith;
-          },
-          (c.requires.grid, (omega (arith, ints), (omega (arith, ints), so_far.starts))),
-        ),
-      ),
-    )
+    let met = slot-met below start range.from range.to _ _ i part (so_far.between below st.1) at.is (omega arith) (omega arith) in
+    let some : IsSomeSlot part.height part.start (slot_in c.args.slots.now i) (child_in c.args.slots.now i) (counted c.loop-i.cells.items) = record { above = is_inner (suc below) start; commits = h; holds = at.holds; counted = at.counted; few = omega arith } in
+    (omega arith, ((place, found.2), (some, (c.requires.grid, (met.0, (met.1, so_far.starts))))))
 
 pub walk_slots-loop-i-preserved : goal.walk_slots-loop-i-preserved
 walk_slots-loop-i-preserved t c =
@@ -217,12 +196,11 @@ walk_slots-loop-i-preserved t c =
     let range = c.args.range in
     let grid = c.args.grid in
     let old = c.args.cells.now.items in
-    let from = c.loop-i.from in
     let i = c.in-Some.i in
+    let part = c.slot.result in
     let found = c.in-Some.ensures in
     let order = found.0 in
     let place = found.1 in
-    let part = c.slot.result in
     let so_far = c.loop-i.invariant in
     let low_order = so_far.behind in
     let up_to_last = c.if-i-last.false in
@@ -234,8 +212,7 @@ walk_slots-loop-i-preserved t c =
       starts = c.in_ok-walk_slot.ensures.starts;
       cells = λ below h e slots each.
           let at = slot-at c.args.span below h i part _ _ c.args.slots.now e slots each place c.slot.ensures refl refl in
-          let same = prefix-same below start h c.args.slots.now from i slots order (omega arith) found.3 in
-          let cells = so_far.cells below h e slots each ∙ ap (λ b. add_points grid.first grid.width old (within range.from range.to b)) (sym same) in
+          let cells = so_far.cells below h e slots each ∙ ap (λ b. add_points grid.first grid.width old (within range.from range.to b)) (sym (prefix-gap below start h c.args.slots.now c.loop-i.from i slots order (omega arith) found.3)) in
           points-more grid.first grid.width range.from range.to old c.loop-i.cells.items c.walk_slot.new.cells.items (within start (slot_start below start i) (bag h)) (points_of part.height part.start (bag h)) (within start (slot_start below start (i + 1)) (bag h)) (prefix-part below start i h part at.is) cells (c.in_ok-walk_slot.ensures.cells (is_inner (suc below) start) h at.holds at.counted);
     }
 

@@ -3,7 +3,7 @@ use Rattle.btr_base.specs.Bag.{within}
 use Rattle.btr_tree.specs.History.{Past, bag}
 use Rattle.btr_tree.specs.Shape.{HasSlots, HasChildren, slot_start}
 use Rattle.btr_window.specs.Accumulate.{add_points, AreStarts}
-use Rattle.btr_window.proofs.Slots.{IsBetween}
+use Rattle.btr_tree.proofs.RangeSlotLemmas.{IsBetween}
 use Rattle.btr_window.proofs.window_walk.+window_walk.Given as goal
 
 -- The points of the slots before `from` are added.

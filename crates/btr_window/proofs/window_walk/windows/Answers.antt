@@ -2,7 +2,7 @@ use Rattle.std.proofs.Common.{◌≡◌, sym, ap, ◌∙◌, arith, to_z, of_z, 
 use Rattle.std.proofs.lemmas.Int.{to_z-of_z}
 use Rattle.btr_tree.specs.History.{bag}
 use Rattle.btr_base.specs.Windows.{begin_of}
-use Rattle.btr_window.proofs.Slots.{range-from, range-to}
+use Rattle.btr_tree.proofs.RangeSlotLemmas.{range-from, range-to}
 use Rattle.btr_window.proofs.Cells.{cells-none}
 use Rattle.btr_window.proofs.window_walk.windows.Goals as goal
 
