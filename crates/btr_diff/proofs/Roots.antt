@@ -1,7 +1,6 @@
 -- Lemmas on the comparison of whole trees.
 use Rattle.std.specs.Prelude.{◌≡◌, ℕ, ◌+◌, ◌≤◌, List, [], map, Option}
 use Rattle.std.proofs.Common.{sym, subst, arith}
-use Rattle.std.proofs.lemmas.Int.{ints}
 use Rattle.btr_base.specs.declared.point.Point.{Point}
 use Rattle.btr_base.specs.Point.{AreInDomain}
 use Rattle.btr_base.specs.declared.limits.TheConstants.{FIRST}
@@ -14,28 +13,16 @@ use Rattle.btr_tree.specs.History.{Past, bag}
 use Rattle.btr_tree.specs.Nodes.{above_root, is_node, is_inner, up_to}
 use Rattle.btr_tree.specs.Newer.{newer_nodes}
 use Rattle.btr_tree.specs.Agree.{AgreeSince}
-use Rattle.btr_tree.specs.Change.{IsSomeChild}
 use Rattle.btr_tree.specs.Root.{root_part}
 use Rattle.btr_tree.specs.EachHistory.{points_in}
-use Rattle.btr_tree.proofs.RootLemmas.{root-points, end-root}
+use Rattle.btr_tree.proofs.RootLemmas.{root-points}
 use Rattle.btr_tree.proofs.VersionLemmas.{points-since}
 use Rattle.btr_tree.specs.Shape.{IsChild}
 use Rattle.btr_diff.specs.declared.comparison.Comparison.{Comparison}
-use Rattle.btr_diff.specs.Comparison.{AddsChangedSlots, IsInside, BelongsTo, IsChildOf, newer_below}
+use Rattle.btr_diff.specs.Comparison.{AddsChangedSlots, IsChildOf, newer_below}
 use Rattle.btr_diff.proofs.ChangedSlots.{adds-all}
 use Rattle.btr_diff.proofs.Slots.{adds-as}
 use Rattle.btr_diff.proofs.Newer.{below-fewer}
-
-root-inside : IsInside 10 FIRST
-root-inside = record {
-  begins = omega (arith, ints);
-  ends = let end = end-root in omega (arith, ints);
-}
-
-pub root-belongs : (span : SpanValue) (child : Option NodeData) → span ≡ root_part → IsSomeChild 10 FIRST child 0 → BelongsTo span (IsChildOf span child)
-root-belongs span child e some =
-    let at : BelongsTo root_part (IsChildOf root_part child) = record { inside = root-inside; past = some.commits; holds = (some.above, some.holds) } in
-    subst (λ s. BelongsTo s (IsChildOf s child)) (sym e) at
 
 pub root-child : (span : SpanValue) (child : Option NodeData) (h : Past) → span ≡ root_part → IsChild 10 FIRST above_root h child → IsChildOf span child h
 root-child span child h e place = subst (λ s. IsChildOf s child h) (sym e) (above_root, place)

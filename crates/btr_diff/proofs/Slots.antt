@@ -1,21 +1,19 @@
--- Lemmas on what the slots of a span add, one after the other, on what belongs to a slot, and on slots without a point.
-use Rattle.std.specs.Prelude.{◌≡◌, ℕ, zero, suc, ◌+◌, ◌-◌, ◌<◌, ◌≤◌, ℤ, List, [], ◌++◌, Option}
-use Rattle.std.proofs.Common.{sym, ap, ◌∙◌, arith, subst, add-zero, append-nil}
+-- Lemmas on what the slots of a span add, one after the other, and on what belongs to a slot.
+use Rattle.std.specs.Prelude.{◌≡◌, ℕ, suc, ◌+◌, ◌<◌, ℤ, List, [], Option}
+use Rattle.std.proofs.Common.{sym, ap, ◌∙◌, arith, subst}
 use Rattle.std.proofs.lemmas.Int.{ints}
-use Rattle.std.proofs.lemmas.List.{nil_from_length}
 use Rattle.btr_base.specs.declared.point.Point.{Point}
 use Rattle.btr_base.specs.Range.{RangeValue}
 use Rattle.btr_base.specs.Bag.{within}
 use Rattle.btr_base.specs.Span.{SpanValue, slot_of}
-use Rattle.btr_base.proofs.AggLemmas.{agg-count}
 use Rattle.btr_tree.specs.declared.node.NodeData.{NodeData}
 use Rattle.btr_tree.specs.declared.node.Slot.{Slot}
 use Rattle.btr_tree.specs.declared.slots.Slots.{Slots}
-use Rattle.btr_tree.specs.Slots.{slot_in, child_in, AreEmpty}
+use Rattle.btr_tree.specs.Slots.{slot_in, child_in}
 use Rattle.btr_tree.specs.History.{Past, bag}
 use Rattle.btr_tree.specs.Nodes.{points_of, is_inner, last_change}
-use Rattle.btr_tree.specs.Shape.{slot_start, HasSlots}
-use Rattle.btr_tree.proofs.NodeLemmas.{slot-next, slot-from, points-slot, prefix-none, prefix-next, prefix-done, child-at}
+use Rattle.btr_tree.specs.Shape.{slot_start}
+use Rattle.btr_tree.proofs.NodeLemmas.{slot-next, slot-from, points-slot, prefix-none, prefix-done, child-at}
 use Rattle.btr_tree.proofs.VersionLemmas.{bag-in_order}
 use Rattle.btr_diff.specs.declared.comparison.Comparison.{Comparison}
 use Rattle.btr_diff.specs.Comparison.{AddsChangedSlots, AreSlotsOf, IsSlotOf, ArePointsOf, IncludesPointsOf}
@@ -46,14 +44,15 @@ adds-done by was now height below s i h k e is all =
 
 -- ---- A slot of an inner node.
 
-unfoldable pub slot-belongs : (span : SpanValue) (x : Slots) (k : Past) (i : ℕ) (part : SpanValue) (slot : Slot) (child : Option NodeData) → (are : AreSlotsOf span x k) → i < 64 → part ≡ slot_of span i → slot ≡ slot_in x i → child ≡ child_in x i → IsSlotOf part slot.version child k
-slot-belongs span x k i part slot child are place p q r =
+unfoldable pub slot-belongs : (span : SpanValue) (x : Slots) (k : Past) (i : ℕ) (part : SpanValue) (version : ℕ) (child : Option NodeData) → (are : AreSlotsOf span x k) → i < 64 → part ≡ slot_of span i → version ≡ (slot_in x i).version → child ≡ child_in x i → IsSlotOf part version child k
+slot-belongs span x k i part version child are place p q r =
     let at = child-at span are.below k i part child x are.height are.each place p r in
     record {
       above = suc are.below;
       begin = span.start;
       inner = ap (λ g. is_inner g span.start (bag k)) (sym are.height) ∙ are.inner;
-      carried = ap (λ (y : Slot). y.version) (q ∙ are.all.each i place)
+      carried = q
+          ∙ ap (λ (y : Slot). y.version) (are.all.each i place)
           ∙ ap (λ (u : SpanValue). last_change (is_inner (suc are.below) span.start) u.height u.start k) (sym at.is);
       holds = at.holds;
     }
@@ -67,28 +66,3 @@ slot-points span below i part h all e place is same =
     let whole : all ≡ points_of (suc below) s (bag h) = same ∙ ap (λ g. points_of g s (bag h)) e in
     ap (points_of part.height part.start) whole
     ∙ subst (λ (u : SpanValue). points_of u.height u.start (points_of (suc below) s (bag h)) ≡ points_of u.height u.start (bag h)) (sym is) (points-slot below s i (bag h) place)
-
--- ---- The slots without a point.
-
-slot-empty : (below : ℕ) (s : ℤ) (h : Past) (x : Slots) → HasSlots below s h x → (i : ℕ) → i < 64 → (slot_in x i).agg.count ≡ 0 → points_of below (slot_start below s i) (bag h) ≡ []
-slot-empty below s h x all i place none =
-    let here = points_of below (slot_start below s i) (bag h) in
-    nil_from_length here (sym (agg-count here) ∙ sym (ap (λ (y : Slot). y.agg.count) (all.each i place)) ∙ none)
-
-prefix-empty : (below : ℕ) (s : ℤ) (h : Past) (x : Slots) → HasSlots below s h x → (from n : ℕ) → from + n ≤ 64 → AreEmpty x from (from + n) → within s (slot_start below s (from + n)) (bag h) ≡ within s (slot_start below s from) (bag h)
-prefix-empty below s h x all from zero le none = ap (λ j. within s (slot_start below s j) (bag h)) (add-zero from)
-prefix-empty below s h x all from (suc n) le none =
-    let i = from + n in
-    let next : from + suc n ≡ i + 1 = omega arith in
-    let before = within s (slot_start below s i) (bag h) in
-    ap (λ j. within s (slot_start below s j) (bag h)) next
-    ∙ prefix-next below s i h
-    ∙ ap (λ here. before ++ here) (slot-empty below s h x all i (omega arith) (none i (omega arith) (omega arith)))
-    ∙ append-nil before
-    ∙ prefix-empty below s h x all from n (omega arith) (λ j low high. none j low (omega arith))
-
--- The points before a slot are those before an earlier one if the slots between have none.
-pub prefix-skip : (below : ℕ) (s : ℤ) (h : Past) (x : Slots) → HasSlots below s h x → (from to : ℕ) → from ≤ to → to ≤ 64 → AreEmpty x from to → within s (slot_start below s to) (bag h) ≡ within s (slot_start below s from) (bag h)
-prefix-skip below s h x all from to low high none =
-    let e : from + (to - from) ≡ to = omega arith in
-    subst (λ j. within s (slot_start below s j) (bag h) ≡ within s (slot_start below s from) (bag h)) e (prefix-empty below s h x all from (to - from) (omega arith) (subst (AreEmpty x from) (sym e) none))

@@ -1,6 +1,6 @@
 -- What the comparison of two trees adds to the changed slots, and which nodes it visits.
 use Rattle.std.specs.Prelude.{◌≡◌, ℕ, zero, suc, ℤ, pos, ◌+ℤ◌, Bool, true, not, ◌||◌, int_lt, ◌+◌, ◌<◌, ◌≤◌, ◌≤ℤ◌}
-use Rattle.std.specs.Prelude.{List, length, Option, if◌then◌else◌}
+use Rattle.std.specs.Prelude.{List, length, slice_index_or, Option, if◌then◌else◌}
 use Rattle.std.specs.List.{filter, list_any, AllByRecursion}
 use Rattle.btr_base.specs.declared.limits.TheConstants.{FIRST, END}
 use Rattle.btr_base.specs.declared.point.Point.{Point}
@@ -33,6 +33,10 @@ is_changed_at by a b t = list_any (λ q. contains (reach by q.time) t) (changed 
 -- The slots in which the two bags differ, each lengthened by the lead, are added to the ranges.
 pub record AddsChangedSlots (by : Comparison) (old new : List RangeValue) (a b : List Point) : Type 0 where
   pub times : (t : ℤ) → covered new t ≡ (covered old t || is_changed_at by a b t)
+
+-- The time of the point at an index, or that of `d` if there is none.
+abbrev pub point_time : List Point → ℕ → Point → ℤ
+point_time points i d = (slice_index_or points i d).time
 
 -- The points from a time on.
 abbrev pub rest_from : ℤ → List Point → List Point

@@ -7,12 +7,11 @@ ghost use Rattle.btr_diff.specs.Comparison.{BelongsTo, IsChildOf, AreSlotsOf};
 
 use btr_base::{Point, Span};
 use btr_tree::{UncountedChild, UncountedNode, UncountedSlots, visit_uncounted};
-use std::alloc::{AllocError, Global};
+use std::alloc::AllocError;
 
 /// Appends the points of a span to `out`, in order. It costs the nodes and points of the span.
 #[cycle(gathering)]
 fn gather_child(
-    alloc: Global,
     span: Span,
     child: UncountedChild<'_>,
     out: &mut Vec<Point>,
@@ -25,7 +24,7 @@ fn gather_child(
         None => Ok(()),
         Some(node) => match node {
             UncountedNode::Leaf { points, .. } => out.extend_from_slice(points),
-            UncountedNode::Inner { slots, .. } => gather_slots(alloc, span, slots, out),
+            UncountedNode::Inner { slots, .. } => gather_slots(span, slots, out),
         },
     }
 }
@@ -33,7 +32,6 @@ fn gather_child(
 /// Appends the points of the slots of an inner node to `out`, in order. It goes from one slot that has a point to the next.
 #[cycle(gathering)]
 pub(crate) fn gather_slots(
-    alloc: Global,
     span: Span,
     slots: UncountedSlots<'_>,
     out: &mut Vec<Point>,
@@ -44,7 +42,7 @@ pub(crate) fn gather_slots(
 {
     let mut from = 0;
     while let Some(i) = slots.next_occupied(from) {
-        gather_child(alloc, span.slot(i), slots.child(i), out)?;
+        gather_child(span.slot(i), slots.child(i), out)?;
         from = i + 1;
     }
     Ok(())

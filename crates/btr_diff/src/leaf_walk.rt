@@ -7,9 +7,10 @@ ghost use Rattle.btr_diff.specs.Comparison.{BelongsTo, Compares, VisitsBelow, Vi
 ghost use Rattle.btr_diff.specs.Comparison.{ArePointsOf, IncludesPointsOf, IsChildOf, IsSlotOf, AreSlotsOf};
 
 use crate::comparison::Comparison;
+use crate::newer_slot::NewerSlot;
 use crate::points::compare_points;
 use btr_base::{FAN_OUT, Point, Ranges, Span, points_between};
-use btr_tree::{Child, Node, Slots, Steps, visit};
+use btr_tree::{Node, Slots, Steps, visit};
 use std::alloc::AllocError;
 
 /// Compares the points of the older tree with an inner node of the newer one, slot by slot.
@@ -31,12 +32,10 @@ pub(crate) fn compare_points_with_slots<L>(
     ensures never_falls { steps.old ≤ steps.new }
 {
     for i in 0..FAN_OUT {
-        let slot = new.slot(i);
         compare_points_with_slot(
             span.slot(i),
-            slot.version,
             old,
-            new.child(i),
+            NewerSlot::of(new, i),
             comparison,
             out,
             steps,
@@ -50,9 +49,8 @@ pub(crate) fn compare_points_with_slots<L>(
 #[cycle(leaf_walk)]
 fn compare_points_with_slot<L>(
     span: Span,
-    version: u64,
     old: &[Point],
-    new: Child<'_>,
+    new: NewerSlot<'_>,
     comparison: Comparison,
     out: &mut Ranges,
     steps: &mut Steps<L>,
@@ -60,17 +58,17 @@ fn compare_points_with_slot<L>(
     requires p { comparison.p ≤ 62 }
     requires order { IsInOrder old.now }
     requires domain { AreInDomain old.now }
-    requires new { BelongsTo span (IsChildOf span (node_of new)) }
-    ensures adds { OnOk result (Compares comparison span (IncludesPointsOf span old.now) (IsSlotOf span version (node_of new.entry))
-        out.old out.new) }
-    ensures bounded { VisitsSlot comparison.since span version (node_of new.entry) steps.old steps.new }
+    requires new { BelongsTo span (IsChildOf span (node_of new.child)) }
+    ensures adds { OnOk result (Compares comparison span (IncludesPointsOf span old.now)
+        (IsSlotOf span new.entry.version (node_of new.entry.child)) out.old out.new) }
+    ensures bounded { VisitsSlot comparison.since span new.entry.version (node_of new.entry.child) steps.old steps.new }
     ensures never_falls { steps.old ≤ steps.new }
 {
-    if version <= comparison.since {
+    if new.version <= comparison.since {
         return Ok(());
     }
     let here = points_between(old, span.start, span.end());
-    match visit(new, steps) {
+    match visit(new.child, steps) {
         None => compare_points(here, &[], comparison, out),
         Some(node) => match node {
             Node::Leaf { points, .. } => compare_points(here, points, comparison, out),

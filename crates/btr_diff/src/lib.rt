@@ -12,6 +12,7 @@ mod comparing;
 mod comparison;
 mod gathering;
 mod leaf_walk;
+mod newer_slot;
 mod tree_walk;
 
 pub use comparing::{changes, changes_with_lead};

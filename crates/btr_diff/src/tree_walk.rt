@@ -12,11 +12,11 @@ ghost use Rattle.btr_diff.specs.Comparison.{IsChildOf, IsNodeOf, IsSlotOf, AreSl
 use crate::comparison::Comparison;
 use crate::gathering::gather_slots;
 use crate::leaf_walk::compare_points_with_slots;
+use crate::newer_slot::NewerSlot;
 use crate::points::compare_points;
 use btr_base::{FAN_OUT, Point, Ranges, Span};
 use btr_tree::{
-    Child, Node, Slots, Steps, UncountedChild, UncountedNode, UncountedSlots, visit,
-    visit_uncounted,
+    Node, Slots, Steps, UncountedChild, UncountedNode, UncountedSlots, visit, visit_uncounted,
 };
 use std::alloc::AllocError;
 
@@ -94,12 +94,10 @@ fn compare_slots<L>(
     ensures never_falls { steps.old ≤ steps.new }
 {
     for i in 0..FAN_OUT {
-        let slot = new.slot(i);
         compare_slot(
             span.slot(i),
-            slot.version,
             old.child(i),
-            new.child(i),
+            NewerSlot::of(new, i),
             comparison,
             out,
             steps,
@@ -113,25 +111,24 @@ fn compare_slots<L>(
 #[cycle(tree_walk)]
 fn compare_slot<L>(
     span: Span,
-    version: u64,
     old: UncountedChild<'_>,
-    new: Child<'_>,
+    new: NewerSlot<'_>,
     comparison: Comparison,
     out: &mut Ranges,
     steps: &mut Steps<L>,
 ) -> Result<(), AllocError>
     requires p { comparison.p ≤ 62 }
     requires old { BelongsTo span (IsChildOf span (uncounted_child old)) }
-    requires new { BelongsTo span (IsChildOf span (node_of new)) }
+    requires new { BelongsTo span (IsChildOf span (node_of new.child)) }
     ensures adds { OnOk result (Compares comparison span (IsChildOf span (uncounted_child old.entry))
-        (IsSlotOf span version (node_of new.entry)) out.old out.new) }
-    ensures bounded { VisitsSlot comparison.since span version (node_of new.entry) steps.old steps.new }
+        (IsSlotOf span new.entry.version (node_of new.entry.child)) out.old out.new) }
+    ensures bounded { VisitsSlot comparison.since span new.entry.version (node_of new.entry.child) steps.old steps.new }
     ensures never_falls { steps.old ≤ steps.new }
 {
-    if version <= comparison.since {
+    if new.version <= comparison.since {
         return Ok(());
     }
-    match visit(new, steps) {
+    match visit(new.child, steps) {
         None => compare_with_points(span, old, &[], comparison, out),
         Some(node) => compare_node(span, old, node, comparison, out, steps),
     }
@@ -158,7 +155,7 @@ pub(crate) fn compare_with_points(
             UncountedNode::Leaf { points, .. } => compare_points(points, new, comparison, out),
             UncountedNode::Inner { slots, .. } => {
                 let mut points = Vec::new(comparison.alloc);
-                gather_slots(comparison.alloc, span, slots, &mut points)?;
+                gather_slots(span, slots, &mut points)?;
                 compare_points(&points, new, comparison, out)
             }
         },

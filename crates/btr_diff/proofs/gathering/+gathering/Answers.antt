@@ -8,7 +8,7 @@ use Rattle.btr_tree.specs.Shape.{slot_start}
 use Rattle.btr_tree.proofs.NodeLemmas.{child-at, prefix-none, prefix-part, prefix-done}
 use Rattle.btr_tree.specs.Uncounted.{uncounted_child, uncounted_slots, as_counted}
 use Rattle.btr_diff.proofs.Nodes.{where_ok, found-uncounted, found-none_uncounted, leaf-points, inner-slots, child-belongs}
-use Rattle.btr_diff.proofs.Slots.{prefix-skip}
+use Rattle.btr_tree.proofs.RangeSlotLemmas.{prefix-gap}
 use Rattle.btr_diff.proofs.gathering.+gathering.Goals as goal
 
 pub gather_child-gather_slots-requires : goal.gather_child-gather_slots-requires
@@ -67,7 +67,7 @@ gather_slots-loop-i-preserved t c =
       place = omega arith;
       points = λ h all.
           let at = child-at span all.below h i part (uncounted_child c.child.result) (uncounted_slots c.args.slots) all.height all.each place c.slot.ensures c.child.ensures in
-          let skipped = prefix-skip all.below s h (uncounted_slots c.args.slots) all.all c.loop-i.from i next.0 (omega arith) next.3 in
+          let skipped = prefix-gap all.below s h (uncounted_slots c.args.slots) c.loop-i.from i all.all next.0 (omega arith) next.3 in
           let before = c.loop-i.invariant.points h all ∙ ap (λ x. c.args.out.now.items ++ x) (sym skipped) in
           points-more c.args.out.now.items (within s (slot_start all.below s i) (bag h)) (points_of part.height part.start (bag h)) (within s (slot_start all.below s (i + 1)) (bag h)) c.loop-i.out.items c.gather_child.new.out.items (prefix-part all.below s i h part at.is) before (c.in_ok-gather_child.ensures h (_, at.holds));
     }
@@ -75,6 +75,6 @@ gather_slots-loop-i-preserved t c =
 pub gather_slots-returns : goal.gather_slots-returns
 gather_slots-returns t c h all =
     let s = c.args.span.start in
-    let skipped = prefix-skip all.below s h (uncounted_slots c.args.slots) all.all c.loop-i.from 64 c.loop-i.invariant.place (omega arith) c.in_default.ensures in
+    let skipped = prefix-gap all.below s h (uncounted_slots c.args.slots) c.loop-i.from 64 all.all c.loop-i.invariant.place (omega arith) c.in_default.ensures in
     let done = sym skipped ∙ prefix-done c.args.span.height all.below s 64 h (omega arith) all.height in
     c.loop-i.invariant.points h all ∙ ap (λ x. c.args.out.now.items ++ x) done

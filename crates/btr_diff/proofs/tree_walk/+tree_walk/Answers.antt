@@ -84,34 +84,34 @@ compare_with_slots-returns-in-Inner-clause-adds over t c =
 
 -- ---- One slot.
 
-pub compare_slot-returns-then-version-comparison-clause-adds : goal.compare_slot-returns-then-version-comparison-clause-adds
-compare_slot-returns-then-version-comparison-clause-adds over t c h g was slot agree =
+pub compare_slot-returns-then-new-comparison-clause-adds : goal.compare_slot-returns-then-new-comparison-clause-adds
+compare_slot-returns-then-new-comparison-clause-adds over t c h g was slot agree =
     let span = c.args.span in
-    let same = agree.slots slot.above slot.begin span.height span.start (omega (arith, slot.carried, c.if-version-comparison.true)) in
+    let same = agree.slots slot.above slot.begin span.height span.start (omega (arith, slot.carried, c.if-new-comparison.true)) in
     adds-as c.args.comparison c.args.out.now c.args.out.now _ _ _ _ (λ i. points_of span.height span.start (bag h)) same (adds-none c.args.comparison c.args.out.now _)
 
 pub compare_slot-compare_node-requires : goal.compare_slot-compare_node-requires
 compare_slot-compare_node-requires over t c κs outlives =
     let new = c.requires.new in
     let d = c.decreases in
-    (omega arith, (outlives, (c.requires.p, (c.requires.old, record { inside = new.inside; past = new.past; holds = found-node c.args.span (node_of c.args.new) c.in-Some.node _ _ c.in-Some.ensures new.past new.holds }))))
+    (omega arith, (outlives, (c.requires.p, (c.requires.old, record { inside = new.inside; past = new.past; holds = found-node c.args.span (node_of c.args.new.child) c.in-Some.node _ _ c.in-Some.ensures new.past new.holds }))))
 
 pub compare_slot-returns-in-None-clause-adds : goal.compare_slot-returns-in-None-clause-adds
 compare_slot-returns-in-None-clause-adds over t c =
     let span = c.args.span in
     on_ok_weaker c.compare_with_points.result (λ e h g was slot agree.
-    adds-as c.args.comparison c.args.out.now c.compare_with_points.new.out _ _ _ _ (λ i. points_of span.height span.start (bag h)) (sym (found-none span (node_of c.args.new) _ _ c.in-None.ensures g (is_inner slot.above slot.begin, slot.holds))) (e h was)) c.compare_with_points.ensures
+    adds-as c.args.comparison c.args.out.now c.compare_with_points.new.out _ _ _ _ (λ i. points_of span.height span.start (bag h)) (sym (found-none span (node_of c.args.new.child) _ _ c.in-None.ensures g (is_inner slot.above slot.begin, slot.holds))) (e h was)) c.compare_with_points.ensures
 
 pub compare_slot-returns-in-Some-clause-adds : goal.compare_slot-returns-in-Some-clause-adds
 compare_slot-returns-in-Some-clause-adds over t c =
-    on_ok_weaker c.compare_node.result (λ e h g was slot agree. e h g was (found-node c.args.span (node_of c.args.new) c.in-Some.node _ _ c.in-Some.ensures g (is_inner slot.above slot.begin, slot.holds)) agree) c.compare_node.ensures.adds
+    on_ok_weaker c.compare_node.result (λ e h g was slot agree. e h g was (found-node c.args.span (node_of c.args.new.child) c.in-Some.node _ _ c.in-Some.ensures g (is_inner slot.above slot.begin, slot.holds)) agree) c.compare_node.ensures.adds
 
 pub compare_slot-returns-in-Some-clause-bounded : goal.compare_slot-returns-in-Some-clause-bounded
 compare_slot-returns-in-Some-clause-bounded over t c g slot =
     let span = c.args.span in
     let e = c.compare_node.ensures.bounded in
-    let node = found-node span (node_of c.args.new) c.in-Some.node _ _ c.in-Some.ensures g (is_inner slot.above slot.begin, slot.holds) in
-    let one = newer-slot span c.args.comparison.since c.args.version (node_of c.args.new) g (node-some span g c.in-Some.node node) c.if-version-comparison.false slot in
+    let node = found-node span (node_of c.args.new.child) c.in-Some.node _ _ c.in-Some.ensures g (is_inner slot.above slot.begin, slot.holds) in
+    let one = newer-slot span c.args.comparison.since c.args.new.version (node_of c.args.new.child) g (node-some span g c.in-Some.node node) c.if-new-comparison.false slot in
     let few = e g node in
     let more = c.visit.ensures.at_most in
     omega arith
@@ -134,7 +134,7 @@ compare_slots-compare_slot-requires over t c κs outlives =
     let d = c.decreases in
     let new = c.requires.new in
     let before = child-belongs c.args.span c.loop-i.i c.slot.result (uncounted_child c.child.result) (uncounted_slots c.args.old) c.requires.old (omega arith) c.slot.ensures c.child.ensures in
-    let child = child-belongs c.args.span c.loop-i.i c.slot.result (node_of c.child-in-loop-i.result) c.args.new.now new (omega arith) c.slot.ensures c.child-in-loop-i.ensures in
+    let child = child-belongs c.args.span c.loop-i.i c.slot.result (node_of c.of.result.child) c.args.new.now new (omega arith) c.slot.ensures c.of.ensures.child in
     let low = child.1 in
     (omega arith, (outlives, (c.requires.p, (before.0, child.0))))
 
@@ -159,11 +159,11 @@ compare_slots-loop-i-preserved over t c =
       adds = λ h g was slots agree.
           let each = below-same span.height slots.below was.below start h (uncounted_slots c.args.old) slots.height was.height was.each in
           let old = child-at span slots.below h i part (uncounted_child c.child.result) (uncounted_slots c.args.old) slots.height each low c.slot.ensures c.child.ensures in
-          let slot = slot-belongs span c.args.new.now g i part c.slot-slot.result (node_of c.child-in-loop-i.result) slots low c.slot.ensures c.slot-slot.ensures c.child-in-loop-i.ensures in
+          let slot = slot-belongs span c.args.new.now g i part c.of.result.version (node_of c.of.result.child) slots low c.slot.ensures c.of.ensures.version c.of.ensures.child in
           adds-slot c.args.comparison c.args.out.now c.loop-i.out c.compare_slot.new.out slots.below start i part h g old.is (before.adds h g was slots agree) (done.adds h g (is_inner (suc slots.below) start, old.holds) slot agree);
       bounded = λ g slots.
-          let at = child-at span slots.below g i part (node_of c.child-in-loop-i.result) c.args.new.now slots.height slots.each low c.slot.ensures c.child-in-loop-i.ensures in
-          let slot = slot-belongs span c.args.new.now g i part c.slot-slot.result (node_of c.child-in-loop-i.result) slots low c.slot.ensures c.slot-slot.ensures c.child-in-loop-i.ensures in
+          let at = child-at span slots.below g i part (node_of c.of.result.child) c.args.new.now slots.height slots.each low c.slot.ensures c.of.ensures.child in
+          let slot = slot-belongs span c.args.new.now g i part c.of.result.version (node_of c.of.result.child) slots low c.slot.ensures c.of.ensures.version c.of.ensures.child in
           bounded-slot slots.below start i part g since c.args.steps.now c.loop-i.steps c.compare_slot.new.steps at.is (before.bounded g slots) (done.bounded g slot);
       never_falls = let low = before.never_falls in
           let high = c.compare_slot.ensures.never_falls in omega arith;
@@ -188,6 +188,6 @@ compare_slots-returns-in_err-compare_slot-clause-bounded over t c g slots =
     let part = c.slot.result in
     let since = c.args.comparison.since in
     let low : i < 64 = omega arith in
-    let at = child-at span slots.below g i part (node_of c.child-in-loop-i.result) c.args.new.now slots.height slots.each low c.slot.ensures c.child-in-loop-i.ensures in
-    let slot = slot-belongs span c.args.new.now g i part c.slot-slot.result (node_of c.child-in-loop-i.result) slots low c.slot.ensures c.slot-slot.ensures c.child-in-loop-i.ensures in
+    let at = child-at span slots.below g i part (node_of c.of.result.child) c.args.new.now slots.height slots.each low c.slot.ensures c.of.ensures.child in
+    let slot = slot-belongs span c.args.new.now g i part c.of.result.version (node_of c.of.result.child) slots low c.slot.ensures c.of.ensures.version c.of.ensures.child in
     bounded-exit span.height slots.below start i g since c.args.steps.now c.compare_slot.new.steps slots.height slots.inner low (bounded-slot slots.below start i part g since c.args.steps.now c.loop-i.steps c.compare_slot.new.steps at.is (c.loop-i.invariant.bounded g slots) (c.compare_slot.ensures.bounded g slot))
