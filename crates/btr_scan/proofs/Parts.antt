@@ -1,20 +1,14 @@
 -- Lemmas on the slots that a range meets.
-use Rattle.std.specs.Prelude.{◌≡◌, ℕ, ◌+◌, ◌-◌, ◌*◌, ◌<◌, ◌≤◌, ℤ, pos, ◌+ℤ◌, ◌≤ℤ◌, ◌<ℤ◌, Bool, false, ◌&&◌, int_le, int_lt, cond, List, [], ◌∷◌, ◌++◌}
-use Rattle.std.specs.List.{filter}
-use Rattle.std.proofs.Common.{zero, suc, refl, sym, ap, ◌∙◌, arith, subst, append_assoc, inl, inr, mul-le-mul_right}
+use Rattle.std.specs.Prelude.{◌≡◌, ℕ, ◌+◌, ◌<◌, ◌≤◌, ℤ, pos, ◌+ℤ◌, ◌≤ℤ◌, List, ◌++◌}
+use Rattle.std.proofs.Common.{suc, sym, ap, ◌∙◌, arith, subst, append_assoc, inl, inr}
 use Rattle.std.proofs.Math.Nat.{eq-or-lt_of_le}
 use Rattle.std.proofs.lemmas.Int.{ints}
 use Rattle.btr_base.specs.declared.point.Point.{Point}
-use Rattle.btr_base.specs.Bag.{within, is_within}
-use Rattle.btr_base.proofs.ListLemmas.{filter-filter, filter-same}
+use Rattle.btr_base.specs.Bag.{within}
 use Rattle.btr_base.specs.Span.{width, SpanValue, slot_of}
 use Rattle.btr_base.proofs.WithinLemmas.{within-append}
-use Rattle.btr_tree.specs.History.{Past, bag}
-use Rattle.btr_tree.specs.Nodes.{points_of}
-use Rattle.btr_tree.specs.declared.slots.Slots.{Slots}
-use Rattle.btr_tree.specs.Slots.{AreEmpty}
-use Rattle.btr_tree.specs.Shape.{HasSlots, slot_start}
-use Rattle.btr_tree.proofs.NodeLemmas.{slot-next, slot-end, slot-inside, prefix-none, prefix-done}
+use Rattle.btr_tree.specs.Shape.{slot_start}
+use Rattle.btr_tree.proofs.NodeLemmas.{slot-end}
 use Rattle.btr_tree.proofs.RangeSlotLemmas.{slot_of-start, slot_of-end}
 
 -- The points of one more slot.

@@ -10,14 +10,13 @@ use Rattle.std.specs.List.{filter}
 use Rattle.std.proofs.lemmas.Int.{ints}
 use Rattle.btr_base.specs.Span.{width, SpanValue}
 use Rattle.btr_tree.specs.declared.node.Node.{Node}
-use Rattle.btr_tree.specs.declared.node.Node.TheVariants.{Leaf, Inner}
-use Rattle.btr_tree.specs.declared.slots.Slots.{Slots}
+use Rattle.btr_tree.specs.declared.node.Node.TheVariants.{Leaf}
 use Rattle.btr_tree.specs.History.{Past, bag}
 use Rattle.btr_tree.specs.Nodes.{points_of, is_inner}
 use Rattle.btr_tree.specs.declared.node.NodeData.{NodeData}
-use Rattle.btr_tree.specs.Shape.{slot_start, IsChild, HasSlots, HasChildren, IsNode}
-use Rattle.btr_tree.proofs.NodeLemmas.{leaf-is, inner-is, slot-few}
-use Rattle.btr_tree.specs.Change.{IsSomeChild, AreSomeSlots}
+use Rattle.btr_tree.specs.Shape.{slot_start, IsChild, IsNode}
+use Rattle.btr_tree.proofs.NodeLemmas.{leaf-is, slot-few}
+use Rattle.btr_tree.specs.Change.{IsSomeChild}
 use Rattle.btr_tree.proofs.VersionLemmas.{points-in_order}
 
 -- What a list is after a call that leaves it as it was if the call fails.

@@ -1,15 +1,14 @@
 -- Lemmas on slots without a point that follow one another, and on the points before and after them.
-use Rattle.std.specs.Prelude.{◌≡◌, ℕ, ◌+◌, ◌-◌, ◌<◌, ◌≤◌, ℤ, pos, ◌+ℤ◌, ◌≤ℤ◌, List, [], ◌∷◌, ◌++◌, length, Option, Some, None, slice_get}
+use Rattle.std.specs.Prelude.{◌≡◌, ℕ, ◌+◌, ◌-◌, ◌<◌, ◌≤◌, ℤ, pos, ◌+ℤ◌, ◌≤ℤ◌, List, [], ◌++◌, length, Option, Some, None, slice_get}
 use Rattle.std.specs.List.{last_or}
-use Rattle.std.proofs.Common.{zero, suc, refl, sym, ap, ◌∙◌, arith, subst, append-nil}
+use Rattle.std.proofs.Common.{zero, suc, sym, ap, ◌∙◌, arith, subst}
 use Rattle.std.proofs.lemmas.Int.{ints}
 use Rattle.btr_base.specs.declared.point.Point.{Point}
 use Rattle.btr_base.specs.Bag.{within}
 use Rattle.btr_base.specs.Span.{width, SpanValue}
-use Rattle.btr_base.proofs.AggLemmas.{agg-count}
 use Rattle.btr_base.proofs.WithinLemmas.{within-split, within-empty}
 use Rattle.btr_tree.specs.declared.slots.Slots.{Slots}
-use Rattle.btr_tree.specs.Slots.{slot_in, IsOccupied, AreEmpty}
+use Rattle.btr_tree.specs.Slots.{IsOccupied, AreEmpty}
 use Rattle.btr_tree.specs.History.{Past, bag}
 use Rattle.btr_tree.specs.Nodes.{points_of}
 use Rattle.btr_tree.proofs.VersionLemmas.{bag-in_order}

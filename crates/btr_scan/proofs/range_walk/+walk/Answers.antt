@@ -1,8 +1,6 @@
-use Rattle.std.proofs.Common.{◌≡◌, ℕ, suc, ◌+◌, ◌-◌, ◌++◌, pos, ◌+ℤ◌, ◌≤ℤ◌, ◌<ℤ◌, SFits, rules, sym, ap, ◌∙◌, subst, arith, append-nil, w64, to_z, of_z}
+use Rattle.std.proofs.Common.{◌≡◌, ℕ, suc, ◌+◌, ◌++◌, sym, ap, ◌∙◌, arith, append-nil}
 use Rattle.std.proofs.lemmas.Result.{on_ok_weaker}
-use Rattle.std.proofs.lemmas.Int.{to_z-of_z}
 use Rattle.btr_base.specs.Bag.{within}
-use Rattle.btr_base.specs.Span.{width, slot_of}
 use Rattle.btr_tree.specs.History.{bag}
 use Rattle.btr_tree.specs.Nodes.{points_of, is_inner}
 use Rattle.btr_tree.specs.Shape.{slot_start}
