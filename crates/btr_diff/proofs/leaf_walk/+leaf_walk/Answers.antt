@@ -142,11 +142,9 @@ pub compare_points_with_slots-returns-in_err-compare_points_with_slot-clause-bou
 unfolding slot-belongs
 compare_points_with_slots-returns-in_err-compare_points_with_slot-clause-bounded over t c g slots =
     let span = c.args.span in
-    let start = span.start in
     let i = c.loop-i.i in
     let part = c.slot.result in
-    let since = c.args.comparison.since in
     let low : i < 64 = omega arith in
     let at = child-at span slots.below g i part (node_of c.of.result.child) c.args.new.now slots.height slots.each low c.slot.ensures c.of.ensures.child in
     let slot = slot-belongs span c.args.new.now g i part c.of.result.version (node_of c.of.result.child) slots low c.slot.ensures c.of.ensures.version c.of.ensures.child in
-    bounded-exit span.height slots.below start i g since c.args.steps.now c.compare_points_with_slot.new.steps slots.height slots.inner low (bounded-slot slots.below start i part g since c.args.steps.now c.loop-i.steps c.compare_points_with_slot.new.steps at.is (c.loop-i.invariant.bounded g slots) (c.compare_points_with_slot.ensures.bounded g slot))
+    bounded-exit span.height slots.below span.start i g c.args.comparison.since c.args.steps.now c.compare_points_with_slot.new.steps slots.height slots.inner low (bounded-slot slots.below span.start i part g c.args.comparison.since c.args.steps.now c.loop-i.steps c.compare_points_with_slot.new.steps at.is (c.loop-i.invariant.bounded g slots) (c.compare_points_with_slot.ensures.bounded g slot))
