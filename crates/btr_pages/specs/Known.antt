@@ -1,12 +1,12 @@
 -- Trees that were made of pages: which block each one is of, and what was read from there.
-use Rattle.std.specs.Prelude.{◌≡◌, ℕ, ◌<◌, ◌≤◌, nat_eq, List, [], ◌∷◌, Option, Some, None, IfSome, IsSome, slice_get, if◌then◌else◌}
+use Rattle.std.specs.Prelude.{◌≡◌, ℕ, ◌<◌, ◌≤◌, nat_eq, List, [], ◌∷◌, Option, Some, None, IfSome, IsSome, IfOk, Result, slice_get, if◌then◌else◌}
 use Rattle.btr_base.specs.declared.limits.TheConstants.{FIRST}
 use Rattle.btr_tree.specs.Leads.{IsRead}
 use Rattle.btr_tree.specs.Root.{TreeValue, WasOpened, root_part, version_of}
 use Rattle.btr_tree.specs.Slots.{block_of}
 use Rattle.btr_node.specs.Page.{front, Keeps, span_of_page, slots_of_page}
 use Rattle.btr_node.specs.declared.page.NodePage.{NodePage}
-use Rattle.btr_pages.specs.Pages.{Pages, with_pages, nodes_in, IsPageAt}
+use Rattle.btr_pages.specs.Pages.{Pages, with_pages, nodes_in, HasRootPage, IsPageAt}
 
 -- The tree that was made of the page in a block, and the stream of the page.
 pub record KnownValue : Type 0 where
@@ -81,6 +81,11 @@ pub record IsReadRoot (pages : Pages) (stream version block : ℕ) (t : TreeValu
   pub not_newer : version_of t.node ≤ version
   pub opened : WasOpened t
   pub read : IsRead (nodes_in pages stream) 10 FIRST t.node
+
+-- If the block has the page of the root of a version among these pages, a call that succeeded returned the tree of the version.
+abbrev pub ReturnsRoot : {E : Type 0} → Pages → ℕ → ℕ → ℕ → Result TreeValue E → Type 0
+ReturnsRoot pages stream version block result =
+    HasRootPage pages stream version block → IfOk result (IsReadRoot pages stream version block)
 
 -- The block has a tree that was made, about the whole domain.
 pub record HasWholeTree (nodes : NodesValue) (block : ℕ) : Type 0 where

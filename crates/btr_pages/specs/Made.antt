@@ -73,6 +73,11 @@ abbrev pub part_of : NodesValue → Option PageSlot → Option TreeValue
 part_of nodes None = None
 part_of nodes (Some slot) = if nat_eq slot.agg.count 0 then None else option_map (λ k. k.tree) (node_at nodes slot.child)
 
+-- The tree of the child of a slot that has a point was made, and is this one.
+abbrev pub IsChildTree : NodesValue → ℕ → SpanValue → ℕ → PageSlot → TreeValue → Type 0
+IsChildTree nodes block place number slot t =
+    HasKnownChild nodes block place number slot × (part_of nodes (Some slot) ≡ Some t)
+
 -- The parts are the trees of the children of the first n slots of the page in a block.
 pub record ArePartsTo (n : ℕ) (nodes : NodesValue) (block : ℕ) (span : SpanValue) (number : ℕ) (slots : List PageSlot)
     (parts : List (ℕ × TreeValue)) : Type 0 where
@@ -86,10 +91,9 @@ pub record ArePartsTo (n : ℕ) (nodes : NodesValue) (block : ℕ) (span : SpanV
 abbrev pub versions_of : List PageSlot → List ℕ
 versions_of slots = map (λ s. s.version) slots
 
--- The fields of a page of this span.
-abbrev pub page_front : SpanValue → ℕ → ℕ → ℕ → Front
-page_front span number version count =
-    record { start = span.start; height = span.height; stream = number; version = version; count = count }
+-- The span of a page with these fields.
+abbrev pub front_span : Front → SpanValue
+front_span f = record { start = f.start; height = f.height }
 
 -- The points of a leaf's page: at least one and at most 252, in order and in the span.
 pub record AreLeafPoints (span : SpanValue) (points : List Point) : Type 0 where

@@ -2,7 +2,7 @@
 ghost use Rattle.std.specs.Prelude.{◌≡◌, ◌↔◌, ◌<◌, ◌≤◌, IfOk, IfSome, IfNone, IsTrue, MatchOption, option_map};
 ghost use Rattle.btr_base.specs.Span.{slot_of};
 ghost use Rattle.btr_pages.specs.Known.{node_at};
-ghost use Rattle.btr_pages.specs.Made.{ArePartsTo, HasKnownChild, HaveKnownChildren, IsKnownChild, part_of, versions_of};
+ghost use Rattle.btr_pages.specs.Made.{ArePartsTo, HasKnownChild, HaveKnownChildren, IsChildTree, IsKnownChild, versions_of};
 
 use crate::known::Known;
 use crate::nodes::Nodes;
@@ -48,7 +48,7 @@ fn part(
 ) -> Result<Option<Tree>, AllocError>
     requires some { 0 < slot.now.agg.count }
     ensures { IfOk result (λ r. MatchOption r (HasKnownChild nodes.now block place stream slot.now → ⊥)
-        (λ t. HasKnownChild nodes.now block place stream slot.now × (part_of nodes.now (Some slot.now) ≡ Some t))) }
+        (IsChildTree nodes.now block place stream slot.now)) }
 {
     match child(nodes, block, place, stream, slot) {
         None => Ok(None),

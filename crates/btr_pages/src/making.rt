@@ -1,7 +1,8 @@
 //! How a tree is made of a page.
-ghost use Rattle.std.specs.Prelude.{ℕ, IfOk, MatchOption};
+ghost use Rattle.std.specs.Prelude.{◌≡◌, ℕ, IfOk, MatchOption};
+ghost use Rattle.btr_base.specs.Span.{IsSpan};
 ghost use Rattle.btr_node.specs.Page.{Keeps, Fits, IsInnerPage};
-ghost use Rattle.btr_pages.specs.Made.{AreLeafPoints, HaveKnownChildren, IsBuildable, IsInnerMade, IsLeafMade, IsMadeAt, page_front};
+ghost use Rattle.btr_pages.specs.Made.{AreLeafPoints, HaveKnownChildren, IsBuildable, IsInnerMade, IsLeafMade, IsMadeAt, front_span};
 
 use crate::children::{parts_of, versions};
 use crate::known::Known;
@@ -24,23 +25,15 @@ pub(crate) fn make<L>(
     requires fits { Fits page.now }
     ensures { IfOk result (λ r. MatchOption r (IsBuildable nodes.now block page.now → ⊥) (IsMadeAt nodes.now block page.now)) }
 {
-    let Front {
-        stream,
-        version,
-        count,
-        ..
-    } = page.front();
+    let front = page.front();
     let span = page.span();
     let tree = match page {
         NodePage::Leaf { points, .. } => {
-            let points = &points[..count as usize];
-            make_leaf(alloc, block, span, version, points, steps)?
+            let points = &points[..front.count as usize];
+            make_leaf(alloc, block, span, front.version, points, steps)?
         }
         NodePage::Inner { slots, .. } => {
-            let Some(tree) = make_inner(
-                alloc, nodes, block, span, stream, version, count, slots, steps,
-            )?
-            else {
+            let Some(tree) = make_inner(alloc, nodes, block, &front, slots, steps)? else {
                 return Ok(None);
             };
             tree
@@ -48,8 +41,8 @@ pub(crate) fn make<L>(
     };
     Ok(Some(Known {
         block,
-        stream,
-        count,
+        stream: front.stream,
+        count: front.count,
         tree,
     }))
 }
@@ -76,20 +69,30 @@ fn make_inner<L>(
     alloc: Global,
     nodes: &Nodes,
     block: u64,
-    span: Span,
-    stream: u32,
-    version: u64,
-    count: u64,
+    front: &Front,
     slots: &[PageSlot; 64],
     steps: &mut Steps<L>,
 ) -> Result<Option<Tree>, AllocError>
-    requires keeps { IsInnerPage (page_front span stream version count) slots.now }
-    ensures { IfOk result (λ r. MatchOption r (HaveKnownChildren nodes.now block span stream slots.now → ⊥)
-        (IsInnerMade nodes.now block span stream version slots.now)) }
+    requires keeps { IsInnerPage front.now slots.now }
+    ensures { IfOk result (λ r. MatchOption r (HaveKnownChildren nodes.now block (front_span front.now) front.now.stream slots.now → ⊥)
+        (IsInnerMade nodes.now block (front_span front.now) front.now.stream front.now.version slots.now)) }
 {
-    let Some(parts) = parts_of(alloc, nodes, block, span, stream, slots)? else {
+    let span = span_of(front);
+    let Some(parts) = parts_of(alloc, nodes, block, span, front.stream, slots)? else {
         return Ok(None);
     };
+    let version = front.version;
     let tree = Tree::inner(alloc, span, version, block, &parts, &versions(slots), steps)?;
     Ok(Some(tree))
+}
+
+/// The span of a page with these fields.
+fn span_of(front: &Front) -> Span
+    requires { IsSpan (front_span front.now) }
+    ensures { result ≡ front_span front.now }
+{
+    Span {
+        start: front.start,
+        height: front.height as u8,
+    }
 }

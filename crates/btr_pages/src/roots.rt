@@ -3,7 +3,7 @@ ghost use Rattle.std.specs.Prelude.{◌≡◌, ◌↔◌, ℕ, ◌<◌, IfOk, If
 ghost use Rattle.btr_tree.specs.History.{nothing};
 ghost use Rattle.btr_tree.specs.Root.{IsTree, WasOpened};
 ghost use Rattle.btr_pages.specs.Pages.{Pages, HasRootPage};
-ghost use Rattle.btr_pages.specs.Known.{AreKnown, ArePartOf, HasWholeTree, IsReadRoot, node_at};
+ghost use Rattle.btr_pages.specs.Known.{AreKnown, ArePartOf, HasWholeTree, ReturnsRoot, node_at};
 ghost use Rattle.btr_pages.specs.Made.{IsKnownRoot};
 
 use crate::known::Known;
@@ -34,9 +34,9 @@ impl Nodes {
         ensures none { IsNone (node_at self.now block) → IfOk result (IsTree nothing) }
         ensures is { 0 < block → IfSome (node_at self.now block) (λ known. IfOk result (λ t. t ≡ known.tree)) }
         ensures root { 0 < block → (pages : Pages) (stream version : ℕ) → AreKnown pages self.now
-            → HasRootPage pages stream version block → IfOk result (IsReadRoot pages stream version block) }
+            → ReturnsRoot pages stream version block result }
         ensures part { 0 < block → (pages : Pages) (stream version : ℕ) → ArePartOf pages self.now → IsSome (node_at self.now block)
-            → HasRootPage pages stream version block → IfOk result (IsReadRoot pages stream version block) }
+            → ReturnsRoot pages stream version block result }
     {
         if block == 0 {
             return Ok(Tree::empty());
