@@ -35,13 +35,10 @@ pub zero_block : replicate 4096 0 ≡ zeros 4096
 unfolding zeros
 zero_block = refl
 
--- A head, a content, zeros, pages, and one block of zeros, one after the other.
-pub in_order : (head front written first pages run content padded bytes : List ℕ) → front ≡ [] ++ head → written ≡ front ++ content → first ≡ written ++ padded → pages ≡ first ++ bytes → run ≡ pages ++ replicate 4096 0 → run ≡ (head ++ ((content ++ padded) ++ bytes)) ++ zeros 4096
-in_order head front written first pages run content padded bytes front_is written_is first_is pages_is run_is =
-    let filled = content ++ padded in
-    let start : first ≡ head ++ filled = first_is ∙ ap (λ l. l ++ padded) (written_is ∙ ap (λ l. l ++ content) front_is) ∙ append_assoc head content padded in
-    let body : pages ≡ head ++ (filled ++ bytes) = pages_is ∙ ap (λ l. l ++ bytes) start ∙ append_assoc head filled bytes in
-    run_is ∙ ap (λ l. l ++ replicate 4096 0) body ∙ ap (λ l. (head ++ (filled ++ bytes)) ++ l) zero_block
+-- A head, a content and zeros, one after the other.
+pub in_order : (head front written first content padded : List ℕ) → front ≡ [] ++ head → written ≡ front ++ content → first ≡ written ++ padded → first ≡ head ++ (content ++ padded)
+in_order head front written first content padded front_is written_is first_is =
+    first_is ∙ ap (λ l. l ++ padded) (written_is ∙ ap (λ l. l ++ content) front_is) ∙ append_assoc head content padded
 
 -- A head, a content and zeros, and then the blocks that are made late.
 pub late_is : (head : Head) (e : Entry) (stream : ℕ) (nodes : List NewNodeValue) (front : List ℕ) → front ≡ head_bytes head ++ (spelling e ++ zeros (padding (length (spelling e)))) → front ++ late_bytes true stream nodes ≡ extent_bytes head (spelling e) (pages_of stream nodes)

@@ -13,12 +13,12 @@ ghost use Rattle.btr_engine.specs.Late.{late_bytes};
 ghost use Rattle.btr_engine.specs.Mark.{body_of_roll};
 ghost use Rattle.btr_engine.specs.Travel.{written_pages};
 
+use crate::late::fill_blocks;
 use crate::maker::Maker;
 use btr_disk::{BLOCK, Parts};
 use btr_entry::{append_entry, append_front, spelling_length};
 use btr_hist::Entry;
 use btr_log::{HEAD_BYTES, Head, blocks_of_content};
-use btr_pages::append_page;
 use btr_roll::{Roll, encode_roll};
 use btr_streams::Staged;
 use btr_tree::NewNode;
@@ -112,7 +112,6 @@ fn in_one_part(
     append_entry(&mut extent, entry)?;
     fill_up(&mut extent, spelling_length(entry))?;
     put_pages(&mut extent, stream, nodes)?;
-    extent.extend_from_slice(&[0; BLOCK])?;
     Parts::of(alloc, extent)
 }
 
@@ -160,7 +159,9 @@ pub(crate) fn encode_checkpoint(
 }
 
 /// Returns the number of bytes of a body of this many blocks and of the block after it. An `Err` is that no memory has this many.
-fn bytes_of(blocks: u64) -> Result<usize, AllocError> {
+fn bytes_of(blocks: u64) -> Result<usize, AllocError>
+    ensures { IfOk result (λ n. n ≡ 4096 * blocks + 4096) }
+{
     let Some(length) = (blocks as usize).checked_mul(BLOCK) else {
         return Err(AllocError);
     };
@@ -198,12 +199,15 @@ fn zeros_after(alloc: Global, content: u64) -> Result<Vec<u8>, AllocError>
     Ok(bytes)
 }
 
-/// Appends the pages of nodes of a stream, one in each block. An `Err` is out of memory.
+/// Appends the pages of nodes of a stream, one in each block, and one block of zeros. An `Err` is out of memory.
 fn put_pages(extent: &mut Vec<u8>, stream: u32, nodes: &[NewNode]) -> Result<(), AllocError>
-    ensures { OnOk result (extent.new.items ≡ extent.old.items ++ flat_map page_bytes (pages_of stream nodes.now)) }
+    ensures { OnOk result (extent.new.items ≡ extent.old.items ++ late_bytes true stream nodes.now) }
 {
-    for node in nodes {
-        append_page(extent, node, stream)?;
-    }
+    let begin = extent.len();
+    let Some(end) = begin.checked_add(bytes_of(nodes.len() as u64)?) else {
+        return Err(AllocError);
+    };
+    extent.resize(end, 0)?;
+    fill_blocks(&mut extent[begin..], nodes, stream, 0);
     Ok(())
 }

@@ -1,12 +1,10 @@
 //! The blocks of an extent that are made while they are written.
-ghost use Rattle.std.specs.Prelude.{◌≡◌, ◌+◌, ◌*◌, ◌<◌, ◌^◌, ◌≤◌, length, take, drop};
-ghost use Rattle.btr_engine.specs.Late.{late_bytes};
+ghost use Rattle.std.specs.Prelude.{◌≡◌, ◌+◌, ◌*◌, ◌%◌, ◌<◌, ◌^◌, ◌≤◌, ◌++◌, true, length, take, drop, option_map};
+ghost use Rattle.btr_engine.specs.Late.{node_block, late_bytes};
 
 use crate::maker::Maker;
-use btr_disk::bytes::put;
 use btr_disk::{BLOCK, Blocks, Outlet, Supply};
-use btr_node::spell;
-use btr_pages::page_of;
+use btr_pages::fill_page;
 use btr_tree::NewNode;
 use std::marker::Sync;
 
@@ -17,20 +15,6 @@ pub struct LatePages<'a> {
     pub(crate) nodes: &'a [NewNode],
     pub(crate) is_late: bool,
     ghost few: { length nodes.now < 2 ^ 62 },
-}
-
-impl LatePages<'_> {
-    /// A block: the page of a node, or the block of zeros after the pages.
-    fn block(&self, i: usize) -> [u8; BLOCK]
-        requires { 4096 * i + 4096 ≤ length (late_bytes self.now.is_late self.now.stream self.now.nodes.now) }
-        ensures { result ≡ take 4096 (drop (4096 * i) (late_bytes self.now.is_late self.now.stream self.now.nodes.now)) }
-    {
-        let mut block = [0; BLOCK];
-        if let Some(node) = self.nodes.get(i) {
-            spell(&page_of(node, self.stream), &mut block);
-        }
-        block
-    }
 }
 
 impl Blocks for LatePages<'_> {
@@ -47,9 +31,40 @@ impl Blocks for LatePages<'_> {
     }
 
     fn fill(&self, first: usize, to: &mut [u8]) {
-        for i in 0..to.len() / BLOCK {
-            put(to, i * BLOCK, &self.block(first + i));
-        }
+        fill_blocks(to, self.nodes, self.stream, first);
+    }
+}
+
+/// Fills `to`, which is whole blocks, with those from block `first` on of the pages of nodes of a stream, one in each block, and of one
+/// block of zeros after them.
+pub(crate) fn fill_blocks(to: &mut [u8], nodes: &[NewNode], stream: u32, first: usize)
+    requires whole { length to.old % 4096 ≡ 0 }
+    requires inside { 4096 * first + length to.old ≤ length (late_bytes true stream nodes.now) }
+    requires few { length nodes.now < 2 ^ 62 }
+    ensures { to.new ≡ take (length to.old) (drop (4096 * first) (late_bytes true stream nodes.now)) }
+{
+    for i in 0..to.len() / BLOCK {
+        fill_first(&mut to[i * BLOCK..], nodes.get(first + i), stream);
+    }
+}
+
+/// Fills the first block of `to` with the page of a node of a stream, or with zeros if there is none.
+fn fill_first(to: &mut [u8], node: Option<&NewNode>, stream: u32)
+    requires { 4096 ≤ length to.old }
+    ensures { to.new ≡ node_block stream (option_map (λ n. n.now) node.entry) ++ drop 4096 to.old }
+{
+    if let Some(block) = to.first_chunk_mut::<BLOCK>() {
+        fill_block(block, node, stream);
+    }
+}
+
+/// Fills a block with the page of a node of a stream, or with zeros if there is none.
+fn fill_block(to: &mut [u8; BLOCK], node: Option<&NewNode>, stream: u32)
+    ensures { to.new ≡ node_block stream (option_map (λ n. n.now) node.entry) }
+{
+    match node {
+        Some(node) => fill_page(to, node, stream),
+        None => to.fill(0),
     }
 }
 

@@ -1,10 +1,8 @@
 //! Pages of nodes, byte by byte, and blocks that are no page.
 
 use super::fixture::{Row, all_hold};
-use btr_base::{Agg, FIRST, Point};
-use btr_node::{
-    NodePage, PAGE, PLACES, PageSlot, SLOTS, decode, no_two_pages_have_the_same_bytes, spell,
-};
+use btr_base::{Agg, FIRST, LEAF_POINTS, Point};
+use btr_node::{NodePage, PAGE, PageSlot, SLOTS, decode, no_two_pages_have_the_same_bytes, spell};
 use std::alloc::Global;
 use std::test::Fail;
 
@@ -21,13 +19,13 @@ const LEAF_FIELDS: [u8; 40] = [
 ];
 
 /// Its points.
-const LEAF_POINTS: [u8; 48] = [
+const THREE_POINTS: [u8; 48] = [
     0, 0, 0, 0, 0, 0, 0, 0, 0, 0, 0, 0, 0, 0, 0, 5, //
     0, 0, 0, 0, 0, 0, 0, 3, 0, 0, 0, 0, 0, 0, 0, 7, //
     0, 0, 0, 0, 0, 0, 0, 4, 0xff, 0xff, 0xff, 0xff, 0xff, 0xff, 0xff, 0xfe,
 ];
 
-const LEAF: &[At] = &[At(0, &LEAF_FIELDS), At(64, &LEAF_POINTS)];
+const LEAF: &[At] = &[At(0, &LEAF_FIELDS), At(64, &THREE_POINTS)];
 
 /// The fields of the inner node from time 0 on, of height 1, of stream 258 at version 9, with 253 points.
 const INNER_FIELDS: [u8; 40] = [
@@ -82,7 +80,7 @@ fn block(parts: &[At]) -> Result<[u8; PAGE], Fail> {
 
 /// The leaf with the bytes `LEAF`.
 fn leaf() -> NodePage {
-    let mut points = [Point { time: 0, value: 0 }; PLACES];
+    let mut points = [Point { time: 0, value: 0 }; LEAF_POINTS];
     points[0] = Point { time: 0, value: 5 };
     points[1] = Point { time: 3, value: 7 };
     points[2] = Point { time: 4, value: -2 };
@@ -119,7 +117,7 @@ fn empty(version: u64) -> PageSlot {
 
 /// The aggregate of 252 points of the value -1.
 fn agg_of_many() -> Agg {
-    Agg::of_points(&[Point { time: 0, value: -1 }; PLACES])
+    Agg::of_points(&[Point { time: 0, value: -1 }; LEAF_POINTS])
 }
 
 /// The inner node with the bytes `INNER`.

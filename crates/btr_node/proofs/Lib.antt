@@ -1,5 +1,5 @@
 mod Pieces
-mod Appended
+mod Filled
 mod Spelled
 mod Places
 mod FitLemmas

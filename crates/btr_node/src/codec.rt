@@ -3,13 +3,13 @@ ghost use Rattle.std.specs.Prelude.{◌≡◌, IfSome, take, codes};
 ghost use Rattle.btr_node.specs.declared.page.NodePage.{NodePage as PageValue};
 ghost use Rattle.btr_node.specs.Page.{page_bytes, Keeps, Spells, Fits};
 
-use crate::fields::put;
+use crate::filling::{fill_leaf, put_inner_end, put_inner_front};
 use crate::inner_table::is_inner;
 use crate::leaf_table::is_leaf;
-use crate::page::{NodePage, PAGE, PLACES, PageSlot, SLOTS};
+use crate::page::{NodePage, PAGE, PageSlot, SLOTS};
 use crate::reading::{read_front, read_points, read_slots};
-use crate::writing::{put_front, put_points, put_slots};
-use btr_base::{Agg, Point};
+use crate::writing::put_slots;
+use btr_base::{Agg, LEAF_POINTS, Point};
 
 /// The first eight bytes of a leaf's page.
 pub(crate) const LEAF_MARK: [u8; 8] = *b"BTR-LEAF";
@@ -39,15 +39,12 @@ pub fn spell(page: &NodePage, to: &mut [u8; PAGE])
     let front = page.front();
     match page {
         NodePage::Leaf { points, .. } => {
-            put(to, 0, &LEAF_MARK);
-            put_front(to, &front);
-            put_points(to, points);
+            fill_leaf(to, &front, points);
         }
         NodePage::Inner { slots, .. } => {
-            put(to, 0, &NODE_MARK);
-            put_front(to, &front);
+            put_inner_front(to, &front);
             put_slots(to, slots);
-            put(to, 3648, &[0; 448]);
+            put_inner_end(to);
         }
     }
 }
@@ -85,7 +82,7 @@ fn leaf_of(bytes: &[u8; PAGE]) -> Option<NodePage>
         return None;
     }
     let front = read_front(bytes);
-    let mut points = [Point { time: 0, value: 0 }; PLACES];
+    let mut points = [Point { time: 0, value: 0 }; LEAF_POINTS];
     read_points(bytes, &mut points);
     if !is_leaf(&front, &points) {
         return None;

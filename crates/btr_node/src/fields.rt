@@ -37,8 +37,8 @@ pub(crate) fn u128_at(bytes: &[u8; PAGE], at: usize) -> u128
 }
 
 /// Writes a piece from the index `at` on.
-pub(crate) fn put<const N: usize>(to: &mut [u8; N], at: usize, piece: &[u8])
-    requires { at + length piece.now ≤ N }
+pub(crate) fn put(to: &mut [u8; PAGE], at: usize, piece: &[u8])
+    requires { at + length piece.now ≤ 4096 }
     ensures { take (at + length piece.now) to.new ≡ take at to.old ++ piece.now }
 {
     let bytes = &mut to[..];
@@ -47,8 +47,8 @@ pub(crate) fn put<const N: usize>(to: &mut [u8; N], at: usize, piece: &[u8])
 
 /// Writes a number in four bytes.
 #[tactic(auto, unfolding(crate::specs::Page::number))]
-pub(crate) fn put_u32<const N: usize>(to: &mut [u8; N], at: usize, n: u32)
-    requires { at + 4 ≤ N }
+pub(crate) fn put_u32(to: &mut [u8; PAGE], at: usize, n: u32)
+    requires { at + 4 ≤ 4096 }
     ensures { take (at + 4) to.new ≡ take at to.old ++ number w32 n }
 {
     put(to, at, &n.to_be_bytes());
@@ -56,8 +56,8 @@ pub(crate) fn put_u32<const N: usize>(to: &mut [u8; N], at: usize, n: u32)
 
 /// Writes a number in eight bytes.
 #[tactic(auto, unfolding(crate::specs::Page::number))]
-pub(crate) fn put_u64<const N: usize>(to: &mut [u8; N], at: usize, n: u64)
-    requires { at + 8 ≤ N }
+pub(crate) fn put_u64(to: &mut [u8; PAGE], at: usize, n: u64)
+    requires { at + 8 ≤ 4096 }
     ensures { take (at + 8) to.new ≡ take at to.old ++ number w64 n }
 {
     put(to, at, &n.to_be_bytes());
@@ -65,8 +65,8 @@ pub(crate) fn put_u64<const N: usize>(to: &mut [u8; N], at: usize, n: u64)
 
 /// Writes a number in sixteen bytes.
 #[tactic(auto, unfolding(crate::specs::Page::number))]
-pub(crate) fn put_u128<const N: usize>(to: &mut [u8; N], at: usize, n: u128)
-    requires { at + 16 ≤ N }
+pub(crate) fn put_u128(to: &mut [u8; PAGE], at: usize, n: u128)
+    requires { at + 16 ≤ 4096 }
     ensures { take (at + 16) to.new ≡ take at to.old ++ number w128 n }
 {
     put(to, at, &n.to_be_bytes());

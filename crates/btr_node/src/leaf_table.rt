@@ -4,18 +4,18 @@ ghost use Rattle.std.specs.List.{AllByRecursion};
 ghost use Rattle.btr_base.specs.Bag.{IsInOrder};
 ghost use Rattle.btr_node.specs.Page.{IsLeafPage, IsInside, IsUnused};
 
-use crate::page::{Front, PLACES};
+use crate::page::Front;
 use crate::span_table::{kept_span, start_of};
-use btr_base::{Point, Span};
+use btr_base::{LEAF_POINTS, Point, Span};
 
 /// Whether a leaf's page keeps the table.
-pub(crate) fn is_leaf(front: &Front, points: &[Point; PLACES]) -> bool
+pub(crate) fn is_leaf(front: &Front, points: &[Point; LEAF_POINTS]) -> bool
     ensures { IsTrue result ↔ IsLeafPage front.now points.now }
 {
     let Some(span) = kept_span(front) else {
         return false;
     };
-    if front.count < 1 || front.count > PLACES as u64 {
+    if front.count < 1 || front.count > LEAF_POINTS as u64 {
         return false;
     }
     let (used, rest) = points.split_at(front.count as usize);

@@ -30,12 +30,13 @@ mod leaf_table;
 mod span_table;
 // the two directions
 mod codec;
-// pages after one another in a list of bytes
-mod appending;
+// pages that are filled in place
+mod filling;
 // what the definitions entail
 mod laws;
 
-pub use appending::{append_inner_end, append_inner_front, append_leaf, append_slot};
 pub use codec::{decode, encode, spell};
+pub use filling::{fill_leaf, put_inner_end, put_inner_front};
 pub use laws::no_two_pages_have_the_same_bytes;
-pub use page::{Front, NodePage, PAGE, PLACES, PageSlot, SLOTS};
+pub use page::{Front, NodePage, PAGE, PageSlot, SLOTS};
+pub use writing::put_slot;

@@ -7,9 +7,6 @@ use btr_base::{Agg, Point, Span};
 /// The number of bytes of a page.
 pub const PAGE: usize = 4096;
 
-/// The number of places for points of a leaf's page.
-pub const PLACES: usize = 252;
-
 /// The number of slots of an inner node's page.
 pub const SLOTS: usize = 64;
 

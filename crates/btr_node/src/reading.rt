@@ -4,8 +4,8 @@ ghost use Rattle.std.specs.Int.{cast_signed, w64, w128};
 ghost use Rattle.btr_node.specs.Reading.{front_in, point_in, agg_from, slot_in, items_in, IsExact, IsExactAt, AreExact};
 
 use crate::fields::{u32_at, u64_at, u128_at};
-use crate::page::{Front, PAGE, PLACES, PageSlot, SLOTS};
-use btr_base::{Agg, Point};
+use crate::page::{Front, PAGE, PageSlot, SLOTS};
+use btr_base::{Agg, LEAF_POINTS, Point};
 
 /// The fields of both kinds.
 #[tactic(auto, unfolding(crate::specs::Reading::front_in))]
@@ -22,10 +22,10 @@ pub(crate) fn read_front(bytes: &[u8; PAGE]) -> Front
 }
 
 /// Reads all places for points.
-pub(crate) fn read_points(bytes: &[u8; PAGE], points: &mut [Point; PLACES])
+pub(crate) fn read_points(bytes: &[u8; PAGE], points: &mut [Point; LEAF_POINTS])
     ensures { points.new ≡ items_in point_in 16 252 64 bytes.now }
 {
-    for i in 0..PLACES {
+    for i in 0..LEAF_POINTS {
         points[i] = point_at(bytes, 64 + 16 * i);
     }
 }

@@ -1,16 +1,15 @@
 //! A page's fields, points and slots written in order, each after the last.
-ghost use Rattle.std.specs.Prelude.{◌≡◌, ◌+◌, ◌≤◌, ◌++◌, take};
+ghost use Rattle.std.specs.Prelude.{◌≡◌, ◌+◌, ◌*◌, ◌<◌, ◌≤◌, ◌++◌, length, take};
 ghost use Rattle.std.specs.Int.{w64, w128, cast_unsigned};
 ghost use Rattle.std.specs.List.{flat_map};
 ghost use Rattle.btr_node.specs.Page.{front_bytes, point_bytes, slot_bytes, ends_or};
 
 use crate::fields::{put, put_u32, put_u64, put_u128};
-use crate::page::{Front, PAGE, PLACES, PageSlot, SLOTS};
+use crate::page::{Front, PAGE, PageSlot, SLOTS};
 use btr_base::{Agg, Point};
 
 /// Writes the fields of both kinds, from the index 8 on, and the zeros after them.
-pub(crate) fn put_front<const N: usize>(to: &mut [u8; N], front: &Front)
-    requires { 64 ≤ N }
+pub(crate) fn put_front(to: &mut [u8; PAGE], front: &Front)
     ensures { take 64 to.new ≡ take 8 to.old ++ front_bytes front.now }
 {
     put_u64(to, 8, front.start.cast_unsigned());
@@ -21,18 +20,19 @@ pub(crate) fn put_front<const N: usize>(to: &mut [u8; N], front: &Front)
     put(to, 40, &[0; 24]);
 }
 
-/// Writes all places for points, from the index 64 on.
-pub(crate) fn put_points(to: &mut [u8; PAGE], points: &[Point; PLACES])
-    ensures { take 4096 to.new ≡ take 64 to.old ++ flat_map point_bytes points.now }
+/// Writes points, from the index 64 on.
+pub(crate) fn put_points(to: &mut [u8; PAGE], points: &[Point])
+    requires { length points.now ≤ 252 }
+    ensures { take (64 + 16 * length points.now) to.new ≡ take 64 to.old ++ flat_map point_bytes points.now }
 {
-    for i in 0..PLACES {
+    for i in 0..points.len() {
         put_point(to, 64 + 16 * i, &points[i]);
     }
 }
 
 /// Writes a point.
-pub(crate) fn put_point<const N: usize>(to: &mut [u8; N], at: usize, point: &Point)
-    requires { at + 16 ≤ N }
+pub(crate) fn put_point(to: &mut [u8; PAGE], at: usize, point: &Point)
+    requires { at + 16 ≤ 4096 }
     ensures { take (at + 16) to.new ≡ take at to.old ++ point_bytes point.now }
 {
     put_u64(to, at, point.time.cast_unsigned());
@@ -44,15 +44,16 @@ pub(crate) fn put_slots(to: &mut [u8; PAGE], slots: &[PageSlot; SLOTS])
     ensures { take 3648 to.new ≡ take 64 to.old ++ flat_map slot_bytes slots.now }
 {
     for i in 0..SLOTS {
-        put_slot(to, 64 + 56 * i, &slots[i]);
+        put_slot(to, i, &slots[i]);
     }
 }
 
-/// Writes a slot.
-pub(crate) fn put_slot<const N: usize>(to: &mut [u8; N], at: usize, slot: &PageSlot)
-    requires { at + 56 ≤ N }
-    ensures { take (at + 56) to.new ≡ take at to.old ++ slot_bytes slot.now }
+/// Writes the slot of this number in the page of an inner node. It takes constant time and no memory.
+pub fn put_slot(to: &mut [u8; PAGE], i: usize, slot: &PageSlot)
+    requires { i < 64 }
+    ensures { take (64 + 56 * i + 56) to.new ≡ take (64 + 56 * i) to.old ++ slot_bytes slot.now }
 {
+    let at = 64 + 56 * i;
     let (least, greatest) = ends_of(&slot.agg);
     put_u64(to, at, slot.count());
     put_u128(to, at + 8, sum_of(&slot.agg));

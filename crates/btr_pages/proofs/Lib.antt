@@ -3,8 +3,7 @@ pub mod PartLemmas
 pub mod NumberLemmas
 pub mod KnownLemmas
 pub mod PageOfLemmas
-mod AppendLemmas
-mod FilledLemmas
+mod NewPageLemmas
 pub mod ReportedLemmas
 pub mod ReportedNodeLemmas
 pub mod PagesLemmas

@@ -1,29 +1,25 @@
-//! The page of a node that a commit wrote.
-ghost use Rattle.std.specs.Prelude.{◌≡◌, ◌<◌, ◌%◌, ◌^◌, ◌++◌, take, map, get_or, OnOk};
+//! The page of a node that a commit wrote, filled in place.
+ghost use Rattle.std.specs.Prelude.{◌≡◌, ◌<◌, ◌%◌, ◌^◌, ◌++◌, take, map, get_or};
 ghost use Rattle.std.specs.List.{flat_map, sum_by};
 ghost use Rattle.btr_node.specs.Page.{page_bytes, slot_bytes};
 ghost use Rattle.btr_node.specs.declared.page.NodePage.TheVariants.{Inner};
 ghost use Rattle.btr_pages.specs.Pages.{page_of, page_slots_of, page_slot, unused_slot};
 
-use btr_base::{Agg, Point};
-use btr_node::{
-    Front, PLACES, PageSlot, SLOTS, append_inner_end, append_inner_front, append_leaf, append_slot,
-};
+use btr_base::{Agg, LEAF_POINTS, Point};
+use btr_node::{Front, PAGE, PageSlot, SLOTS, fill_leaf, put_inner_end, put_inner_front, put_slot};
 use btr_tree::{NewNode, NewSlots};
-use std::alloc::AllocError;
 
-/// Appends the page of a node of a stream to a list of bytes. It takes constant time, and memory for the 4096 bytes of the page. An
-/// `Err` is out of memory, and a part of the page may have been appended.
-pub fn append_page(to: &mut Vec<u8>, node: &NewNode, stream: u32) -> Result<(), AllocError>
-    ensures { OnOk result (to.new.items ≡ to.old.items ++ page_bytes (page_of stream node.now)) }
+/// Writes the page of a node of a stream. It takes constant time and no memory.
+pub fn fill_page(to: &mut [u8; PAGE], node: &NewNode, stream: u32)
+    ensures { to.new ≡ page_bytes (page_of stream node.now) }
 {
     if node.slots.len() > 0 {
         let front = front_of(node, stream, total(&node.slots));
-        return append_inner(to, &front, &node.slots);
+        return fill_inner(to, &front, &node.slots);
     }
     let points = node.points.as_slice();
     let front = front_of(node, stream, points.len() as u64);
-    append_leaf(to, &front, first_points(points))
+    fill_leaf(to, &front, first_points(points));
 }
 
 /// The fields of the page of a node of a stream, with this count.
@@ -50,32 +46,30 @@ fn front_of(node: &NewNode, stream: u32, count: u64) -> Front
 fn first_points(points: &[Point]) -> &[Point]
     ensures { result.now ≡ take 252 points.now }
 {
-    &points[..points.len().min(PLACES)]
+    &points[..points.len().min(LEAF_POINTS)]
 }
 
-/// Appends the page of an inner node with these fields and slots. An `Err` is out of memory, and a part of the page may have been
-/// appended.
-fn append_inner(to: &mut Vec<u8>, front: &Front, slots: &NewSlots) -> Result<(), AllocError>
-    ensures { OnOk result (to.new.items ≡ to.old.items ++ page_bytes (Inner front.now.start front.now.height front.now.stream
-        front.now.version front.now.count (page_slots_of slots.now))) }
+/// Writes the page of an inner node with these fields and slots.
+fn fill_inner(to: &mut [u8; PAGE], front: &Front, slots: &NewSlots)
+    ensures { to.new ≡ page_bytes (Inner front.now.start front.now.height front.now.stream front.now.version front.now.count
+        (page_slots_of slots.now)) }
 {
-    append_inner_front(to, front)?;
-    append_slots(to, slots)?;
-    append_inner_end(to)
+    put_inner_front(to, front);
+    put_slots(to, slots);
+    put_inner_end(to);
 }
 
-/// Appends the slots of a node as those of a page. An `Err` is out of memory, and some of them may have been appended.
-fn append_slots(to: &mut Vec<u8>, slots: &NewSlots) -> Result<(), AllocError>
-    ensures { OnOk result (to.new.items ≡ to.old.items ++ flat_map slot_bytes (page_slots_of slots.now)) }
+/// Writes the slots of a node as those of a page, from the index 64 on.
+fn put_slots(to: &mut [u8; PAGE], slots: &NewSlots)
+    ensures { take 3648 to.new ≡ take 64 to.old ++ flat_map slot_bytes (page_slots_of slots.now) }
 {
     for i in 0..SLOTS {
-        append_slot(to, &slot_at(slots, i as u8))?;
+        put_slot(to, i, &slot_at(slots, i as u8));
     }
-    Ok(())
 }
 
 /// The slot of a number, or a slot without a point if there are not that many.
-pub(crate) fn slot_at(slots: &NewSlots, i: u8) -> PageSlot
+fn slot_at(slots: &NewSlots, i: u8) -> PageSlot
     ensures { result ≡ get_or (map page_slot slots.now) i unused_slot }
 {
     match slots.get(i) {
@@ -93,7 +87,7 @@ pub(crate) fn slot_at(slots: &NewSlots, i: u8) -> PageSlot
 }
 
 /// The sum of the counts of all slots of a page. It wraps at the end of its type.
-pub(crate) fn total(slots: &NewSlots) -> u64
+fn total(slots: &NewSlots) -> u64
     ensures { result ≡ sum_by (λ s. s.agg.count) (page_slots_of slots.now) % 2 ^ 64 }
 {
     let mut all: u64 = 0;

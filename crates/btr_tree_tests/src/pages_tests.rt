@@ -4,9 +4,9 @@ ghost use Rattle.btr_pages.specs.Known.{node_at};
 
 use super::fixture::{Counts, Pairs, Row, Runs, all_hold, applied, bag_of, bag_of_runs, ranges_of};
 use super::tree_tests::nodes_in;
-use btr_base::{END, FIRST, Point, Range, Ranges};
-use btr_node::{NodePage, PAGE, PLACES, PageSlot, decode, spell};
-use btr_pages::{Nodes, append_page};
+use btr_base::{END, FIRST, LEAF_POINTS, Point, Range, Ranges};
+use btr_node::{NodePage, PAGE, PageSlot, decode, spell};
+use btr_pages::{Nodes, fill_page};
 use btr_scan::range;
 use btr_tree::{NewNode, Steps, Tree};
 use std::alloc::Global;
@@ -62,9 +62,16 @@ impl Reader {
 
 // ---- what commits wrote
 
-/// The page of a node of a stream, read from the bytes that are appended for it. If they are no page, it is one that keeps no table.
-fn page_of(alloc: Global, node: &NewNode, stream: u32) -> NodePage {
-    match appended_page(alloc, node, stream) {
+/// The block that is filled with the page of a node of a stream.
+fn block_of(node: &NewNode, stream: u32) -> [u8; PAGE] {
+    let mut block = [7; PAGE];
+    fill_page(&mut block, node, stream);
+    block
+}
+
+/// The page of a node of a stream, read from the block that is filled with it. If that is no page, it is one that keeps no table.
+fn page_of(node: &NewNode, stream: u32) -> NodePage {
+    match decode(&block_of(node, stream)) {
         Some(page) => page,
         None => NodePage::Leaf {
             start: 0,
@@ -72,20 +79,9 @@ fn page_of(alloc: Global, node: &NewNode, stream: u32) -> NodePage {
             stream: 0,
             version: 0,
             count: 0,
-            points: [Point { time: 0, value: 0 }; PLACES],
+            points: [Point { time: 0, value: 0 }; LEAF_POINTS],
         },
     }
-}
-
-/// The page that is read from the bytes that are appended for a node of a stream, if they are one.
-fn appended_page(alloc: Global, node: &NewNode, stream: u32) -> Option<NodePage> {
-    let mut bytes = Vec::new(alloc);
-    if append_page(&mut bytes, node, stream).is_err() || bytes.len() != PAGE {
-        return None;
-    }
-    let mut block = [0; PAGE];
-    block.copy_from_slice(&bytes);
-    decode(&block)
 }
 
 /// A commit: the runs of points that it adds, the bounds of its cut, and the numbers of points after it and of nodes that it
@@ -140,7 +136,7 @@ fn are_read(
     stream: u32,
 ) -> Result<bool, Fail> {
     for node in nodes {
-        if !reader.read(alloc, &page_of(alloc, node, stream))? {
+        if !reader.read(alloc, &page_of(node, stream))? {
             return Ok(false);
         }
     }
@@ -272,7 +268,7 @@ fn changed(page: &NodePage, change: Change) -> Option<NodePage> {
 
 /// Takes the last point of a leaf out of its page.
 fn drop_last(page: &mut NodePage) {
-    let mut last = PLACES;
+    let mut last = LEAF_POINTS;
     if let NodePage::Leaf { count, .. } = page {
         *count = count.wrapping_sub(1);
         last = *count as usize;
@@ -293,7 +289,7 @@ impl Row for Wrong {
     fn holds(&self, alloc: Global) -> Result<bool, Fail> {
         let mut reader = Reader::new(alloc);
         for (number, node) in written(alloc, self.0)?.iter().enumerate() {
-            let page = page_of(alloc, node, STREAM);
+            let page = page_of(node, STREAM);
             let is_taken = self.is_taken(alloc, &mut reader, number, &page)?;
             if number == self.3 {
                 return Ok(!is_taken && (number != self.1 || reader.read(alloc, &page)?));
@@ -377,7 +373,7 @@ fn wrong_pages_are_refused(rt: HostRuntime) -> Result<(), Fail> {
 
 /// The page of a leaf with three points.
 fn leaf() -> NodePage {
-    let mut points = [Point { time: 0, value: 0 }; PLACES];
+    let mut points = [Point { time: 0, value: 0 }; LEAF_POINTS];
     points[0] = Point { time: 0, value: 5 };
     points[1] = Point { time: 3, value: 7 };
     points[2] = Point { time: 4, value: -2 };
@@ -391,6 +387,27 @@ fn leaf() -> NodePage {
     }
 }
 
+/// The first bytes of its page. All others are zeros.
+const LEAF: [u8; 112] = [
+    0x42, 0x54, 0x52, 0x2d, 0x4c, 0x45, 0x41, 0x46, // BTR-LEAF
+    0xf0, 0, 0, 0, 0, 0, 0, 0, // start
+    0, 0, 0, 10, 0, 0, 1, 2, // height and stream
+    0, 0, 0, 0, 0, 0, 0, 9, // version
+    0, 0, 0, 0, 0, 0, 0, 3, // count
+    0, 0, 0, 0, 0, 0, 0, 0, 0, 0, 0, 0, 0, 0, 0, 0, 0, 0, 0, 0, 0, 0, 0, 0, // no field
+    0, 0, 0, 0, 0, 0, 0, 0, 0, 0, 0, 0, 0, 0, 0, 5, // a point
+    0, 0, 0, 0, 0, 0, 0, 3, 0, 0, 0, 0, 0, 0, 0, 7, // a point
+    0, 0, 0, 0, 0, 0, 0, 4, 0xff, 0xff, 0xff, 0xff, 0xff, 0xff, 0xff, 0xfe, // a point
+];
+
+/// Whether a block has these bytes, and zeros after them.
+fn begins_with(block: &[u8; PAGE], bytes: &[u8]) -> bool {
+    match block.strip_prefix(bytes) {
+        Some(rest) => rest.iter().all(|byte| *byte == 0),
+        None => false,
+    }
+}
+
 #[test]
 fn page_of_a_leaf(rt: HostRuntime) -> Result<(), Fail> {
     let alloc = rt.alloc();
@@ -398,7 +415,8 @@ fn page_of_a_leaf(rt: HostRuntime) -> Result<(), Fail> {
     let none = Ranges::none(alloc);
     let applied = applied(alloc, &Tree::empty(), &none, &added, 9, 4)?;
     let nodes = &applied.nodes;
-    assert!(rt; nodes.len() == 1 && page_of(alloc, &nodes[0], STREAM) == leaf());
+    assert!(rt; nodes.len() == 1 && page_of(&nodes[0], STREAM) == leaf());
+    assert!(rt; begins_with(&block_of(&nodes[0], STREAM), &LEAF));
     Ok(())
 }
 
@@ -444,6 +462,6 @@ fn is_root(page: &NodePage) -> bool {
 fn page_of_an_inner_node(rt: HostRuntime) -> Result<(), Fail> {
     let alloc = rt.alloc();
     let nodes = written(alloc, TWO)?;
-    assert!(rt; nodes.len() == 3 && is_root(&page_of(alloc, &nodes[2], STREAM)));
+    assert!(rt; nodes.len() == 3 && is_root(&page_of(&nodes[2], STREAM)));
     Ok(())
 }

@@ -7,7 +7,7 @@ use Rattle.btr_node.proofs.writing.put_front.Goals as goal
 
 pub returns : goal.returns
 unfolding front_bytes zeros
-returns g c =
+returns c =
     let f = c.args.front.now in
     let to = c.args.to.now in
     let fits : FitsSigned w64 f.start = search rules in

@@ -7,7 +7,7 @@ use Rattle.btr_node.proofs.writing.put_point.Goals as goal
 
 pub returns : goal.returns
 unfolding point_bytes
-returns g c =
+returns c =
     let p = c.args.point.now in
     let at = c.args.at in
     let time_fits : FitsSigned w64 p.time = search rules in

@@ -1,4 +1,4 @@
-use Rattle.std.proofs.Common.{◌+◌, ◌++◌, take, ap, ◌∙◌, arith}
+use Rattle.std.proofs.Common.{◌+◌, ◌*◌, ◌++◌, take, ap, ◌∙◌, arith}
 use Rattle.std.specs.Int.{w64, w128, cast_unsigned}
 use Rattle.btr_node.specs.Page.{number, signed, slot_bytes, ends_or}
 use Rattle.btr_node.proofs.Pieces.{ends-at, six-pieces}
@@ -6,9 +6,9 @@ use Rattle.btr_node.proofs.writing.put_slot.Goals as goal
 
 pub returns : goal.returns
 unfolding slot_bytes
-returns g c =
+returns c =
     let s = c.args.slot.now in
-    let at = c.args.at in
+    let at = 64 + 56 * c.args.i in
     let t1 = c.put_u64.new.to in
     let t2 = c.put_u128.new.to in
     let t3 = c.put_u64-2.new.to in

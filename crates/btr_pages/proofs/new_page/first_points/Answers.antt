@@ -1,4 +1,4 @@
-use Rattle.btr_pages.proofs.AppendLemmas.{first-part}
+use Rattle.btr_pages.proofs.NewPageLemmas.{first-part}
 use Rattle.btr_pages.proofs.new_page.first_points.Goals as goal
 
 pub returns : goal.returns

@@ -1,7 +1,7 @@
 use Rattle.std.proofs.Common.{◌+◌, ◌^◌, ◌%◌, ap, ◌∙◌, arith}
 use Rattle.std.specs.List.{sum_by}
 use Rattle.btr_node.specs.declared.page.PageSlot.{PageSlot}
-use Rattle.btr_pages.proofs.AppendLemmas.{all-slots, slot-added}
+use Rattle.btr_pages.proofs.NewPageLemmas.{all-slots, slot-added}
 use Rattle.btr_pages.proofs.new_page.total.Goals as goal
 
 pub loop-i-preserved : goal.loop-i-preserved

@@ -1,18 +1,16 @@
--- Lemmas on the page of a node that is appended piece by piece.
-use Rattle.std.specs.Prelude.{◌≡◌, ℕ, zero, suc, ◌+◌, ◌-◌, ◌^◌, ◌%◌, ◌<◌, ◌≤◌, min, List, [], ◌∷◌, ◌++◌, length, take, replicate, map, get_or, codes, Result, Ok, Err, OnOk}
+-- Lemmas on the page of a node that is filled in place.
+use Rattle.std.specs.Prelude.{◌≡◌, ℕ, zero, suc, ◌+◌, ◌-◌, ◌*◌, ◌^◌, ◌%◌, ◌<◌, ◌≤◌, min, List, [], ◌∷◌, ◌++◌, length, take, replicate, map, get_or, codes}
 use Rattle.std.specs.List.{flat_map, sum_by}
-use Rattle.std.proofs.Common.{inl, inr, refl, sym, ap, ◌∙◌, arith, append_assoc}
+use Rattle.std.proofs.Common.{inl, inr, refl, sym, ap, ◌∙◌, arith}
 use Rattle.std.proofs.lemmas.Bool.{cases_lt}
 use Rattle.std.proofs.lemmas.List.{flat_map_more, get_or-take, length-take, take_all, take_more, take-replicate}
 use Rattle.std.proofs.lemmas.List.Sums.{sum_by_push}
-use Rattle.std.proofs.lemmas.Result.{on_ok_weaker}
 use Rattle.btr_base.specs.declared.point.Point.{Point}
 use Rattle.btr_base.specs.Span.{SpanValue}
 use Rattle.btr_tree.specs.declared.node.Slot.{Slot}
 use Rattle.btr_tree.specs.NewNodes.{NewNodeValue}
 use Rattle.btr_node.specs.declared.page.Front.{Front}
 use Rattle.btr_node.specs.Page.{front_bytes, page_bytes, places_with, slot_bytes, zeros}
-use Rattle.btr_node.specs.declared.page.NodePage.{NodePage}
 use Rattle.btr_node.specs.declared.page.NodePage.TheVariants.{Leaf, Inner}
 use Rattle.btr_node.specs.declared.page.PageSlot.{PageSlot}
 use Rattle.btr_pages.specs.Pages.{unused, places_of, page_slot, unused_slot, page_slots_of, page_with, page_of}
@@ -36,10 +34,12 @@ one-more ss i s lt is =
 pub all-slots : (ss : List Slot) (i : ℕ) → i ≡ 64 → take i (page_slots_of ss) ≡ page_slots_of ss
 all-slots ss i done = take_all i (page_slots_of ss) (omega (arith, length-slots ss))
 
--- One more slot is appended.
-pub slot-appended : (ss : List Slot) (i : ℕ) (s : PageSlot) (first old new : List ℕ) → i < 64 → s ≡ get_or (map page_slot ss) i unused_slot → old ≡ first ++ flat_map slot_bytes (take i (page_slots_of ss)) → new ≡ old ++ slot_bytes s → new ≡ first ++ flat_map slot_bytes (take (i + 1) (page_slots_of ss))
-slot-appended ss i s first old new lt is so_far e =
-    e
+-- One more slot is written.
+pub slot-written : (ss : List Slot) (i : ℕ) (s : PageSlot) (first old new : List ℕ) → i < 64 → s ≡ get_or (map page_slot ss) i unused_slot → take (64 + 56 * i) old ≡ first ++ flat_map slot_bytes (take i (page_slots_of ss)) → take (64 + 56 * i + 56) new ≡ take (64 + 56 * i) old ++ slot_bytes s → take (64 + 56 * (i + 1)) new ≡ first ++ flat_map slot_bytes (take (i + 1) (page_slots_of ss))
+slot-written ss i s first old new lt is so_far e =
+    let end : 64 + 56 * (i + 1) ≡ 64 + 56 * i + 56 = omega arith in
+    ap (λ n. take n new) end
+    ∙ e
     ∙ ap (λ l. l ++ slot_bytes s) so_far
     ∙ flat_map_more slot_bytes first (take i (page_slots_of ss)) s
     ∙ ap (λ l. first ++ flat_map slot_bytes l) (sym (one-more ss i s lt is))
@@ -77,16 +77,11 @@ few-places ps l is = omega (arith, ap length is, length-take 252 ps)
 
 -- ---- the page
 
--- The fields, the slots and the zeros after them make the page of an inner node.
-pub inner-appended : {X E : Type 0} (r : Result X E) (f : Front) (slots : List PageSlot) (x x1 x2 x3 : List ℕ) → x1 ≡ x ++ (codes "BTR-NODE" ++ front_bytes f) → x2 ≡ x1 ++ flat_map slot_bytes slots → OnOk r (x3 ≡ x2 ++ zeros 448) → OnOk r (x3 ≡ x ++ page_bytes (Inner f.start f.height f.stream f.version f.count slots))
+-- The mark and the fields, the slots and the zeros after them make the page of an inner node.
+pub inner-filled : (f : Front) (slots : List PageSlot) (t1 t2 t3 : List ℕ) → take 64 t1 ≡ codes "BTR-NODE" ++ front_bytes f → take 3648 t2 ≡ take 64 t1 ++ flat_map slot_bytes slots → t3 ≡ take 3648 t2 ++ zeros 448 → t3 ≡ page_bytes (Inner f.start f.height f.stream f.version f.count slots)
 unfolding page_bytes
-inner-appended (Ok u) f slots x x1 x2 x3 e1 e2 e3 =
-    let head : List ℕ = codes "BTR-NODE" ++ front_bytes f in
-    let body : List ℕ = flat_map slot_bytes slots in
-    e3
-    ∙ ap (λ l. l ++ zeros 448) (e2 ∙ ap (λ l. l ++ body) e1 ∙ append_assoc x head body)
-    ∙ append_assoc x (head ++ body) (zeros 448)
-inner-appended (Err u) f slots x x1 x2 x3 e1 e2 e3 = tt
+inner-filled f slots t1 t2 t3 e1 e2 e3 =
+    e3 ∙ ap (λ l. l ++ zeros 448) (e2 ∙ ap (λ l. l ++ flat_map slot_bytes slots) e1)
 
 leaf-page : (stream : ℕ) (span : SpanValue) (v : ℕ) (ps : List Point) (ss : List Slot) → length ss ≡ 0 → Leaf span.start span.height stream v (length ps) (places_of ps) ≡ page_with stream span v ps ss
 leaf-page stream span v ps [] none = refl
@@ -98,7 +93,3 @@ leaf-is stream n f count first e many is none =
     ∙ ap (λ k. Leaf n.span.start n.span.height stream n.version k (places_with first)) many
     ∙ ap (λ l. Leaf n.span.start n.span.height stream n.version (length n.points) l) (ap places_with is ∙ first-places n.points)
     ∙ leaf-page stream n.span n.version n.points n.slots none
-
--- The bytes that were appended are those of this page too.
-pub same-page : {X E : Type 0} (r : Result X E) (new old : List ℕ) (p q : NodePage) → p ≡ q → OnOk r (new ≡ old ++ page_bytes p) → OnOk r (new ≡ old ++ page_bytes q)
-same-page r new old p q is = on_ok_weaker r (λ e. e ∙ ap (λ page. old ++ page_bytes page) is)

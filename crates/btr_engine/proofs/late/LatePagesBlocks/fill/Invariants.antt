@@ -1,9 +1,0 @@
-use Rattle.std.proofs.Common.{◌≡◌, ◌*◌, length, take, drop}
-use Rattle.btr_engine.specs.Late.{late_bytes}
-use Rattle.btr_engine.proofs.late.LatePagesBlocks.fill.Given as goal
-
--- As many bytes as before, and those of the blocks so far.
-abbrev pub invariant-loop-i : goal.invariant-loop-i
-invariant-loop-i l =
-    (length l.to ≡ length l.fn.to)
-    × (take (4096 * l.i) l.to ≡ take (4096 * l.i) (drop (4096 * l.first) (late_bytes l.self.is_late l.self.stream l.self.nodes.now)))
