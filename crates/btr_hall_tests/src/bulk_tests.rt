@@ -2,7 +2,7 @@
 ghost use Rattle.std.specs.Prelude.{◌≤◌, ◌^◌};
 
 use btr_disk::{Capacity, MemDisk};
-use btr_jobs::NoPace;
+use btr_jobs::{NoPace, System};
 use btr_store::*;
 use btr_super::format;
 use std::alloc::Global;
@@ -38,7 +38,7 @@ fn sampled<R: Threads + Wait + Sync>(
     streams: u32,
     points: u32,
 ) -> Result<(MemDisk, u8, Vec<u8>), Fail> {
-    match sample_store(rt, alloc, number, streams, points, &NoPace, disk) {
+    match sample_store(System { rt, alloc }, number, streams, points, &NoPace, disk) {
         Ok(Worked { said, disk, .. }) => {
             let Transcript { status, text } = said?;
             Ok((disk, status.code(), text))

@@ -4,7 +4,7 @@ use btr_disk::Disk;
 use btr_engine::{Receipt, StepFault};
 use btr_hall::{Hall, Session};
 use btr_hist::{Entry, Rejection};
-use btr_jobs::*;
+use btr_jobs::{System, *};
 use std::alloc::{AllocError, Global};
 use std::marker::{Send, Sync};
 use std::sync::Wait;
@@ -33,13 +33,12 @@ impl Job for Make {
 
     fn run<R: Threads + Wait + Sync, D: Disk + Send>(
         &mut self,
-        rt: &R,
-        alloc: Global,
+        system: System<'_, R>,
         hall: &Hall<D>,
         session: &mut Session<D>,
     ) {
         let entry = Entry::Create { id: self.id };
-        self.result = Some(session.commit(rt, alloc, hall, &entry));
+        self.result = Some(session.commit(system.rt, system.alloc, hall, &entry));
     }
 
     ghost lasts = { λ start late early low was now own on is.
@@ -71,7 +70,15 @@ fn done<R: Threads + Wait + Sync, P: Pace + Sync>(
     pace: &P,
 ) -> Result<u64, Fail> {
     let (hall, mut session) = begun_empty(alloc, 64, &[])?;
-    run_jobs(rt, alloc, &hall, &mut session, workers, first, jobs, pace);
+    run_jobs(
+        System { rt, alloc },
+        &hall,
+        &mut session,
+        workers,
+        first,
+        jobs,
+        pace,
+    );
     let engine = hall.close(session);
     Ok(engine.entries())
 }

@@ -6,7 +6,7 @@ use crate::fixture::{begun_empty, close, no_wrong, wait_for};
 use btr_disk::MemDisk;
 use btr_engine::Engine;
 use btr_hist::{Answer, At, Query, Rows};
-use btr_jobs::{NoPace, Pace};
+use btr_jobs::{NoPace, Pace, System};
 use btr_live::*;
 use btr_text::{LineReply, ScriptLine, read_script, write_reply};
 use btr_work::{Refreshed, Report};
@@ -84,8 +84,24 @@ fn run_both<R: Threads + Wait + Sync, P: Pace + Sync>(
     requires lanes { HaveLanes first.items × HaveLanes second.items }
 {
     let (hall, mut session) = begun_empty(alloc, device.blocks, device.failing)?;
-    let begun = lanes(rt, alloc, &hall, &mut session, first, 2, false, &NoPace);
-    let report = lanes(rt, alloc, &hall, &mut session, second, 2, materialize, pace);
+    let begun = lanes(
+        System { rt, alloc },
+        &hall,
+        &mut session,
+        first,
+        2,
+        false,
+        &NoPace,
+    );
+    let report = lanes(
+        System { rt, alloc },
+        &hall,
+        &mut session,
+        second,
+        2,
+        materialize,
+        pace,
+    );
     let engine = close(hall, session);
     begun?;
     Ok((report?, engine))

@@ -9,7 +9,7 @@ use btr_disk::MemDisk;
 use btr_engine::{Receipt, StepFault};
 use btr_hall::{Hall, Session};
 use btr_hist::{Entry, Kernel, Rejection, Spec};
-use btr_jobs::NoPace;
+use btr_jobs::{NoPace, System};
 use btr_load::*;
 use btr_rows::read_rows;
 use std::alloc::{AllocError, Global};
@@ -148,7 +148,15 @@ fn gives<R: Threads + Wait + Sync>(
     ensures alone { IsAlone session.new }
 {
     let rows = read_rows(alloc, rows.as_bytes())?;
-    let loaded = load(rt, alloc, hall, session, rows, batch, workers, &NoPace)?;
+    let loaded = load(
+        System { rt, alloc },
+        hall,
+        session,
+        rows,
+        batch,
+        workers,
+        &NoPace,
+    )?;
     Ok(is_given(&loaded, wanted))
 }
 
@@ -342,7 +350,15 @@ fn loaded_by<R: Threads + Wait + Sync>(
 ) -> Result<u64, Fail> {
     let rows = read_rows(alloc, TWO_STREAMS.as_bytes())?;
     let (hall, mut session) = begun_empty(alloc, 64, &[])?;
-    let loaded = load(rt, alloc, &hall, &mut session, rows, 2, workers, pace);
+    let loaded = load(
+        System { rt, alloc },
+        &hall,
+        &mut session,
+        rows,
+        2,
+        workers,
+        pace,
+    );
     let engine = close(hall, session);
     loaded?;
     Ok(engine.entries())

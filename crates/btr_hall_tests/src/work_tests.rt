@@ -10,7 +10,7 @@ use btr_disk::MemDisk;
 use btr_engine::Engine;
 use btr_hall::{Hall, LandFault, Session};
 use btr_hist::{Answer, At, Entry, Kernel, Query, Rows, Spec};
-use btr_jobs::{NoPace, Pace};
+use btr_jobs::{NoPace, Pace, System};
 use btr_work::*;
 use std::alloc::{AllocError, Global};
 use std::marker::Sync;
@@ -100,7 +100,7 @@ fn bring<R: Threads + Wait + Sync, P: Pace + Sync>(
     ensures at { IsAt hall.now session.new }
     ensures alone { IsAlone session.new }
 {
-    match bring_current(rt, alloc, hall, session, workers, pace) {
+    match bring_current(System { rt, alloc }, hall, session, workers, pace) {
         Ok(report) => Ok(report.into_lines()),
         Err(error) => Err(error),
     }
@@ -118,7 +118,7 @@ fn bring_here<R: Threads + Wait + Sync>(
     ensures at { IsAt hall.now session.new }
     ensures alone { IsAlone session.new }
 {
-    match bring_current_here(rt, alloc, hall, session) {
+    match bring_current_here(System { rt, alloc }, hall, session) {
         Ok(report) => Ok(report.into_lines()),
         Err(error) => Err(error),
     }

@@ -6,9 +6,9 @@ ghost use Rattle.btr_gate.specs.Prefixes.{StartsWith};
 ghost use Rattle.btr_jobs.specs.States.{StoreState, LogState, GoesOn};
 ghost use Rattle.btr_jobs.specs.Jobs.{IsAt, Does};
 
+use crate::system::System;
 use btr_disk::Disk;
 use btr_hall::{Hall, Session};
-use std::alloc::Global;
 use std::marker::{Send, Sync};
 use std::sync::Wait;
 use std::thread::Threads;
@@ -22,8 +22,7 @@ pub trait Job {
     /// Does the work, in turns of this session, on this thread. It may share what it has of its own with other threads.
     fn run<R: Threads + Wait + Sync, D: Disk + Send>(
         &mut self,
-        rt: &R,
-        alloc: Global,
+        system: System<'_, R>,
         hall: &Hall<D>,
         session: &mut Session<D>,
     )

@@ -13,8 +13,10 @@
 mod job;
 mod pace;
 mod run;
+mod system;
 mod worker;
 
 pub use job::Job;
 pub use pace::{NoPace, Pace};
 pub use run::run_jobs;
+pub use system::System;

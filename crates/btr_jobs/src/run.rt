@@ -5,6 +5,7 @@ ghost use Rattle.btr_jobs.specs.Jobs.{IsAt, Does, AllDid, DidInTurn};
 
 use crate::job::Job;
 use crate::pace::Pace;
+use crate::system::System;
 use crate::worker::Worker;
 use btr_disk::Disk;
 use btr_hall::{Hall, Session};
@@ -20,8 +21,7 @@ use std::thread::{Threads, join_mut};
 /// Afterwards the session has seen what all of them have seen. If it was the only session of the hall it is so again. It takes no
 /// memory but what the jobs and the threads take.
 pub fn run_jobs<R: Threads + Wait + Sync, D: Disk + Send, J: Job + Send, P: Pace + Sync>(
-    rt: &R,
-    alloc: Global,
+    system: System<'_, R>,
     hall: &Hall<D>,
     session: &mut Session<D>,
     workers: u8,
@@ -41,7 +41,15 @@ pub fn run_jobs<R: Threads + Wait + Sync, D: Disk + Send, J: Job + Send, P: Pace
         hall,
         session: other,
     };
-    share_out(rt, alloc, pace, workers, first, &mut worker, jobs);
+    share_out(
+        system.rt,
+        system.alloc,
+        pace,
+        workers,
+        first,
+        &mut worker,
+        jobs,
+    );
     let Worker {
         hall: _,
         session: other,
@@ -70,8 +78,8 @@ fn share_out<R: Threads + Wait + Sync, D: Disk + Send, J: Job + Send, P: Pace + 
         (λ start log low own. DidInTurn J.did start log low jobs.old jobs.new own) }
 {
     if workers <= 1 || jobs.len() <= 1 {
-        let hall = worker.hall;
-        run_in_turn(rt, alloc, hall, &mut worker.session, first, jobs, pace);
+        let (system, hall) = (System { rt, alloc }, worker.hall);
+        run_in_turn(system, hall, &mut worker.session, first, jobs, pace);
         return;
     }
     let here = workers - workers / 2;
@@ -155,8 +163,7 @@ fn turn_after(first: u32, count: usize) -> u32 {
 
 /// Does the jobs one after another in this session. The turns of `pace` are the jobs, from `first` on.
 fn run_in_turn<R: Threads + Wait + Sync, D: Disk + Send, J: Job + Send, P: Pace + Sync>(
-    rt: &R,
-    alloc: Global,
+    system: System<'_, R>,
     hall: &Hall<D>,
     session: &mut Session<D>,
     first: u32,
@@ -172,7 +179,7 @@ fn run_in_turn<R: Threads + Wait + Sync, D: Disk + Send, J: Job + Send, P: Pace 
     let mut turn = first;
     for job in jobs.iter_mut() {
         pace.begun(turn);
-        job.run(rt, alloc, hall, session);
+        job.run(system, hall, session);
         pace.ended(turn);
         turn = turn.wrapping_add(1);
     }

@@ -14,17 +14,16 @@ use crate::reasons::reason_of_landing;
 use btr_disk::Disk;
 use btr_hall::{Found, Hall, Session};
 use btr_hist::{Entry, Kernel, Spec};
+use btr_jobs::System;
 use btr_text::{LineReply, Reason};
 use btr_work::{Refreshed, refresh_output};
-use std::alloc::Global;
 use std::marker::Sync;
 use std::sync::Wait;
 use std::thread::Threads;
 
 /// `distiller ID KERNEL LEAD GRAIN ID [ID]`: defines an output, whose inputs are the streams with the ids `first` and `second`.
 pub(crate) fn define<R: Threads + Wait + Sync, D: Disk>(
-    rt: &R,
-    alloc: Global,
+    system: System<'_, R>,
     hall: &Hall<D>,
     session: &mut Session<D>,
     id: u128,
@@ -38,7 +37,7 @@ pub(crate) fn define<R: Threads + Wait + Sync, D: Disk>(
     ensures at { IsAt hall.now session.new }
     ensures serves { ServesIn hall.now session.old session.new (AsksFor (λ h. define h id kernel lead grain first second)) result }
 {
-    match session.find(rt, hall, first) {
+    match session.find(system.rt, hall, first) {
         None => LineReply::No(Reason::Stream),
         Some(Found { stream, .. }) => {
             let spec = Spec {
@@ -49,8 +48,8 @@ pub(crate) fn define<R: Threads + Wait + Sync, D: Disk>(
                 second: None,
             };
             match second {
-                None => commit(rt, alloc, hall, session, &Entry::Define { id, spec }),
-                Some(second) => define_of_two(rt, alloc, hall, session, id, spec, second),
+                None => commit(system, hall, session, &Entry::Define { id, spec }),
+                Some(second) => define_of_two(system, hall, session, id, spec, second),
             }
         }
     }
@@ -58,8 +57,7 @@ pub(crate) fn define<R: Threads + Wait + Sync, D: Disk>(
 
 /// Defines an output with one more input, the stream with the id `second`.
 fn define_of_two<R: Threads + Wait + Sync, D: Disk>(
-    rt: &R,
-    alloc: Global,
+    system: System<'_, R>,
     hall: &Hall<D>,
     session: &mut Session<D>,
     id: u128,
@@ -71,22 +69,21 @@ fn define_of_two<R: Threads + Wait + Sync, D: Disk>(
     ensures serves { ServesIn hall.now session.old session.new
         (AsksFor (λ h. on_stream (stream_of h second) (λ s. Commits (DefineSpec id (record spec { second = Some s }))))) result }
 {
-    match session.find(rt, hall, second) {
+    match session.find(system.rt, hall, second) {
         None => LineReply::No(Reason::Stream),
         Some(Found { stream, .. }) => {
             let spec = Spec {
                 second: Some(stream),
                 ..spec
             };
-            commit(rt, alloc, hall, session, &Entry::Define { id, spec })
+            commit(system, hall, session, &Entry::Define { id, spec })
         }
     }
 }
 
 /// `refresh ID`: brings the output with this id up to date.
 pub(crate) fn refresh<R: Threads + Wait + Sync, D: Disk>(
-    rt: &R,
-    alloc: Global,
+    system: System<'_, R>,
     hall: &Hall<D>,
     session: &mut Session<D>,
     id: u128,
@@ -96,11 +93,11 @@ pub(crate) fn refresh<R: Threads + Wait + Sync, D: Disk>(
     ensures serves { (batch : ℕ) (w : Waiting)
         → ServesIn hall.now session.old session.new (λ h m. Means batch h w (Some (lines.Refresh id)) m) result }
 {
-    match session.find(rt, hall, id) {
+    match session.find(system.rt, hall, id) {
         None => LineReply::No(Reason::Stream),
         Some(found) => match found.spec {
             None => LineReply::No(Reason::Plain),
-            Some(_) => refresh_stream(rt, alloc, hall, session, found.stream),
+            Some(_) => refresh_stream(system, hall, session, found.stream),
         },
     }
 }
@@ -108,8 +105,7 @@ pub(crate) fn refresh<R: Threads + Wait + Sync, D: Disk>(
 /// Brings an output up to date, and returns the reply. Its cost follows what has changed in the inputs since the latest version of the
 /// output.
 fn refresh_stream<R: Threads + Wait + Sync, D: Disk>(
-    rt: &R,
-    alloc: Global,
+    system: System<'_, R>,
     hall: &Hall<D>,
     session: &mut Session<D>,
     stream: u32,
@@ -118,7 +114,7 @@ fn refresh_stream<R: Threads + Wait + Sync, D: Disk>(
     ensures at { IsAt hall.now session.new }
     ensures serves { ServesIn hall.now session.old session.new (RefreshAsks stream) result }
 {
-    let refreshed = refresh_output(rt, alloc, hall, session, stream, 1);
+    let refreshed = refresh_output(system, hall, session, stream, 1);
     reply_of_refreshed(refreshed)
 }
 

@@ -17,6 +17,7 @@ use btr_disk::Disk;
 use btr_feed::{FeedFault, Held};
 use btr_hall::{Found, Hall, Session};
 use btr_hist::Entry;
+use btr_jobs::System;
 use btr_text::{LineReply, Reason};
 use std::alloc::Global;
 use std::marker::Sync;
@@ -25,8 +26,7 @@ use std::thread::Threads;
 
 /// `feed ID T V ..`: adds points to the feed of the stream with this id, and commits all if they are then due. An output takes none.
 pub(crate) fn feed<R: Threads + Wait + Sync, D: Disk>(
-    rt: &R,
-    alloc: Global,
+    system: System<'_, R>,
     hall: &Hall<D>,
     session: &mut Session<D>,
     feeds: &mut Feeds,
@@ -38,13 +38,13 @@ pub(crate) fn feed<R: Threads + Wait + Sync, D: Disk>(
     ensures line { ServesLine hall.now session.old session.new feeds.old feeds.new (Some (lines.Feed id added.now)) result }
     ensures batch { feeds.new.batch ≡ feeds.old.batch }
 {
-    match session.find(rt, hall, id) {
+    match session.find(system.rt, hall, id) {
         None => LineReply::No(Reason::Stream),
         Some(found) => match found.spec {
             Some(_) => LineReply::No(Reason::Output),
             None => {
                 let stream = found.stream;
-                feed_stream(rt, alloc, hall, session, feeds, stream, added.as_slice())
+                feed_stream(system, hall, session, feeds, stream, added.as_slice())
             }
         },
     }
@@ -52,8 +52,7 @@ pub(crate) fn feed<R: Threads + Wait + Sync, D: Disk>(
 
 /// Adds points to the feed of a stream, and commits all if they are then due.
 fn feed_stream<R: Threads + Wait + Sync, D: Disk>(
-    rt: &R,
-    alloc: Global,
+    system: System<'_, R>,
     hall: &Hall<D>,
     session: &mut Session<D>,
     feeds: &mut Feeds,
@@ -68,7 +67,7 @@ fn feed_stream<R: Threads + Wait + Sync, D: Disk>(
 {
     match feeds.insert(stream, points) {
         Ok(Held::Buffered(count)) => LineReply::Held { count },
-        Ok(Held::Due(_)) => commit_feed(rt, alloc, hall, session, feeds, stream),
+        Ok(Held::Due(_)) => commit_feed(system, hall, session, feeds, stream),
         Err(fault) => LineReply::No(reason_of(fault)),
     }
 }
@@ -86,8 +85,7 @@ fn reason_of(fault: FeedFault) -> Reason
 
 /// `flush ID`: commits the points that wait for the stream with this id.
 pub(crate) fn flush<R: Threads + Wait + Sync, D: Disk>(
-    rt: &R,
-    alloc: Global,
+    system: System<'_, R>,
     hall: &Hall<D>,
     session: &mut Session<D>,
     feeds: &mut Feeds,
@@ -98,7 +96,7 @@ pub(crate) fn flush<R: Threads + Wait + Sync, D: Disk>(
     ensures line { ServesLine hall.now session.old session.new feeds.old feeds.new (Some (lines.Flush id)) result }
     ensures batch { feeds.new.batch ≡ feeds.old.batch }
 {
-    match session.find(rt, hall, id) {
+    match session.find(system.rt, hall, id) {
         None => LineReply::No(Reason::Stream),
         Some(found) => match found.spec {
             Some(_) => LineReply::No(Reason::Output),
@@ -106,7 +104,7 @@ pub(crate) fn flush<R: Threads + Wait + Sync, D: Disk>(
                 if feeds.is_empty(found.stream) {
                     LineReply::No(Reason::Empty)
                 } else {
-                    commit_feed(rt, alloc, hall, session, feeds, found.stream)
+                    commit_feed(system, hall, session, feeds, found.stream)
                 }
             }
         },
@@ -138,8 +136,7 @@ pub(crate) fn discard<R: Wait, D: Disk>(
 /// Commits the points that wait for a stream, as one insert. It sorts them, and so takes time n log n. If the commit is
 /// refused, they wait still, in order.
 fn commit_feed<R: Threads + Wait + Sync, D: Disk>(
-    rt: &R,
-    alloc: Global,
+    system: System<'_, R>,
     hall: &Hall<D>,
     session: &mut Session<D>,
     feeds: &mut Feeds,
@@ -154,11 +151,11 @@ fn commit_feed<R: Threads + Wait + Sync, D: Disk>(
     let points = feeds.take(stream);
     let entry = Entry::Commit {
         stream,
-        cut: Ranges::none(alloc),
+        cut: Ranges::none(system.alloc),
         added: Bag::from_points(points),
     };
-    let reply = commit(rt, alloc, hall, session, &entry);
-    keep_refused(feeds, stream, added_of(alloc, entry), &reply);
+    let reply = commit(system, hall, session, &entry);
+    keep_refused(feeds, stream, added_of(system.alloc, entry), &reply);
     reply
 }
 

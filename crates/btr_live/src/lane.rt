@@ -10,7 +10,7 @@ use crate::feeds::Feeds;
 use crate::line::answer_line;
 use btr_disk::Disk;
 use btr_hall::{Hall, Session};
-use btr_jobs::Job;
+use btr_jobs::{Job, System};
 use btr_text::{Line, LineReply, Reason};
 use std::alloc::{AllocError, Global};
 use std::collections::VecDeque;
@@ -96,22 +96,13 @@ impl Job for Lane {
     /// Runs the lines. Then the lane has ended.
     fn run<R: Threads + Wait + Sync, D: Disk + Send>(
         &mut self,
-        rt: &R,
-        alloc: Global,
+        system: System<'_, R>,
         hall: &Hall<D>,
         session: &mut Session<D>,
     ) {
-        let lines = mem::replace(&mut self.lines, Vec::new(alloc));
+        let lines = mem::replace(&mut self.lines, Vec::new(system.alloc));
         self.replies.clear();
-        run_lines(
-            rt,
-            alloc,
-            hall,
-            session,
-            self.batch,
-            lines,
-            &mut self.replies,
-        );
+        run_lines(system, hall, session, self.batch, lines, &mut self.replies);
         self.running.fetch_sub(1, Ordering::SeqCst);
     }
 
@@ -122,8 +113,7 @@ impl Job for Lane {
 
 /// Runs lines in order, and adds their replies, for which there is room.
 fn run_lines<R: Threads + Wait + Sync, D: Disk>(
-    rt: &R,
-    alloc: Global,
+    system: System<'_, R>,
     hall: &Hall<D>,
     session: &mut Session<D>,
     batch: u32,
@@ -139,9 +129,9 @@ fn run_lines<R: Threads + Wait + Sync, D: Disk>(
     ensures runs { Does hall.now session.old session.new
         (λ start log low own. RunsLane batch start log low lines.items replies.new.items own) }
 {
-    let mut feeds = Feeds::new(alloc, batch);
+    let mut feeds = Feeds::new(system.alloc, batch);
     for line in lines {
-        let reply = answer_line(rt, alloc, hall, session, &mut feeds, line);
+        let reply = answer_line(system, hall, session, &mut feeds, line);
         replies.push_back_reserved(reply);
     }
 }

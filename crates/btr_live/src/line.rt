@@ -21,6 +21,7 @@ use btr_disk::Disk;
 use btr_engine::{Receipt, StepFault};
 use btr_hall::{Found, Hall, Session};
 use btr_hist::{Entry, Query, StreamQuery};
+use btr_jobs::System;
 use btr_text::{Line, LineReply, Reason};
 use std::alloc::{AllocError, Global};
 use std::marker::Sync;
@@ -29,8 +30,7 @@ use std::thread::Threads;
 
 /// Does what a line asks for, and returns the reply.
 pub(crate) fn answer_line<R: Threads + Wait + Sync, D: Disk>(
-    rt: &R,
-    alloc: Global,
+    system: System<'_, R>,
     hall: &Hall<D>,
     session: &mut Session<D>,
     feeds: &mut Feeds,
@@ -42,12 +42,12 @@ pub(crate) fn answer_line<R: Threads + Wait + Sync, D: Disk>(
     ensures batch { feeds.new.batch ≡ feeds.old.batch }
 {
     match line {
-        Some(Line::Create { id }) => commit(rt, alloc, hall, session, &Entry::Create { id }),
-        Some(Line::Insert { id, added }) => insert(rt, alloc, hall, session, id, added),
-        Some(Line::Delete { id, from, to }) => delete(rt, alloc, hall, session, id, from, to),
-        Some(Line::Feed { id, added }) => feed(rt, alloc, hall, session, feeds, id, &added),
-        Some(Line::Flush { id }) => flush(rt, alloc, hall, session, feeds, id),
-        Some(Line::Discard { id }) => discard(rt, hall, session, feeds, id),
+        Some(Line::Create { id }) => commit(system, hall, session, &Entry::Create { id }),
+        Some(Line::Insert { id, added }) => insert(system, hall, session, id, added),
+        Some(Line::Delete { id, from, to }) => delete(system, hall, session, id, from, to),
+        Some(Line::Feed { id, added }) => feed(system, hall, session, feeds, id, &added),
+        Some(Line::Flush { id }) => flush(system, hall, session, feeds, id),
+        Some(Line::Discard { id }) => discard(system.rt, hall, session, feeds, id),
         Some(
             Line::Distiller {
                 id,
@@ -59,20 +59,19 @@ pub(crate) fn answer_line<R: Threads + Wait + Sync, D: Disk>(
             },
         ) => {
             define(
-                rt, alloc, hall, session, id, kernel, lead, grain, first, second,
+                system, hall, session, id, kernel, lead, grain, first, second,
             )
         }
-        Some(Line::Refresh { id }) => refresh(rt, alloc, hall, session, id),
-        Some(Line::Ask { id, query }) => ask_stream(rt, alloc, hall, session, id, query),
-        Some(Line::Streams) => ask(rt, alloc, hall, session, &Query::Streams),
+        Some(Line::Refresh { id }) => refresh(system, hall, session, id),
+        Some(Line::Ask { id, query }) => ask_stream(system, hall, session, id, query),
+        Some(Line::Streams) => ask(system, hall, session, &Query::Streams),
         None => LineReply::No(Reason::Line),
     }
 }
 
 /// Commits points to the stream with this id.
 fn insert<R: Threads + Wait + Sync, D: Disk>(
-    rt: &R,
-    alloc: Global,
+    system: System<'_, R>,
     hall: &Hall<D>,
     session: &mut Session<D>,
     id: u128,
@@ -83,25 +82,18 @@ fn insert<R: Threads + Wait + Sync, D: Disk>(
     ensures serves { ServesIn hall.now session.old session.new
         (AsksFor (λ h. on_stream (stream_of h id) (λ stream. Commits (CommitSpec stream [] added)))) result }
 {
-    match session.find(rt, hall, id) {
+    match session.find(system.rt, hall, id) {
         None => LineReply::No(Reason::Stream),
         Some(Found { stream, .. }) => {
-            let cut = Ranges::none(alloc);
-            commit(
-                rt,
-                alloc,
-                hall,
-                session,
-                &Entry::Commit { stream, cut, added },
-            )
+            let cut = Ranges::none(system.alloc);
+            commit(system, hall, session, &Entry::Commit { stream, cut, added })
         }
     }
 }
 
 /// Commits the removal of the points of a range from the stream with this id.
 fn delete<R: Threads + Wait + Sync, D: Disk>(
-    rt: &R,
-    alloc: Global,
+    system: System<'_, R>,
     hall: &Hall<D>,
     session: &mut Session<D>,
     id: u128,
@@ -113,19 +105,18 @@ fn delete<R: Threads + Wait + Sync, D: Disk>(
     ensures serves { ServesIn hall.now session.old session.new
         (AsksFor (λ h. on_stream (stream_of h id) (λ stream. delete stream from to))) result }
 {
-    match session.find(rt, hall, id) {
+    match session.find(system.rt, hall, id) {
         None => LineReply::No(Reason::Stream),
         Some(found) => match Range::new(from, to) {
             None => LineReply::No(Reason::Range),
-            Some(range) => delete_range(rt, alloc, hall, session, found, range),
+            Some(range) => delete_range(system, hall, session, found, range),
         },
     }
 }
 
 /// Commits the removal of the points of a range from a stream that was found.
 fn delete_range<R: Threads + Wait + Sync, D: Disk>(
-    rt: &R,
-    alloc: Global,
+    system: System<'_, R>,
     hall: &Hall<D>,
     session: &mut Session<D>,
     found: Found,
@@ -136,18 +127,12 @@ fn delete_range<R: Threads + Wait + Sync, D: Disk>(
     ensures at { IsAt hall.now session.new }
     ensures replies { RepliesIn hall.now session.old session.new (Commits (CommitSpec found.stream (range ∷ []) [])) result }
 {
-    match one_range(alloc, range) {
+    match one_range(system.alloc, range) {
         Ok(cut) => {
-            let (stream, added) = (found.stream, Bag::from_points(Vec::new(alloc)));
-            commit(
-                rt,
-                alloc,
-                hall,
-                session,
-                &Entry::Commit { stream, cut, added },
-            )
+            let (stream, added) = (found.stream, Bag::from_points(Vec::new(system.alloc)));
+            commit(system, hall, session, &Entry::Commit { stream, cut, added })
         }
-        Err(_) => refuse_range(rt, hall, session, found),
+        Err(_) => refuse_range(system.rt, hall, session, found),
     }
 }
 
@@ -188,8 +173,7 @@ fn one_range(alloc: Global, range: Range) -> Result<Ranges, AllocError>
 
 /// Commits an entry, which is no distillate.
 pub(crate) fn commit<R: Threads + Wait + Sync, D: Disk>(
-    rt: &R,
-    alloc: Global,
+    system: System<'_, R>,
     hall: &Hall<D>,
     session: &mut Session<D>,
     entry: &Entry,
@@ -199,7 +183,7 @@ pub(crate) fn commit<R: Threads + Wait + Sync, D: Disk>(
     ensures at { IsAt hall.now session.new }
     ensures replies { RepliesIn hall.now session.old session.new (Commits entry.now) result }
 {
-    let result = session.commit(rt, alloc, hall, entry);
+    let result = session.commit(system.rt, system.alloc, hall, entry);
     reply_of(result)
 }
 
@@ -218,8 +202,7 @@ fn reply_of(step: Result<Receipt, StepFault>) -> LineReply
 /// Answers a question about the stream with this id: one admission, and then an answer from its snapshot, after the turn. Without
 /// memory for the snapshot it is still tested whether the stream exists.
 fn ask_stream<R: Wait, D: Disk>(
-    rt: &R,
-    alloc: Global,
+    system: System<'_, R>,
     hall: &Hall<D>,
     session: &mut Session<D>,
     id: u128,
@@ -230,9 +213,9 @@ fn ask_stream<R: Wait, D: Disk>(
     ensures serves { ServesIn hall.now session.old session.new
         (AsksFor (λ h. on_stream (stream_of h id) (λ stream. Asks (of_stream query stream)))) result }
 {
-    match session.admit(rt, hall) {
-        Ok(snapshot) => answer_stream(alloc, &snapshot, id, query),
-        Err(_) => match session.find(rt, hall, id) {
+    match session.admit(system.rt, hall) {
+        Ok(snapshot) => answer_stream(system.alloc, &snapshot, id, query),
+        Err(_) => match session.find(system.rt, hall, id) {
             None => LineReply::No(Reason::Stream),
             Some(_) => LineReply::No(Reason::Memory),
         },
@@ -241,8 +224,7 @@ fn ask_stream<R: Wait, D: Disk>(
 
 /// Answers a question from a snapshot that is taken in a turn.
 fn ask<R: Wait, D: Disk>(
-    rt: &R,
-    alloc: Global,
+    system: System<'_, R>,
     hall: &Hall<D>,
     session: &mut Session<D>,
     query: &Query,
@@ -251,8 +233,8 @@ fn ask<R: Wait, D: Disk>(
     ensures at { IsAt hall.now session.new }
     ensures serves { ServesIn hall.now session.old session.new (AsksFor (λ h. Asks query.now)) result }
 {
-    match session.admit(rt, hall) {
-        Ok(snapshot) => answer(alloc, &snapshot, query),
+    match session.admit(system.rt, hall) {
+        Ok(snapshot) => answer(system.alloc, &snapshot, query),
         Err(_) => LineReply::No(Reason::Memory),
     }
 }

@@ -10,10 +10,10 @@ use crate::order::in_order;
 use crate::prepare::{LANES, Prepared, prepare};
 use btr_disk::Disk;
 use btr_hall::{Hall, Session};
-use btr_jobs::{NoPace, Pace, run_jobs};
+use btr_jobs::{NoPace, Pace, System, run_jobs};
 use btr_text::{LineReply, ScriptLine};
 use btr_work::{Report, bring_current};
-use std::alloc::{AllocError, Global};
+use std::alloc::AllocError;
 use std::marker::{Send, Sync};
 use std::sync::atomic::AtomicU32;
 use std::sync::{Arc, Wait};
@@ -47,8 +47,7 @@ pub struct LiveReport {
 ///
 /// If the session was the only one of its hall, it is so again. It takes time linear in the script beside what its lines and rounds take.
 pub fn lanes<R: Threads + Wait + Sync, D: Disk + Send, P: Pace + Sync>(
-    rt: &R,
-    alloc: Global,
+    system: System<'_, R>,
     hall: &Hall<D>,
     session: &mut Session<D>,
     script: Vec<ScriptLine>,
@@ -65,18 +64,18 @@ pub fn lanes<R: Threads + Wait + Sync, D: Disk + Send, P: Pace + Sync>(
     ensures runs { IfOk result (λ report. Does hall.now session.old session.new
         (λ start log low own. RunsLive batch materialize start log low script.items report own)) }
 {
-    let running = Arc::new(alloc, AtomicU32::new(LANES as u32))?;
+    let running = Arc::new(system.alloc, AtomicU32::new(LANES as u32))?;
     let Prepared {
         lanes,
         mut parts,
         mut replies,
-    } = prepare(alloc, batch, script, materialize, &running)?;
+    } = prepare(system.alloc, batch, script, materialize, &running)?;
     let lanes = lanes.as_slice();
     let all = parts.as_mut_slice();
     let workers = workers_for(lanes, materialize);
-    run_jobs(rt, alloc, hall, session, workers, 0, all, pace);
+    run_jobs(system, hall, session, workers, 0, all, pace);
     in_order(lanes, all, &mut replies);
-    let last = last_round(rt, alloc, hall, session, materialize);
+    let last = last_round(system, hall, session, materialize);
     Ok(LiveReport { replies, last })
 }
 
@@ -102,8 +101,7 @@ fn are_of_many(lanes: &[u8]) -> bool {
 
 /// Brings each output up to date once more, if that is wanted. The outputs of a level are shared among workers.
 fn last_round<R: Threads + Wait + Sync, D: Disk + Send>(
-    rt: &R,
-    alloc: Global,
+    system: System<'_, R>,
     hall: &Hall<D>,
     session: &mut Session<D>,
     materialize: bool,
@@ -116,5 +114,5 @@ fn last_round<R: Threads + Wait + Sync, D: Disk + Send>(
     if !materialize {
         return None;
     }
-    Some(bring_current(rt, alloc, hall, session, PARTS, &NoPace))
+    Some(bring_current(system, hall, session, PARTS, &NoPace))
 }

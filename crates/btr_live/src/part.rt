@@ -6,9 +6,8 @@ use crate::lane::Lane;
 use crate::rounds::Rounds;
 use btr_disk::Disk;
 use btr_hall::{Hall, Session};
-use btr_jobs::Job;
+use btr_jobs::{Job, System};
 use btr_text::{LineReply, Reason};
-use std::alloc::Global;
 use std::marker::{Send, Sync};
 use std::sync::Wait;
 use std::thread::Threads;
@@ -54,14 +53,13 @@ impl Job for Part {
 
     fn run<R: Threads + Wait + Sync, D: Disk + Send>(
         &mut self,
-        rt: &R,
-        alloc: Global,
+        system: System<'_, R>,
         hall: &Hall<D>,
         session: &mut Session<D>,
     ) {
         match self {
-            Part::Lane(lane) => lane.run(rt, alloc, hall, session),
-            Part::Rounds(rounds) => rounds.run(rt, alloc, hall, session),
+            Part::Lane(lane) => lane.run(system, hall, session),
+            Part::Rounds(rounds) => rounds.run(system, hall, session),
         }
     }
 

@@ -4,9 +4,8 @@ ghost use Rattle.btr_live.specs.Rounds.{MakesRound, MakesRounds};
 
 use btr_disk::Disk;
 use btr_hall::{Hall, Session};
-use btr_jobs::Job;
+use btr_jobs::{Job, System};
 use btr_work::bring_current_here;
-use std::alloc::Global;
 use std::marker::{Send, Sync};
 use std::sync::atomic::{AtomicU32, Ordering};
 use std::sync::{Arc, Wait};
@@ -31,12 +30,11 @@ impl Job for Rounds {
     /// Makes the rounds, one after another.
     fn run<R: Threads + Wait + Sync, D: Disk + Send>(
         &mut self,
-        rt: &R,
-        alloc: Global,
+        system: System<'_, R>,
         hall: &Hall<D>,
         session: &mut Session<D>,
     ) {
-        make_rounds(rt, alloc, hall, session, self.count, &self.lanes);
+        make_rounds(system, hall, session, self.count, &self.lanes);
     }
 
     ghost lasts = { rounds_did_lasts };
@@ -46,8 +44,7 @@ impl Job for Rounds {
 
 /// Makes at most `count` rounds, one after another, while lanes run.
 fn make_rounds<R: Threads + Wait + Sync, D: Disk>(
-    rt: &R,
-    alloc: Global,
+    system: System<'_, R>,
     hall: &Hall<D>,
     session: &mut Session<D>,
     count: usize,
@@ -58,15 +55,14 @@ fn make_rounds<R: Threads + Wait + Sync, D: Disk>(
     ensures rounds { Does hall.now session.old session.new (λ start log low own. MakesRounds start count low log own) }
 {
     for _ in 0..count {
-        make_round(rt, alloc, hall, session, lanes);
+        make_round(system, hall, session, lanes);
     }
 }
 
 /// Brings each output up to date once, unless all lanes have ended. What is refused, also when memory runs out, is left to a later
 /// round.
 fn make_round<R: Threads + Wait + Sync, D: Disk>(
-    rt: &R,
-    alloc: Global,
+    system: System<'_, R>,
     hall: &Hall<D>,
     session: &mut Session<D>,
     lanes: &AtomicU32,
@@ -76,6 +72,6 @@ fn make_round<R: Threads + Wait + Sync, D: Disk>(
     ensures round { Does hall.now session.old session.new (λ start log low own. MakesRound start log low own) }
 {
     if lanes.load(Ordering::SeqCst) > 0 {
-        let _report = bring_current_here(rt, alloc, hall, session);
+        let _report = bring_current_here(system, hall, session);
     }
 }

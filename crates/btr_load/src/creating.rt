@@ -12,15 +12,14 @@ use btr_disk::Disk;
 use btr_engine::{Receipt, Snapshot, StepFault};
 use btr_hall::{Hall, Session};
 use btr_hist::Entry;
-use std::alloc::Global;
+use btr_jobs::System;
 use std::marker::Sync;
 use std::sync::Wait;
 use std::thread::Threads;
 
 /// Opens the streams, in order.
 pub(crate) fn create_streams<R: Threads + Wait + Sync, D: Disk>(
-    rt: &R,
-    alloc: Global,
+    system: System<'_, R>,
     hall: &Hall<D>,
     session: &mut Session<D>,
     snapshot: &Snapshot,
@@ -34,14 +33,13 @@ pub(crate) fn create_streams<R: Threads + Wait + Sync, D: Disk>(
         → AreStreamsSettled start log h low streams.old streams.new own log.history) }
 {
     for stream in streams.iter_mut() {
-        create_stream(rt, alloc, hall, session, snapshot, stream);
+        create_stream(system, hall, session, snapshot, stream);
     }
 }
 
 /// Creates the stream of these rows, if the snapshot has none of this id.
 fn create_stream<R: Threads + Wait + Sync, D: Disk>(
-    rt: &R,
-    alloc: Global,
+    system: System<'_, R>,
     hall: &Hall<D>,
     session: &mut Session<D>,
     snapshot: &Snapshot,
@@ -59,7 +57,7 @@ fn create_stream<R: Threads + Wait + Sync, D: Disk>(
         return;
     }
     let entry = Entry::Create { id };
-    let result = session.commit(rt, alloc, hall, &entry);
+    let result = session.commit(system.rt, system.alloc, hall, &entry);
     settle(&mut stream.outcome, result);
 }
 

@@ -9,9 +9,9 @@ use crate::loaded::Loaded;
 use crate::plan::planned;
 use btr_disk::Disk;
 use btr_hall::{Hall, Session};
-use btr_jobs::{Pace, run_jobs};
+use btr_jobs::{Pace, System, run_jobs};
 use btr_rows::RowList;
-use std::alloc::{AllocError, Global};
+use std::alloc::AllocError;
 use std::marker::{Send, Sync};
 use std::sync::Wait;
 use std::thread::Threads;
@@ -25,8 +25,7 @@ use std::thread::Threads;
 /// memory, and that nothing was added. Memory that runs out later is the result of one batch or create. It takes time linear in the
 /// rows and, for each stream, logarithmic in the streams of the store, beside the steps of its entries.
 pub fn load<R: Threads + Wait + Sync, D: Disk + Send, P: Pace + Sync>(
-    rt: &R,
-    alloc: Global,
+    system: System<'_, R>,
     hall: &Hall<D>,
     session: &mut Session<D>,
     rows: RowList,
@@ -45,10 +44,10 @@ pub fn load<R: Threads + Wait + Sync, D: Disk + Send, P: Pace + Sync>(
         (λ start log low own. LoadsInTurn start log low rows batch loaded own)) }
     ensures refused { OnErr result (Does hall.now session.old session.new (λ start log low own. own ≡ [])) }
 {
-    let snapshot = session.admit(rt, hall)?;
+    let snapshot = session.admit(system.rt, hall)?;
     let (rows, refused) = rows.into_parts();
-    let mut streams = planned(alloc, &snapshot, rows, batch)?;
-    create_streams(rt, alloc, hall, session, &snapshot, &mut streams);
-    run_jobs(rt, alloc, hall, session, workers, 0, &mut streams, pace);
+    let mut streams = planned(system.alloc, &snapshot, rows, batch)?;
+    create_streams(system, hall, session, &snapshot, &mut streams);
+    run_jobs(system, hall, session, workers, 0, &mut streams, pace);
     Ok(Loaded::from_parts(streams, refused))
 }

@@ -10,7 +10,7 @@ use btr_disk::Disk;
 use btr_engine::{Receipt, StepFault};
 use btr_hall::{Hall, Session};
 use btr_hist::Entry;
-use btr_jobs::Job;
+use btr_jobs::{Job, System};
 use btr_rows::{NumberedPoint, StreamRows};
 use std::alloc::{AllocError, Global};
 use std::marker::{Send, Sync};
@@ -38,8 +38,7 @@ impl Job for LoadedStream {
 
     fn run<R: Threads + Wait + Sync, D: Disk + Send>(
         &mut self,
-        rt: &R,
-        alloc: Global,
+        system: System<'_, R>,
         hall: &Hall<D>,
         session: &mut Session<D>,
     ) {
@@ -51,8 +50,7 @@ impl Job for LoadedStream {
         } = &mut self.outcome
         {
             commit_batches(
-                rt,
-                alloc,
+                system,
                 hall,
                 session,
                 *stream,
@@ -71,8 +69,7 @@ impl Job for LoadedStream {
 
 /// Commits the batches of a stream, in order, and sets the result of each. A refused batch does not stop later ones.
 fn commit_batches<R: Threads + Wait + Sync, D: Disk>(
-    rt: &R,
-    alloc: Global,
+    system: System<'_, R>,
     hall: &Hall<D>,
     session: &mut Session<D>,
     stream: u32,
@@ -89,15 +86,14 @@ fn commit_batches<R: Threads + Wait + Sync, D: Disk>(
     for i in 0..results.len() {
         let size = (batch as usize).min(rest.len());
         let (here, after) = rest.split_at(size);
-        results[i] = commit_batch(rt, alloc, hall, session, stream, here);
+        results[i] = commit_batch(system, hall, session, stream, here);
         rest = after;
     }
 }
 
 /// Commits a batch: one entry, which adds its points.
 fn commit_batch<R: Threads + Wait + Sync, D: Disk>(
-    rt: &R,
-    alloc: Global,
+    system: System<'_, R>,
     hall: &Hall<D>,
     session: &mut Session<D>,
     stream: u32,
@@ -108,8 +104,8 @@ fn commit_batch<R: Threads + Wait + Sync, D: Disk>(
     ensures does { Does hall.now session.old session.new
         (λ start log low own. OneBatchDid start log low stream batch.now result own) }
 {
-    let entry = batch_entry(alloc, stream, batch)?;
-    session.commit(rt, alloc, hall, &entry)
+    let entry = batch_entry(system.alloc, stream, batch)?;
+    session.commit(system.rt, system.alloc, hall, &entry)
 }
 
 /// Makes the entry of a batch. It sorts a copy of the points. An `Err` means out of memory.

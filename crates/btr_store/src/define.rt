@@ -9,9 +9,10 @@ use btr_disk::Disk;
 use btr_engine::{Receipt, StepFault};
 use btr_hall::{Hall, Session};
 use btr_hist::{Entry, Kernel, Spec};
+use btr_jobs::System;
 use btr_live::reason_of_step;
 use btr_text::Reason;
-use std::alloc::{AllocError, Global};
+use std::alloc::AllocError;
 use std::marker::Sync;
 use std::sync::Wait;
 use std::thread::Threads;
@@ -25,8 +26,7 @@ pub(crate) struct DefinedOutput {
 
 /// Defines an output for each stream of a sample, in order. An `Err` means out of memory; some were defined then.
 pub(crate) fn define_outputs<R: Threads + Wait + Sync, D: Disk>(
-    rt: &R,
-    alloc: Global,
+    system: System<'_, R>,
     hall: &Hall<D>,
     session: &mut Session<D>,
     streams: u32,
@@ -39,17 +39,16 @@ pub(crate) fn define_outputs<R: Threads + Wait + Sync, D: Disk>(
     ensures does { Does hall.now session.old session.new
         (λ start log low own. DefinesAll streams start log low result own) }
 {
-    let mut outputs = Vec::new(alloc);
+    let mut outputs = Vec::new(system.alloc);
     for stream in 0..streams {
-        outputs.push(define(rt, alloc, hall, session, stream))?;
+        outputs.push(define(system, hall, session, stream))?;
     }
     Ok(outputs)
 }
 
 /// Defines the output of a stream of a sample.
 fn define<R: Threads + Wait + Sync, D: Disk>(
-    rt: &R,
-    alloc: Global,
+    system: System<'_, R>,
     hall: &Hall<D>,
     session: &mut Session<D>,
     stream: u32,
@@ -62,13 +61,13 @@ fn define<R: Threads + Wait + Sync, D: Disk>(
         (λ start log low own. Defines start log low stream result own log.history) }
 {
     let id = output_id(stream);
-    match session.find(rt, hall, u128::from(stream) + 1) {
+    match session.find(system.rt, hall, u128::from(stream) + 1) {
         Some(found) => {
             let entry = Entry::Define {
                 id,
                 spec: mean_of(found.stream),
             };
-            let refused = refusal_of(session.commit(rt, alloc, hall, &entry));
+            let refused = refusal_of(session.commit(system.rt, system.alloc, hall, &entry));
             DefinedOutput { id, refused }
         }
         None => DefinedOutput {

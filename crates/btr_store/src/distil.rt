@@ -20,7 +20,7 @@ use btr_disk::Disk;
 use btr_engine::Snapshot;
 use btr_hall::{Hall, Session};
 use btr_hist::{Reads, Spec, StreamRow};
-use btr_jobs::Pace;
+use btr_jobs::{Pace, System};
 use btr_live::reason_of_landing;
 use btr_open::OpenFault;
 use btr_report::ReportLine;
@@ -48,8 +48,7 @@ use std::thread::Threads;
 /// output of a report. On each device the store was sound when it was opened, if the device can be observed; and if the status or `failed`
 /// says that the device failed, its count of faults rose.
 pub fn distil_store<R: Threads + Wait + Sync, D: Disk + Send, P: Pace + Sync>(
-    rt: &R,
-    alloc: Global,
+    system: System<'_, R>,
     workers: u8,
     pace: &P,
     disk: D,
@@ -60,15 +59,14 @@ pub fn distil_store<R: Threads + Wait + Sync, D: Disk + Send, P: Pace + Sync>(
         (λ start log own. DistilsStore start log workers w.said own) w.failed disk w.disk)) }
     ensures refused { IfErr result (IsNotOpened ⟦<D as Disk>⟧ disk) }
 {
-    let (hall, mut session) = open_hall(alloc, disk)?;
-    let said = distil(rt, alloc, &hall, &mut session, workers, pace);
+    let (hall, mut session) = open_hall(system.alloc, disk)?;
+    let said = distil(system, &hall, &mut session, workers, pace);
     Ok(close_hall(hall, session, said))
 }
 
 /// Brings each output up to date once, and says what became of each. An `Err` means out of memory.
 fn distil<R: Threads + Wait + Sync, D: Disk + Send, P: Pace + Sync>(
-    rt: &R,
-    alloc: Global,
+    system: System<'_, R>,
     hall: &Hall<D>,
     session: &mut Session<D>,
     workers: u8,
@@ -83,16 +81,15 @@ fn distil<R: Threads + Wait + Sync, D: Disk + Send, P: Pace + Sync>(
     ensures in_turn { workers ≤ 1 → Does hall.now session.old session.new
         (λ start log low own. DistilsInTurn start log low result own) }
 {
-    match bring_current(rt, alloc, hall, session, workers, pace) {
-        Ok(report) => say_report(rt, alloc, hall, session, &report),
+    match bring_current(system, hall, session, workers, pace) {
+        Ok(report) => say_report(system, hall, session, &report),
         Err(error) => Err(error),
     }
 }
 
 /// Says what became of each output, as the store is now. An `Err` means out of memory.
 fn say_report<R: Wait, D: Disk>(
-    rt: &R,
-    alloc: Global,
+    system: System<'_, R>,
     hall: &Hall<D>,
     session: &mut Session<D>,
     report: &Report,
@@ -105,8 +102,8 @@ fn say_report<R: Wait, D: Disk>(
     ensures says { (h : List EntrySpec) → IsEngineOf h (opening_of hall.now)
         → IfOk result (SaysLines (map (output_line (history_of h (seen_of session.old))) report.now)) }
 {
-    let snapshot = session.admit(rt, hall)?;
-    output_lines(alloc, &snapshot, report)
+    let snapshot = session.admit(system.rt, hall)?;
+    output_lines(system.alloc, &snapshot, report)
 }
 
 /// Says what became of each output of this snapshot. An `Err` means out of memory.

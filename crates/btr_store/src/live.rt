@@ -15,11 +15,11 @@ use crate::transcript::Transcript;
 use crate::work::{Worked, close_hall, open_hall};
 use btr_disk::Disk;
 use btr_hall::{Hall, Session};
-use btr_jobs::Pace;
+use btr_jobs::{Pace, System};
 use btr_live::{lanes, last_is_current, one_lane_is_the_model, runs_are_one_history};
 use btr_open::OpenFault;
 use btr_text::ScriptLine;
-use std::alloc::{AllocError, Global};
+use std::alloc::AllocError;
 use std::sync::Wait;
 use std::thread::Threads;
 
@@ -38,8 +38,7 @@ use std::thread::Threads;
 /// line, and then the lines of a last round, if one was wanted. On each device the store was sound when it was opened, if the device can be
 /// observed; and if the status or `failed` says that the device failed, its count of faults rose.
 pub fn live_store<R: Threads + Wait + Sync, D: Disk + Send, P: Pace + Sync>(
-    rt: &R,
-    alloc: Global,
+    system: System<'_, R>,
     batch: u32,
     materialize: bool,
     lines: Vec<ScriptLine>,
@@ -58,24 +57,14 @@ pub fn live_store<R: Threads + Wait + Sync, D: Disk + Send, P: Pace + Sync>(
     runs_are_one_history();
     one_lane_is_the_model();
     last_is_current();
-    let (hall, mut session) = open_hall(alloc, disk)?;
-    let said = live(
-        rt,
-        alloc,
-        &hall,
-        &mut session,
-        lines,
-        batch,
-        materialize,
-        pace,
-    );
+    let (hall, mut session) = open_hall(system.alloc, disk)?;
+    let said = live(system, &hall, &mut session, lines, batch, materialize, pace);
     Ok(close_hall(hall, session, said))
 }
 
 /// Runs lines at a hall, and says their replies and what the last round refused. An `Err` means out of memory.
 fn live<R: Threads + Wait + Sync, D: Disk + Send, P: Pace + Sync>(
-    rt: &R,
-    alloc: Global,
+    system: System<'_, R>,
     hall: &Hall<D>,
     session: &mut Session<D>,
     lines: Vec<ScriptLine>,
@@ -93,8 +82,8 @@ fn live<R: Threads + Wait + Sync, D: Disk + Send, P: Pace + Sync>(
     ensures does { Does hall.now session.old session.new
         (λ start log low own. Lives batch materialize lines.items start log low result own) }
 {
-    match lanes(rt, alloc, hall, session, lines, batch, materialize, pace) {
-        Ok(report) => say_live(rt, alloc, hall, session, &report),
+    match lanes(system, hall, session, lines, batch, materialize, pace) {
+        Ok(report) => say_live(system, hall, session, &report),
         Err(error) => Err(error),
     }
 }

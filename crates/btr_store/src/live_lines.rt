@@ -24,6 +24,7 @@ use btr_disk::Disk;
 use btr_engine::Snapshot;
 use btr_hall::{Hall, Session};
 use btr_hist::StreamRow;
+use btr_jobs::System;
 use btr_live::{LiveReport, reason_of_landing};
 use btr_report::ReportLine;
 use btr_text::LineReply;
@@ -35,8 +36,7 @@ use std::sync::Wait;
 /// of theirs: it is also that of a device which failed in a round, or of a last round that had no memory to begin. An `Err` means out of
 /// memory.
 pub(crate) fn say_live<R: Wait, D: Disk>(
-    rt: &R,
-    alloc: Global,
+    system: System<'_, R>,
     hall: &Hall<D>,
     session: &mut Session<D>,
     report: &LiveReport,
@@ -49,9 +49,9 @@ pub(crate) fn say_live<R: Wait, D: Disk>(
     ensures some { IfOk result (SaysSomeLive report.now) }
     ensures says { (h : List EntrySpec) → IsEngineOf h (opening_of hall.now) → IfOk result (SaysLive (log_seen h session.old) report.now) }
 {
-    let said = say_replies(alloc, &report.replies)?;
-    let lines = say_last(rt, alloc, hall, session, &report.last)?;
-    let device = device_status(rt, hall, session);
+    let said = say_replies(system.alloc, &report.replies)?;
+    let lines = say_last(system, hall, session, &report.last)?;
+    let device = device_status(system.rt, hall, session);
     say_both(said, &lines, round_status(&report.last).greater(device))
 }
 
@@ -68,8 +68,7 @@ fn say_replies(alloc: Global, replies: &[LineReply]) -> Result<Transcript, Alloc
 
 /// Says a line for each output that the last round refused, by the ids of the store as it is now. An `Err` means out of memory.
 fn say_last<R: Wait, D: Disk>(
-    rt: &R,
-    alloc: Global,
+    system: System<'_, R>,
     hall: &Hall<D>,
     session: &mut Session<D>,
     last: &Option<Result<Report, AllocError>>,
@@ -84,10 +83,10 @@ fn say_last<R: Wait, D: Disk>(
 {
     match last {
         Some(Ok(report)) => {
-            let snapshot = session.admit(rt, hall)?;
-            refused_lines(alloc, &snapshot, report)
+            let snapshot = session.admit(system.rt, hall)?;
+            refused_lines(system.alloc, &snapshot, report)
         }
-        _ => Ok(Transcript::new(alloc)),
+        _ => Ok(Transcript::new(system.alloc)),
     }
 }
 

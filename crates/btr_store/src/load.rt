@@ -9,7 +9,7 @@ use crate::load_lines::load_lines;
 use crate::transcript::Transcript;
 use crate::work::{Worked, close_hall, open_hall};
 use btr_disk::Disk;
-use btr_jobs::Pace;
+use btr_jobs::{Pace, System};
 use btr_load::{Loaded, load};
 use btr_open::OpenFault;
 use btr_rows::RowList;
@@ -36,8 +36,7 @@ use std::thread::Threads;
 /// What is said of histories holds if the device can be observed and held one when it was opened. On each device the store was sound when
 /// it was opened, if the device can be observed; and if the status or `failed` says that the device failed, its count of faults rose.
 pub fn load_store<R: Threads + Wait + Sync, D: Disk + Send, P: Pace + Sync>(
-    rt: &R,
-    alloc: Global,
+    system: System<'_, R>,
     rows: RowList,
     batch: u32,
     workers: u8,
@@ -51,9 +50,9 @@ pub fn load_store<R: Threads + Wait + Sync, D: Disk + Send, P: Pace + Sync>(
         (λ start log own. LoadsStore start log rows batch workers w.said own) w.failed disk w.disk)) }
     ensures refused { IfErr result (IsNotOpened ⟦<D as Disk>⟧ disk) }
 {
-    let (hall, mut session) = open_hall(alloc, disk)?;
-    let loaded = load(rt, alloc, &hall, &mut session, rows, batch, workers, pace);
-    let said = say_loaded(alloc, loaded);
+    let (hall, mut session) = open_hall(system.alloc, disk)?;
+    let loaded = load(system, &hall, &mut session, rows, batch, workers, pace);
+    let said = say_loaded(system.alloc, loaded);
     Ok(close_hall(hall, session, said))
 }
 

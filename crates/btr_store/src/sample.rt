@@ -20,7 +20,7 @@ use crate::transcript::Transcript;
 use crate::work::{Worked, close_hall, open_hall};
 use btr_disk::Disk;
 use btr_hall::{Hall, Session};
-use btr_jobs::Pace;
+use btr_jobs::{Pace, System};
 use btr_load::{Loaded, load};
 use btr_open::OpenFault;
 use btr_report::ReportLine;
@@ -81,8 +81,7 @@ pub(crate) struct Filled {
 /// store is used, or what was done to it. On each device the store was sound when it was opened, if the device can be observed; and if the
 /// status or `failed` says that the device failed, its count of faults rose.
 pub fn sample_store<R: Threads + Wait + Sync, D: Disk + Send, P: Pace + Sync>(
-    rt: &R,
-    alloc: Global,
+    system: System<'_, R>,
     number: u32,
     streams: u32,
     points: u32,
@@ -95,20 +94,19 @@ pub fn sample_store<R: Threads + Wait + Sync, D: Disk + Send, P: Pace + Sync>(
         (λ start log own. SamplesStore number streams points start log w.said own) w.failed disk w.disk)) }
     ensures refused { IfErr result (IsNotOpened ⟦<D as Disk>⟧ disk) }
 {
-    let (hall, mut session) = open_hall(alloc, disk)?;
+    let (hall, mut session) = open_hall(system.alloc, disk)?;
     let parameters = SampleParameters {
         number,
         streams,
         points,
     };
-    let said = sample(rt, alloc, &hall, &mut session, parameters, pace);
+    let said = sample(system, &hall, &mut session, parameters, pace);
     Ok(close_hall(hall, session, said))
 }
 
 /// Fills the store if it is empty, and says what was done. An `Err` means out of memory.
 fn sample<R: Threads + Wait + Sync, D: Disk + Send, P: Pace + Sync>(
-    rt: &R,
-    alloc: Global,
+    system: System<'_, R>,
     hall: &Hall<D>,
     session: &mut Session<D>,
     parameters: SampleParameters,
@@ -122,13 +120,13 @@ fn sample<R: Threads + Wait + Sync, D: Disk + Send, P: Pace + Sync>(
     ensures does { Does hall.now session.old session.new
         (λ start log low own. Samples parameters.number parameters.streams parameters.points start log low result own) }
 {
-    let snapshot = session.admit(rt, hall)?;
+    let snapshot = session.admit(system.rt, hall)?;
     match snapshot.entries() {
         0 => {
-            let filled = fill(rt, alloc, hall, session, parameters, pace)?;
-            say_filled(rt, alloc, hall, session, &filled)
+            let filled = fill(system, hall, session, parameters, pace)?;
+            say_filled(system, hall, session, &filled)
         }
-        entries => used_line(alloc, entries),
+        entries => used_line(system.alloc, entries),
     }
 }
 
@@ -143,8 +141,7 @@ fn used_line(alloc: Global, entries: u64) -> Result<Transcript, AllocError>
 
 /// Loads the rows of a sample, defines its outputs, and brings them up to date. An `Err` means out of memory.
 fn fill<R: Threads + Wait + Sync, D: Disk + Send, P: Pace + Sync>(
-    rt: &R,
-    alloc: Global,
+    system: System<'_, R>,
     hall: &Hall<D>,
     session: &mut Session<D>,
     parameters: SampleParameters,
@@ -158,10 +155,10 @@ fn fill<R: Threads + Wait + Sync, D: Disk + Send, P: Pace + Sync>(
     ensures does { Does hall.now session.old session.new
         (λ start log low own. IsFilledInPart parameters.number parameters.streams parameters.points start log low result own) }
 {
-    let rows = sample_rows(alloc, parameters)?;
-    let loaded = load(rt, alloc, hall, session, rows, BATCH, WORKERS, pace)?;
-    let outputs = define_outputs(rt, alloc, hall, session, parameters.streams)?;
-    let report = bring_current(rt, alloc, hall, session, WORKERS, pace)?;
+    let rows = sample_rows(system.alloc, parameters)?;
+    let loaded = load(system, hall, session, rows, BATCH, WORKERS, pace)?;
+    let outputs = define_outputs(system, hall, session, parameters.streams)?;
+    let report = bring_current(system, hall, session, WORKERS, pace)?;
     Ok(Filled {
         loaded,
         outputs,
@@ -184,8 +181,7 @@ fn sample_rows(alloc: Global, parameters: SampleParameters) -> Result<RowList, A
 
 /// Says what was done to a store, and what its streams are now. An `Err` means out of memory.
 fn say_filled<R: Wait, D: Disk>(
-    rt: &R,
-    alloc: Global,
+    system: System<'_, R>,
     hall: &Hall<D>,
     session: &mut Session<D>,
     filled: &Filled,
@@ -198,6 +194,6 @@ fn say_filled<R: Wait, D: Disk>(
     ensures says { (h : List EntrySpec) → IsEngineOf h (opening_of hall.now)
         → IfOk result (SaysFilled (history_of h (seen_of session.old)) filled.now) }
 {
-    let snapshot = session.admit(rt, hall)?;
-    filled_lines(alloc, &snapshot, filled)
+    let snapshot = session.admit(system.rt, hall)?;
+    filled_lines(system.alloc, &snapshot, filled)
 }

@@ -11,11 +11,10 @@ use crate::ending::Ending;
 use crate::remains::RunRemains;
 use btr_disk::Disk;
 use btr_io::Source;
-use btr_jobs::Pace;
+use btr_jobs::{Pace, System};
 use btr_live::lanes;
 use btr_store::live_store;
 use btr_text::{ScriptLine, read_script};
-use std::alloc::Global;
 use std::sync::Wait;
 use std::thread::Threads;
 
@@ -25,8 +24,7 @@ use std::thread::Threads;
 ///
 /// With `materialize` rounds run beside the lanes, each of which brings all outputs up to date, and a last round after them.
 pub(crate) fn run_live<R: Threads + Wait + Sync, S: Source, D: Disk + Send, P: Pace + Sync>(
-    rt: &R,
-    alloc: Global,
+    system: System<'_, R>,
     batch: u32,
     materialize: bool,
     source: &mut S,
@@ -38,8 +36,8 @@ pub(crate) fn run_live<R: Threads + Wait + Sync, S: Source, D: Disk + Send, P: P
     ensures input { S.is_observable → Gives (MAX_INPUT + 1) (S.left source.old) (S.left source.new) }
     ensures cause { LiveCause ⟦<S as Source>⟧ ⟦<D as Disk>⟧ batch materialize source.old source.new disk result.disk result.ending }
 {
-    match read_input(alloc, source) {
-        Ok(input) => run_script(rt, alloc, batch, materialize, &input, disk, pace),
+    match read_input(system.alloc, source) {
+        Ok(input) => run_script(system, batch, materialize, &input, disk, pace),
         Err(ending) => CommandResult {
             ending,
             disk,
@@ -50,8 +48,7 @@ pub(crate) fn run_live<R: Threads + Wait + Sync, S: Source, D: Disk + Send, P: P
 
 /// Reads the lines of an input, and runs them on the store of a device.
 fn run_script<R: Threads + Wait + Sync, D: Disk + Send, P: Pace + Sync>(
-    rt: &R,
-    alloc: Global,
+    system: System<'_, R>,
     batch: u32,
     materialize: bool,
     input: &[u8],
@@ -62,16 +59,8 @@ fn run_script<R: Threads + Wait + Sync, D: Disk + Send, P: Pace + Sync>(
     ensures size { D.size result.disk ≡ D.size disk }
     ensures cause { ScriptCause ⟦<D as Disk>⟧ batch materialize (script_of input.now) disk result.disk result.ending }
 {
-    match read_script(alloc, input) {
-        Ok(script) => run_lines(
-            rt,
-            alloc,
-            batch,
-            materialize,
-            script.into_lines(),
-            disk,
-            pace,
-        ),
+    match read_script(system.alloc, input) {
+        Ok(script) => run_lines(system, batch, materialize, script.into_lines(), disk, pace),
         Err(_) => CommandResult {
             ending: Ending::OutOfMemory,
             disk,
@@ -82,8 +71,7 @@ fn run_script<R: Threads + Wait + Sync, D: Disk + Send, P: Pace + Sync>(
 
 /// Runs lines on the store of a device.
 fn run_lines<R: Threads + Wait + Sync, D: Disk + Send, P: Pace + Sync>(
-    rt: &R,
-    alloc: Global,
+    system: System<'_, R>,
     batch: u32,
     materialize: bool,
     lines: Vec<ScriptLine>,
@@ -95,7 +83,7 @@ fn run_lines<R: Threads + Wait + Sync, D: Disk + Send, P: Pace + Sync>(
     ensures size { D.size result.disk ≡ D.size disk }
     ensures cause { ScriptCause ⟦<D as Disk>⟧ batch materialize lines.items disk result.disk result.ending }
 {
-    match live_store(rt, alloc, batch, materialize, lines, disk, pace) {
+    match live_store(system, batch, materialize, lines, disk, pace) {
         Ok(worked) => work_result(worked),
         Err(fault) => open_refusal(fault),
     }

@@ -12,19 +12,17 @@ use crate::ending::Ending;
 use crate::remains::RunRemains;
 use btr_disk::Disk;
 use btr_io::Source;
-use btr_jobs::Pace;
+use btr_jobs::{Pace, System};
 use btr_load::rows_are_distinct;
 use btr_rows::{RowList, read_rows};
 use btr_store::load_store;
-use std::alloc::Global;
 use std::sync::Wait;
 use std::thread::Threads;
 
 /// `load`: reads the source to its end, opens the store, and loads the rows of the input. It does not call the device before all rows
 /// are read.
 pub(crate) fn run_load<R: Threads + Wait + Sync, S: Source, D: Disk + Send, P: Pace + Sync>(
-    rt: &R,
-    alloc: Global,
+    system: System<'_, R>,
     workers: u8,
     batch: u32,
     source: &mut S,
@@ -36,8 +34,8 @@ pub(crate) fn run_load<R: Threads + Wait + Sync, S: Source, D: Disk + Send, P: P
     ensures input { S.is_observable → Gives (MAX_INPUT + 1) (S.left source.old) (S.left source.new) }
     ensures cause { LoadCause ⟦<S as Source>⟧ ⟦<D as Disk>⟧ workers batch source.old source.new disk result.disk result.ending }
 {
-    match read_input(alloc, source) {
-        Ok(input) => load_input(rt, alloc, workers, batch, &input, disk, pace),
+    match read_input(system.alloc, source) {
+        Ok(input) => load_input(system, workers, batch, &input, disk, pace),
         Err(ending) => CommandResult {
             ending,
             disk,
@@ -48,8 +46,7 @@ pub(crate) fn run_load<R: Threads + Wait + Sync, S: Source, D: Disk + Send, P: P
 
 /// Reads the rows of an input, and loads them into the store of a device.
 fn load_input<R: Threads + Wait + Sync, D: Disk + Send, P: Pace + Sync>(
-    rt: &R,
-    alloc: Global,
+    system: System<'_, R>,
     workers: u8,
     batch: u32,
     input: &[u8],
@@ -63,8 +60,8 @@ fn load_input<R: Threads + Wait + Sync, D: Disk + Send, P: Pace + Sync>(
 {
     // the rows of an input have each id once
     rows_are_distinct();
-    match read_rows(alloc, input) {
-        Ok(rows) => load_rows(rt, alloc, workers, batch, rows, disk, pace),
+    match read_rows(system.alloc, input) {
+        Ok(rows) => load_rows(system, workers, batch, rows, disk, pace),
         Err(_) => CommandResult {
             ending: Ending::OutOfMemory,
             disk,
@@ -75,8 +72,7 @@ fn load_input<R: Threads + Wait + Sync, D: Disk + Send, P: Pace + Sync>(
 
 /// Loads rows into the store of a device.
 fn load_rows<R: Threads + Wait + Sync, D: Disk + Send, P: Pace + Sync>(
-    rt: &R,
-    alloc: Global,
+    system: System<'_, R>,
     workers: u8,
     batch: u32,
     rows: RowList,
@@ -87,7 +83,7 @@ fn load_rows<R: Threads + Wait + Sync, D: Disk + Send, P: Pace + Sync>(
     ensures size { D.size result.disk ≡ D.size disk }
     ensures cause { RowsCause ⟦<D as Disk>⟧ workers batch rows disk result.disk result.ending }
 {
-    match load_store(rt, alloc, rows, batch, workers, pace, disk) {
+    match load_store(system, rows, batch, workers, pace, disk) {
         Ok(worked) => work_result(worked),
         Err(fault) => open_refusal(fault),
     }

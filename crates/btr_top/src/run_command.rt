@@ -21,7 +21,7 @@ use crate::remains::RunRemains;
 use crate::sample::run_sample;
 use btr_disk::Disk;
 use btr_io::{Sink, Source};
-use btr_jobs::{NoPace, Pace};
+use btr_jobs::{NoPace, Pace, System};
 use btr_open::{held_is_sound, one_history_is_held};
 use btr_words::{Command, read_words};
 use std::alloc::Global;
@@ -57,14 +57,14 @@ pub fn run<R: Threads + Wait + Sync, S: Source, K: Sink, D: Disk + Send>(
     ensures runs { Runs ⟦<S as Source>⟧ ⟦<K as Sink>⟧ ⟦<D as Disk>⟧ (command_of (map string_bytes words.now))
         source.old source.new sink.old sink.new disk result.disk result.status }
 {
-    run_paced(rt, alloc, words, source, sink, disk, &NoPace)
+    let system = System { rt, alloc };
+    run_paced(system, words, source, sink, disk, &NoPace)
 }
 
 /// Runs the command that the words say, as [`run`] does. `pace` learns of the turns of the threads: the lanes of a `live`, 0 to 7, and 8
 /// for the rounds beside them; the streams of a `load`, the outputs of a `distil`, and both of a `sample`.
 pub fn run_paced<R: Threads + Wait + Sync, S: Source, K: Sink, D: Disk + Send, P: Pace + Sync>(
-    rt: &R,
-    alloc: Global,
+    system: System<'_, R>,
     words: &[String],
     source: &mut S,
     sink: &mut K,
@@ -78,8 +78,8 @@ pub fn run_paced<R: Threads + Wait + Sync, S: Source, K: Sink, D: Disk + Send, P
         ending,
         disk,
         remains,
-    } = dispatch(rt, alloc, words, source, disk, pace);
-    let status = show(alloc, sink, &ending);
+    } = dispatch(system, words, source, disk, pace);
+    let status = show(system.alloc, sink, &ending);
     // so a device that holds a history is not refused as one without a store, or as a damaged one
     held_is_sound();
     // and what it holds is one history
@@ -93,8 +93,7 @@ pub fn run_paced<R: Threads + Wait + Sync, S: Source, K: Sink, D: Disk + Send, P
 
 /// Does what the words say.
 fn dispatch<R: Threads + Wait + Sync, S: Source, D: Disk + Send, P: Pace + Sync>(
-    rt: &R,
-    alloc: Global,
+    system: System<'_, R>,
     words: &[String],
     source: &mut S,
     disk: D,
@@ -108,7 +107,7 @@ fn dispatch<R: Threads + Wait + Sync, S: Source, D: Disk + Send, P: Pace + Sync>
         → FormatLeaves ⟦<D as Disk>⟧ blocks disk result.disk }
     ensures kept { IsReader (command_of (map string_bytes words.now)) → IsKept ⟦<D as Disk>⟧ disk result.disk }
 {
-    match read_words(alloc, words) {
+    match read_words(system.alloc, words) {
         Err(_) => CommandResult {
             ending: Ending::OutOfMemory,
             disk,
@@ -121,13 +120,13 @@ fn dispatch<R: Threads + Wait + Sync, S: Source, D: Disk + Send, P: Pace + Sync>
         },
         Ok(Some(Command::Format { blocks })) => make_store(disk, blocks),
         Ok(Some(Command::Live { batch, materialize })) => {
-            run_live(rt, alloc, batch, materialize, source, disk, pace)
+            run_live(system, batch, materialize, source, disk, pace)
         }
-        Ok(Some(Command::Ask)) => run_ask(alloc, source, disk),
+        Ok(Some(Command::Ask)) => run_ask(system.alloc, source, disk),
         Ok(Some(Command::Load { workers, batch })) => {
-            run_load(rt, alloc, workers, batch, source, disk, pace)
+            run_load(system, workers, batch, source, disk, pace)
         }
-        Ok(Some(Command::Distil { workers })) => run_distil(rt, alloc, workers, disk, pace),
+        Ok(Some(Command::Distil { workers })) => run_distil(system, workers, disk, pace),
         Ok(
             Some(
                 Command::Sample {
@@ -136,9 +135,9 @@ fn dispatch<R: Threads + Wait + Sync, S: Source, D: Disk + Send, P: Pace + Sync>
                     points,
                 },
             ),
-        ) => run_sample(rt, alloc, number, streams, points, disk, pace),
-        Ok(Some(Command::Checkpoint)) => run_checkpoint(alloc, disk),
-        Ok(Some(Command::Check)) => run_check(alloc, disk),
+        ) => run_sample(system, number, streams, points, disk, pace),
+        Ok(Some(Command::Checkpoint)) => run_checkpoint(system.alloc, disk),
+        Ok(Some(Command::Check)) => run_check(system.alloc, disk),
     }
 }
 

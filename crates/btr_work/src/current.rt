@@ -14,8 +14,8 @@ use crate::prepare::{Level, Work, prepare};
 use crate::report::Report;
 use btr_disk::Disk;
 use btr_hall::{Hall, Session};
-use btr_jobs::{Pace, run_jobs};
-use std::alloc::{AllocError, Global};
+use btr_jobs::{Pace, System, run_jobs};
+use std::alloc::AllocError;
 use std::marker::{Send, Sync};
 use std::sync::Wait;
 use std::thread::Threads;
@@ -35,8 +35,7 @@ use std::thread::Threads;
 /// Afterwards the session has seen what all workers have seen, and has the numbers of what they added. If it was the only session
 /// of the hall it is so again. It costs what the plans and the landings cost, and looks each stream up in logarithmic time.
 pub fn bring_current<R: Threads + Wait + Sync, D: Disk + Send, P: Pace + Sync>(
-    rt: &R,
-    alloc: Global,
+    system: System<'_, R>,
     hall: &Hall<D>,
     session: &mut Session<D>,
     workers: u8,
@@ -50,15 +49,14 @@ pub fn bring_current<R: Threads + Wait + Sync, D: Disk + Send, P: Pace + Sync>(
     ensures in_turn { workers ≤ 1 → IfOk result (λ report. Does hall.now session.old session.new
         (λ start log low own. RefreshesInTurn start log low report own)) }
 {
-    let mut work = prepare_seen(rt, alloc, hall, session, workers)?;
-    refresh_levels(rt, alloc, hall, session, workers, &mut work.levels, pace);
+    let mut work = prepare_seen(system, hall, session, workers)?;
+    refresh_levels(system, hall, session, workers, &mut work.levels, pace);
     Ok(report_of(work))
 }
 
 /// Makes the work for the outputs of the whole history, for this many workers.
 pub(crate) fn prepare_seen<R: Wait, D: Disk>(
-    rt: &R,
-    alloc: Global,
+    system: System<'_, R>,
     hall: &Hall<D>,
     session: &mut Session<D>,
     workers: u8,
@@ -69,14 +67,13 @@ pub(crate) fn prepare_seen<R: Wait, D: Disk>(
     ensures prepared { (h : List EntrySpec) → IsEngineOf h (opening_of hall.now)
         → IfOk result (IsPrepared (history_of h (seen_of session.new))) }
 {
-    let snapshot = session.admit(rt, hall)?;
-    prepare(alloc, &snapshot, workers)
+    let snapshot = session.admit(system.rt, hall)?;
+    prepare(system.alloc, &snapshot, workers)
 }
 
 /// Does the jobs of all levels, one level after another.
 fn refresh_levels<R: Threads + Wait + Sync, D: Disk + Send, P: Pace + Sync>(
-    rt: &R,
-    alloc: Global,
+    system: System<'_, R>,
     hall: &Hall<D>,
     session: &mut Session<D>,
     workers: u8,
@@ -92,14 +89,13 @@ fn refresh_levels<R: Threads + Wait + Sync, D: Disk + Send, P: Pace + Sync>(
         (λ start log low own. DidInTurn (DidInTurn IsDone) start log low (jobs_in levels.old) (jobs_in levels.new) own) }
 {
     for level in levels.iter_mut() {
-        refresh_level(rt, alloc, hall, session, workers, level, pace);
+        refresh_level(system, hall, session, workers, level, pace);
     }
 }
 
 /// Does the jobs of a level.
 fn refresh_level<R: Threads + Wait + Sync, D: Disk + Send, P: Pace + Sync>(
-    rt: &R,
-    alloc: Global,
+    system: System<'_, R>,
     hall: &Hall<D>,
     session: &mut Session<D>,
     workers: u8,
@@ -117,16 +113,7 @@ fn refresh_level<R: Threads + Wait + Sync, D: Disk + Send, P: Pace + Sync>(
         pace,
         turns: &level.turns,
     };
-    run_jobs(
-        rt,
-        alloc,
-        hall,
-        session,
-        workers,
-        0,
-        &mut level.jobs,
-        &turns,
-    );
+    run_jobs(system, hall, session, workers, 0, &mut level.jobs, &turns);
 }
 
 /// A pace for the jobs of a level: each job has a turn of its own.

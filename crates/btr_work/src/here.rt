@@ -12,7 +12,8 @@ use crate::refreshing::OutputJob;
 use crate::report::Report;
 use btr_disk::Disk;
 use btr_hall::{Hall, Session};
-use std::alloc::{AllocError, Global};
+use btr_jobs::System;
+use std::alloc::AllocError;
 use std::marker::Sync;
 use std::sync::Wait;
 use std::thread::Threads;
@@ -22,8 +23,7 @@ use std::thread::Threads;
 ///
 /// [`bring_current`]: crate::bring_current
 pub fn bring_current_here<R: Threads + Wait + Sync, D: Disk>(
-    rt: &R,
-    alloc: Global,
+    system: System<'_, R>,
     hall: &Hall<D>,
     session: &mut Session<D>,
 ) -> Result<Report, AllocError>
@@ -35,15 +35,14 @@ pub fn bring_current_here<R: Threads + Wait + Sync, D: Disk>(
     ensures in_turn { IfOk result (λ report. Does hall.now session.old session.new
         (λ start log low own. RefreshesInTurn start log low report own)) }
 {
-    let mut work = prepare_seen(rt, alloc, hall, session, 1)?;
-    refresh_levels_here(rt, alloc, hall, session, &mut work.levels);
+    let mut work = prepare_seen(system, hall, session, 1)?;
+    refresh_levels_here(system, hall, session, &mut work.levels);
     Ok(report_of(work))
 }
 
 /// Does the jobs of all levels, one level after another.
 fn refresh_levels_here<R: Threads + Wait + Sync, D: Disk>(
-    rt: &R,
-    alloc: Global,
+    system: System<'_, R>,
     hall: &Hall<D>,
     session: &mut Session<D>,
     levels: &mut [Level],
@@ -57,14 +56,13 @@ fn refresh_levels_here<R: Threads + Wait + Sync, D: Disk>(
         (λ start log low own. DidInTurn (DidInTurn IsDone) start log low (jobs_in levels.old) (jobs_in levels.new) own) }
 {
     for level in levels.iter_mut() {
-        refresh_level_here(rt, alloc, hall, session, level);
+        refresh_level_here(system, hall, session, level);
     }
 }
 
 /// Does the jobs of a level.
 fn refresh_level_here<R: Threads + Wait + Sync, D: Disk>(
-    rt: &R,
-    alloc: Global,
+    system: System<'_, R>,
     hall: &Hall<D>,
     session: &mut Session<D>,
     level: &mut Level,
@@ -74,13 +72,12 @@ fn refresh_level_here<R: Threads + Wait + Sync, D: Disk>(
     ensures in_turn { Does hall.now session.old session.new
         (λ start log low own. DidInTurn IsDone start log low level.old.jobs.items level.new.jobs.items own) }
 {
-    refresh_each(rt, alloc, hall, session, &mut level.jobs);
+    refresh_each(system, hall, session, &mut level.jobs);
 }
 
 /// Does jobs one after another.
 fn refresh_each<R: Threads + Wait + Sync, D: Disk>(
-    rt: &R,
-    alloc: Global,
+    system: System<'_, R>,
     hall: &Hall<D>,
     session: &mut Session<D>,
     jobs: &mut [OutputJob],
@@ -92,6 +89,6 @@ fn refresh_each<R: Threads + Wait + Sync, D: Disk>(
         (λ start log low own. DidInTurn IsDone start log low jobs.old jobs.new own) }
 {
     for job in jobs.iter_mut() {
-        job.bring(rt, alloc, hall, session);
+        job.bring(system, hall, session);
     }
 }

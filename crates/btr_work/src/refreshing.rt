@@ -15,9 +15,9 @@ use crate::report::Refreshed;
 use btr_disk::Disk;
 use btr_distil::Plan;
 use btr_hall::{Hall, LandFault, Session};
-use btr_jobs::Job;
+use btr_jobs::{Job, System};
 use btr_plan::{Next, next_plan_shared};
-use std::alloc::{AllocError, Global};
+use std::alloc::AllocError;
 use std::marker::{Send, Sync};
 use std::sync::Wait;
 use std::thread::Threads;
@@ -37,8 +37,7 @@ impl OutputJob {
     /// Brings the output up to date on this thread alone, and keeps what became of it.
     pub(crate) fn bring<R: Threads + Wait + Sync, D: Disk>(
         &mut self,
-        rt: &R,
-        alloc: Global,
+        system: System<'_, R>,
         hall: &Hall<D>,
         session: &mut Session<D>,
     )
@@ -46,7 +45,7 @@ impl OutputJob {
         ensures at { IsAt hall.now session.new }
         ensures done { Does hall.now session.old session.new (λ start log low own. IsDone start log low self.old self.new own) }
     {
-        self.result = refresh_output(rt, alloc, hall, session, self.output, 1);
+        self.result = refresh_output(system, hall, session, self.output, 1);
     }
 }
 
@@ -58,12 +57,11 @@ impl Job for OutputJob {
 
     fn run<R: Threads + Wait + Sync, D: Disk + Send>(
         &mut self,
-        rt: &R,
-        alloc: Global,
+        system: System<'_, R>,
         hall: &Hall<D>,
         session: &mut Session<D>,
     ) {
-        self.result = refresh_output(rt, alloc, hall, session, self.output, self.threads);
+        self.result = refresh_output(system, hall, session, self.output, self.threads);
     }
 
     ghost lasts = { done_lasts };
@@ -77,8 +75,7 @@ impl Job for OutputJob {
 ///
 /// It costs what the plan and the landing cost, which follows what has changed in the inputs since the latest version of the output.
 pub fn refresh_output<R: Threads + Wait + Sync, D: Disk>(
-    rt: &R,
-    alloc: Global,
+    system: System<'_, R>,
     hall: &Hall<D>,
     session: &mut Session<D>,
     output: u32,
@@ -89,14 +86,13 @@ pub fn refresh_output<R: Threads + Wait + Sync, D: Disk>(
     ensures refreshed { Does hall.now session.old session.new (λ start log low own. IsRefreshed start log low output result own) }
     ensures stopped { KnowsStopped hall.now session.old → IsOfStopped result }
 {
-    let next = plan_output(rt, alloc, hall, session, output, threads);
-    land_next(rt, alloc, hall, session, output, next, threads)
+    let next = plan_output(system, hall, session, output, threads);
+    land_next(system, hall, session, output, next, threads)
 }
 
 /// Returns what is planned for an output after the whole history. At most `threads` threads work on it at once, this one among them.
 fn plan_output<R: Threads + Wait + Sync, D: Disk>(
-    rt: &R,
-    alloc: Global,
+    system: System<'_, R>,
     hall: &Hall<D>,
     session: &mut Session<D>,
     output: u32,
@@ -107,14 +103,13 @@ fn plan_output<R: Threads + Wait + Sync, D: Disk>(
     ensures looks { Looks hall.now session.old session.new }
     ensures next { IsNextAt hall.now session.new output result }
 {
-    let snapshot = session.admit(rt, hall)?;
-    next_plan_shared(rt, alloc, &snapshot, output, threads)
+    let snapshot = session.admit(system.rt, hall)?;
+    next_plan_shared(system.rt, system.alloc, &snapshot, output, threads)
 }
 
 /// Lands what is planned for an output, if that is a plan, by at most `threads` threads.
 fn land_next<R: Threads + Wait + Sync, D: Disk>(
-    rt: &R,
-    alloc: Global,
+    system: System<'_, R>,
     hall: &Hall<D>,
     session: &mut Session<D>,
     output: u32,
@@ -129,7 +124,7 @@ fn land_next<R: Threads + Wait + Sync, D: Disk>(
 {
     match next {
         Ok(Next::UpToDate { version }) => Refreshed::Current { version },
-        Ok(Next::Plan(plan)) => land(rt, alloc, hall, session, output, &plan, threads),
+        Ok(Next::Plan(plan)) => land(system, hall, session, output, &plan, threads),
         // An output stays one: it has a plan or is up to date, unless there is no memory.
         Ok(Next::NotOutput) | Err(_) => Refreshed::Refused(LandFault::Want),
     }
@@ -137,8 +132,7 @@ fn land_next<R: Threads + Wait + Sync, D: Disk>(
 
 /// Lands the plan of an output, by at most `threads` threads.
 fn land<R: Threads + Wait + Sync, D: Disk>(
-    rt: &R,
-    alloc: Global,
+    system: System<'_, R>,
     hall: &Hall<D>,
     session: &mut Session<D>,
     output: u32,
@@ -151,7 +145,7 @@ fn land<R: Threads + Wait + Sync, D: Disk>(
     ensures refreshed { Does hall.now session.old session.new (λ start log low own. IsRefreshed start log low output result own) }
     ensures stopped { KnowsStopped hall.now session.old → IsOfStopped result }
 {
-    match session.land(rt, alloc, hall, plan, threads) {
+    match session.land(system.rt, system.alloc, hall, plan, threads) {
         Ok(receipt) => Refreshed::Landed {
             version: receipt.version,
         },

@@ -3,7 +3,7 @@ ghost use Rattle.std.specs.Prelude.{◌≡◌, ◌%◌, length};
 
 use btr_disk::{Capacity, MemDisk};
 use btr_io::{MemSink, MemSource};
-use btr_jobs::Pace;
+use btr_jobs::{Pace, System};
 use btr_text::read_unsigned;
 use btr_top::{Outcome, run, run_paced};
 use std::alloc::{AllocError, Global};
@@ -153,8 +153,7 @@ pub(super) fn run_beside(
         beside: AtomicU32::new(0),
     };
     let Outcome { status, disk, .. } = run_paced(
-        rt,
-        alloc,
+        System { rt, alloc },
         &given,
         &mut source,
         &mut sink,

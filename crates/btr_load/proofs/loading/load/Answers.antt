@@ -1,4 +1,4 @@
-use Rattle.std.proofs.Common.{◌≡◌, ◌∙◌, ◌++◌, ℕ, List, [], sym, ap, subst}
+use Rattle.std.proofs.Common.{◌≡◌, ◌∙◌, ◌++◌, ℕ, List, [], Result, Ok, Err, OnErr, sym, ap, subst}
 use Rattle.std.specs.Vec.{with_items}
 use Rattle.std.proofs.lemmas.List.{with_items_is}
 use Rattle.btr_hist.specs.declared.entry.Entry.{Entry}
@@ -6,7 +6,7 @@ use Rattle.btr_streams.specs.Snapshot.{IsSnapshotOf}
 use Rattle.btr_hall.proofs.SessionLemmas.{alone_alike}
 use Rattle.btr_jobs.specs.States.{StoreState, LogState}
 use Rattle.btr_jobs.specs.Jobs.{AllDid, DidInTurn, Does}
-use Rattle.btr_jobs.proofs.DoesLemmas.{does_then}
+use Rattle.btr_jobs.proofs.DoesLemmas.{does_implied, does_then}
 use Rattle.btr_load.specs.Work.{CommitsStream}
 use Rattle.btr_load.specs.Plan.{ArePlanned, AreReady, AreStreamsSettled}
 use Rattle.btr_load.specs.Loads.{Loads, LoadsInTurn, LoadedValue}
@@ -97,3 +97,16 @@ returns-clause-in_turn g c few =
     (load_turn start late early low c.args.rows c.args.batch c.deref_mut.result.now c.create_streams.new.streams last refused a b c.into_parts-rows.ensures.refused
     (planned_at g at low first.0) (ready_at g at) on first.1 (subst (λ l. DidInTurn CommitsStream start late early.history l last b) (begun g at) then)))
     (settles g at) (c.run_jobs.ensures.in_turn few)
+
+-- what holds, holds if a result is an error
+on_err_by : {T E P : Type 0} (result : Result T E) → P → OnErr result P
+on_err_by (Ok x) p = tt
+on_err_by (Err e) p = p
+
+pub returns-in_err-streams-clause-refused : goal.returns-in_err-streams-clause-refused
+returns-in_err-streams-clause-refused g c =
+    let hall = c.args.hall.now in
+    let snapshot = c.in_ok-snapshot.snapshot in
+    let look = look_alone hall c.args.session.now c.admit.new.self c.in_ok-snapshot.ensures.looks c.requires.alone (λ h. IsSnapshotOf h snapshot) c.in_ok-snapshot.ensures.snapshot in
+    on_err_by c.from_residual-in_err-streams.result
+    (does_implied hall c.args.session.now c.admit.new.self (λ start log low own. (own ≡ []) × (log.history ≡ low) × IsSnapshotOf low snapshot) (λ start log low own. own ≡ []) (λ start log low own is. is.0) look)
