@@ -1,8 +1,9 @@
 -- What contracts see of a hall and a session: what the session has seen, which entries are its own, its share, and its engine.
-use Rattle.std.specs.Prelude.{◌≡◌, ℕ, ◌+◌, ◌≤◌, Bool, true, List, [], ◌++◌, length, Option, Some, None, if◌then◌else◌}
+use Rattle.std.specs.Prelude.{◌≡◌, ℕ, ◌+◌, ◌≤◌, Bool, true, false, List, [], ◌++◌, length, Option, Some, None, if◌then◌else◌}
+use Rattle.btr_hist.specs.declared.entry.Entry.{Entry}
 use Rattle.btr_disk.specs.declared.disk.Disk.{Ghosts}
 use Rattle.btr_engine.specs.declared.engine.Engine.{Engine}
-use Rattle.btr_engine.specs.Engine.{entries_of, is_stopped}
+use Rattle.btr_engine.specs.Engine.{entries_of, is_stopped, IsAtRest, IsDurable}
 use Rattle.btr_gate.specs.Prefixes.{StartsWith, longer}
 use Rattle.btr_gate.specs.Shares.{covers, kept_half, other_half}
 use Rattle.btr_gate.specs.Numbers.{merged, times, given, Climbs}
@@ -10,7 +11,7 @@ use Rattle.btr_gate.specs.Gates.{IsPassOf, view}
 use Rattle.btr_hall.specs.declared.item.Item.{Item}
 use Rattle.btr_hall.specs.declared.session.Hall.{Hall}
 use Rattle.btr_hall.specs.declared.session.Session.{Session}
-use Rattle.btr_hall.specs.Trace.{engine_after, IsTraceOf}
+use Rattle.btr_hall.specs.Trace.{engine_after, IsTraceOf, history_of, in_flight_in, stopped_in}
 
 module _ {D : Type 0} {disk : Ghosts D} where
   -- The engine with which the hall began.
@@ -117,3 +118,14 @@ module _ {D : Type 0} {disk : Ghosts D} where
   -- The number of entries of an engine, if it is stopped.
   abbrev pub stopped_at : Engine D disk → Option ℕ
   stopped_at e = if is_stopped e then Some (entries_of e) else None
+
+  -- The number of entries after a list, if the engine is stopped then. The hall began with this history and this engine.
+  abbrev pub stopped_after : List Entry → Engine D disk → List (Item D disk) → Option ℕ
+  stopped_after h first seen = if stopped_in first seen then Some (length (history_of h seen)) else None
+
+  -- What a crash may leave after a list is what it may leave after the steps of one engine. The hall began with the first engine, and the
+  -- last one is that after the list.
+  abbrev pub StaysDurable : Engine D disk → List (Item D disk) → Engine D disk → Type 0
+  StaysDurable first seen last =
+      (h more : List Entry) (calls entries : ℕ) → (is_stopped first ≡ false → IsAtRest h first) → IsDurable h calls entries first more
+      → IsDurable (history_of h seen) calls entries last (in_flight_in more seen)

@@ -8,7 +8,7 @@ use crate::item::Item;
 use crate::session::{Hall, Session};
 use crate::travel::{add_in, home_turn};
 use btr_disk::Disk;
-use btr_engine::{Engine, Receipt, StepFault};
+use btr_engine::{Crew, Engine, Receipt, StepFault};
 use btr_hist::Entry;
 use std::alloc::Global;
 use std::marker::Sync;
@@ -41,7 +41,8 @@ impl<D: Disk> Session<D> {
         ensures alone { IsAlone self.old → IsStep (engine_of hall.now self.old) (engine_of hall.now self.new) entry.now result }
     {
         let turn = home_turn(rt, hall, &mut self.pass);
-        add_in(rt, alloc, hall, &mut self.pass, turn, entry, 1)
+        let crew = Crew { rt, threads: 1 };
+        add_in(&crew, alloc, hall, &mut self.pass, turn, entry)
     }
 }
 

@@ -13,7 +13,7 @@ use crate::store::Store;
 use crate::travel::{add_in, home_turn};
 use btr_disk::Disk;
 use btr_distil::Plan;
-use btr_engine::{Receipt, StepFault};
+use btr_engine::{Crew, Receipt, StepFault};
 use btr_hist::Rejection;
 use std::alloc::Global;
 use std::marker::Sync;
@@ -80,7 +80,8 @@ impl<D: Disk> Session<D> {
             return Err(LandFault::Superseded { version });
         }
         let entry = plan.entry();
-        match add_in(rt, alloc, hall, &mut self.pass, turn, entry, threads) {
+        let crew = Crew { rt, threads };
+        match add_in(&crew, alloc, hall, &mut self.pass, turn, entry) {
             Ok(receipt) => Ok(receipt),
             Err(fault) => Err(land_fault(fault)),
         }

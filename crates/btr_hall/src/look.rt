@@ -1,12 +1,12 @@
 //! The turns that change nothing: snapshots, and questions about the store as it is.
-ghost use Rattle.std.specs.Prelude.{◌≡◌, List, length, IfOk, if◌then◌else◌};
+ghost use Rattle.std.specs.Prelude.{◌≡◌, List, IfOk};
 ghost use Rattle.btr_hist.specs.declared.entry.Entry.{Entry as EntrySpec};
 ghost use Rattle.btr_hist.specs.Answer.{answer};
 ghost use Rattle.btr_engine.specs.Engine.{entries_of, is_stopped, IsEngineOf};
 ghost use Rattle.btr_streams.specs.Snapshot.{IsSnapshotOf};
-ghost use Rattle.btr_hall.specs.Trace.{history_of, stopped_in};
+ghost use Rattle.btr_hall.specs.Trace.{history_of};
 ghost use Rattle.btr_hall.specs.Found.{IsFound};
-ghost use Rattle.btr_hall.specs.Session.{IsSessionOf, Looks, opening_of, seen_of, engine_of, stopped_at};
+ghost use Rattle.btr_hall.specs.Session.{IsSessionOf, Looks, opening_of, seen_of, engine_of, stopped_after, stopped_at};
 
 use crate::session::{Hall, Session};
 use btr_disk::Disk;
@@ -85,8 +85,7 @@ impl<D: Disk> Session<D> {
         ensures looks { Looks hall.now self.old self.new }
         ensures engine { result ≡ stopped_at (engine_of hall.now self.new) }
         ensures entries { (h : List EntrySpec) → IsEngineOf h (opening_of hall.now)
-            → result ≡ (if stopped_in (opening_of hall.now) (seen_of self.new)
-            then Some (length (history_of h (seen_of self.new))) else None) }
+            → result ≡ stopped_after h (opening_of hall.now) (seen_of self.new) }
     {
         let (stopped, entries) = self.standing(rt, hall);
         stopped.then_some(entries)

@@ -37,9 +37,9 @@ pub struct Session<D: Disk> {
 impl<D: Disk> Hall<D> {
     ghost use Rattle.std.specs.Prelude.{◌≡◌, ℕ, true, false, List, length, IfOk, IfErr};
     ghost use Rattle.btr_hist.specs.declared.entry.Entry.{Entry as EntrySpec};
-    ghost use Rattle.btr_engine.specs.Engine.{is_stopped, is_home, IsEngineOf, IsAtRest, IsDurable, KeepsOpening};
-    ghost use Rattle.btr_hall.specs.Trace.{IsTraceOf, history_of, in_flight_in};
-    ghost use Rattle.btr_hall.specs.Session.{IsSessionOf, IsAlone, Begins, HasEachOnce, opening_of, seen_of, engine_of};
+    ghost use Rattle.btr_engine.specs.Engine.{is_stopped, is_home, IsEngineOf, IsAtRest, KeepsOpening};
+    ghost use Rattle.btr_hall.specs.Trace.{IsTraceOf, history_of};
+    ghost use Rattle.btr_hall.specs.Session.{IsSessionOf, IsAlone, Begins, HasEachOnce, StaysDurable, opening_of, seen_of, engine_of};
 
     /// Makes a hall of an engine, and its first session, which has seen all entries of the engine. It takes a constant amount of
     /// memory, and does not call the device. An `Err` means out of memory, and returns the engine.
@@ -90,10 +90,7 @@ impl<D: Disk> Hall<D> {
         ensures kept { KeepsOpening (opening_of self) result }
         ensures at_rest { D.is_observable → (h : List EntrySpec) → IsAtRest h (opening_of self) → is_stopped result ≡ false
             → IsAtRest (history_of h (seen_of session)) result }
-        ensures durable { D.is_observable → (h more : List EntrySpec) (calls entries : ℕ)
-            → (is_stopped (opening_of self) ≡ false → IsAtRest h (opening_of self))
-            → IsDurable h calls entries (opening_of self) more
-            → IsDurable (history_of h (seen_of session)) calls entries result (in_flight_in more (seen_of session)) }
+        ensures durable { D.is_observable → StaysDurable (opening_of self) (seen_of session) result }
     {
         let Hall {
             gate,

@@ -50,17 +50,16 @@ pub(crate) fn home_turn<R: Wait, D: Disk>(
     unreachable!()
 }
 
-/// Adds an entry in a turn in which the log is at home, ends the turn, and releases the lock. At most `threads` threads make what is
-/// written, this one among them. The log is out while the entry is written, and others have their turns. A second turn brings the log back.
-/// An entry that is refused needs no second turn.
+/// Adds an entry in a turn in which the log is at home, ends the turn, and releases the lock. The threads of `crew` make what is written.
+/// The log is out while the entry is written, and others have their turns. A second turn brings the log back. An entry that is refused
+/// needs no second turn.
 pub(crate) fn add_in<R: Threads + Wait + Sync, D: Disk>(
-    rt: &R,
+    crew: &Crew<'_, R>,
     alloc: Global,
     hall: &Hall<D>,
     pass: &mut Pass<Store<D>, Item<D>, Engine<D>>,
     turn: Turn<Store<D>, Item<D>>,
     entry: &Entry,
-    threads: usize,
 ) -> Result<Receipt, StepFault>
     requires own { IsPassOf hall.now.gate pass.old }
     requires turn { HasHomeTurn (opening_of hall.now) (view pass.old) turn }
@@ -68,7 +67,7 @@ pub(crate) fn add_in<R: Threads + Wait + Sync, D: Disk>(
     ensures adds { AddsIn (view pass.old) (view pass.new) turn.state entry.now result }
 {
     let mut turn = turn;
-    match turn.state.take(rt, alloc, entry, threads) {
+    match turn.state.take(crew, alloc, entry) {
         Err(fault) => {
             hall.gate.leave(pass, turn);
             hall.lock.release();
@@ -76,8 +75,8 @@ pub(crate) fn add_in<R: Threads + Wait + Sync, D: Disk>(
         }
         Ok((log, ready)) => {
             hall.gate.leave(pass, turn);
-            let (log, written) = ready.write(&Crew { rt, threads }, log);
-            let mut last = hall.gate.enter(rt, pass);
+            let (log, written) = ready.write(crew, log);
+            let mut last = hall.gate.enter(crew.rt, pass);
             let (result, item) = last.state.bring(log, ready, written, entry);
             last.added = item;
             hall.gate.leave(pass, last);
@@ -88,14 +87,13 @@ pub(crate) fn add_in<R: Threads + Wait + Sync, D: Disk>(
 }
 
 impl<D: Disk> Store<D> {
-    /// Takes the log out, with all that is to be written to it for an entry, which at most `threads` threads make. If the entry is refused
-    /// the log stays.
+    /// Takes the log out, with all that is to be written to it for an entry, which the threads of `crew` make. If the entry is refused the
+    /// log stays.
     fn take<R: Threads + Sync>(
         &mut self,
-        rt: &R,
+        crew: &Crew<'_, R>,
         alloc: Global,
         entry: &Entry,
-        threads: usize,
     ) -> Result<(Log<D>, Ready), StepFault>
         requires home { is_home self.old.engine ≡ true }
         ensures refused { IfErr result (λ fault. Adds self.old self.new entry.now (Err fault) None) }
@@ -104,8 +102,7 @@ impl<D: Disk> Store<D> {
         let Some(log) = self.engine.take_log() else {
             unreachable!()
         };
-        let crew = Crew { rt, threads };
-        match self.engine.stage(&crew, alloc, &log, entry) {
+        match self.engine.stage(crew, alloc, &log, entry) {
             Ok(ready) => Ok((log, ready)),
             Err(fault) => {
                 self.engine.settle(log, Return::Untouched);

@@ -5,6 +5,8 @@ use Rattle.btr_hist.specs.declared.entry.Entry.{Entry}
 use Rattle.btr_hist.specs.History.{stream_of, spec_of}
 use Rattle.btr_rows.specs.Streams.{StreamValue}
 use Rattle.btr_streams.specs.declared.board.Receipt.{Receipt}
+use Rattle.btr_streams.specs.declared.snapshot.Snapshot.{Snapshot}
+use Rattle.btr_streams.specs.Snapshot.{IsSnapshotOf}
 use Rattle.btr_engine.specs.declared.step.StepFault.{StepFault}
 use Rattle.btr_jobs.specs.States.{StoreState, LogState}
 use Rattle.btr_jobs.specs.Turns.{IsIdle}
@@ -56,3 +58,8 @@ AreStreamsSettled start log h p (was ∷ before) [] own last = ⊥
 AreStreamsSettled start log h p (was ∷ before) (now ∷ after) own last =
     (first rest : List ℕ) × (next : List Entry) × (own ≡ first ++ rest)
     × IsStreamSettled start log h p was now first next × AreStreamsSettled start log h next before after rest last
+
+-- The streams were opened, in order, for each history of the snapshot by which they were planned.
+abbrev pub SettlesStreams : Snapshot → List LoadedStream → List LoadedStream → StoreState → LogState → List Entry → List ℕ → Type 0
+SettlesStreams snapshot was now start log low own =
+    (h : List Entry) → IsSnapshotOf h snapshot → AreStreamsSettled start log h low was now own log.history

@@ -4,7 +4,7 @@ ghost use Rattle.btr_hist.specs.declared.entry.Entry.{Entry as EntrySpec};
 ghost use Rattle.btr_streams.specs.Snapshot.{IsSnapshotOf};
 ghost use Rattle.btr_hall.specs.Session.{IsAlone};
 ghost use Rattle.btr_jobs.specs.Jobs.{IsAt, Does};
-ghost use Rattle.btr_load.specs.Plan.{IsStreamSettled, AreStreamsSettled, settled_outcome};
+ghost use Rattle.btr_load.specs.Plan.{IsStreamSettled, SettlesStreams, settled_outcome};
 
 use crate::outcome::RowsOutcome;
 use crate::stream::LoadedStream;
@@ -29,8 +29,7 @@ pub(crate) fn create_streams<R: Threads + Wait + Sync, D: Disk>(
     requires alone { IsAlone session.old }
     ensures at { IsAt hall.now session.new }
     ensures alone { IsAlone session.new }
-    ensures does { Does hall.now session.old session.new (λ start log low own. (h : List EntrySpec) → IsSnapshotOf h snapshot.now
-        → AreStreamsSettled start log h low streams.old streams.new own log.history) }
+    ensures does { Does hall.now session.old session.new (λ start log low own. SettlesStreams snapshot.now streams.old streams.new start log low own) }
 {
     for stream in streams.iter_mut() {
         create_stream(system, hall, session, snapshot, stream);

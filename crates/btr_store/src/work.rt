@@ -1,17 +1,16 @@
 //! The begin and the end of work on a store: it is opened and has a hall, and the hall is closed.
-ghost use Rattle.std.specs.Prelude.{◌≡◌, ℕ, true, List, Ok, IfErr, IfOk};
+ghost use Rattle.std.specs.Prelude.{◌≡◌, true, List, Ok, IfErr, IfOk};
 ghost use Rattle.std.specs.Option.{is_some};
 ghost use Rattle.btr_hist.specs.declared.entry.Entry.{Entry as EntrySpec};
 ghost use Rattle.btr_engine.specs.Engine.{is_home};
 ghost use Rattle.btr_open.specs.declared.opening.OpenCause.TheVariants.{Want};
-ghost use Rattle.btr_open.specs.Opening.{IsNotOpened, IsOpenedEngine, IsOpenedOn, KeepsDisk};
-ghost use Rattle.btr_hall.specs.declared.session.Session.{Session as SessionSpec};
+ghost use Rattle.btr_open.specs.Opening.{IsNotOpened, IsOpenedEngine, KeepsDisk};
 ghost use Rattle.btr_hall.specs.Session.{Begins, IsAlone, opening_of};
-ghost use Rattle.btr_jobs.specs.States.{log_seen, start_of};
-ghost use Rattle.btr_jobs.specs.Jobs.{Goes, IsAt};
+ghost use Rattle.btr_jobs.specs.States.{log_seen};
+ghost use Rattle.btr_jobs.specs.Jobs.{IsAt};
 ghost use Rattle.btr_store.specs.declared.status.Status.TheVariants.{DeviceFault};
-ghost use Rattle.btr_store.specs.Work.{IsPlainWork, Works};
-ghost use Rattle.btr_store.specs.Closing.{BeginsOn};
+ghost use Rattle.btr_store.specs.Work.{IsPlainWork};
+ghost use Rattle.btr_store.specs.Closing.{BeginsOn, WorkedAt};
 
 use crate::status::Status;
 use crate::transcript::Transcript;
@@ -89,10 +88,7 @@ pub fn close_hall<D: Disk>(
         → result.failed ≡ is_some (log_seen h session).failed }
     ensures plain { (old : D) → IsOpenedEngine ⟦<D as Disk>⟧ old (opening_of hall)
         → IsPlainWork ⟦<D as Disk>⟧ old result.said result.failed result.disk }
-    ensures works { (old : D) (opened : IsOpenedEngine ⟦<D as Disk>⟧ old (opening_of hall)) (begun : SessionSpec D ⟦<D as Disk>⟧)
-        (own : List ℕ) → Begins (opening_of hall) hall begun → Goes begun session own
-        → (h : List EntrySpec) → IsOpenedOn ⟦<D as Disk>⟧ h (opening_of hall)
-        → Works ⟦<D as Disk>⟧ (start_of h hall) (log_seen h session) own old result.disk }
+    ensures works { (old : D) → IsOpenedEngine ⟦<D as Disk>⟧ old (opening_of hall) → WorkedAt ⟦<D as Disk>⟧ old hall session result.disk }
 {
     let engine = hall.close(session);
     let failed = engine.stopped();

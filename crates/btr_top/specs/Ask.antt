@@ -1,11 +1,12 @@
 -- The command `ask`: what each line is answered, and why the command ends as it does.
-use Rattle.std.specs.Prelude.{◌≡◌, List, [], ◌∷◌, length, false, Ok}
+use Rattle.std.specs.Prelude.{◌≡◌, List, [], ◌∷◌, length, false, Option, Ok}
 use Rattle.btr_io.specs.declared.source.Source.{Ghosts as SourceGhosts}
 use Rattle.btr_disk.specs.declared.disk.Disk.{Ghosts}
 use Rattle.btr_disk.specs.Bytes.{Image}
 use Rattle.btr_hist.specs.declared.entry.Entry.{Entry}
 use Rattle.btr_hist.specs.Legal.{Follows}
 use Rattle.btr_text.specs.Input.{questions_of}
+use Rattle.btr_text.specs.declared.script.Line.{Line}
 use Rattle.btr_text.specs.declared.script.ScriptLine.{ScriptLine}
 use Rattle.btr_text.specs.declared.reply.LineReply.{LineReply}
 use Rattle.btr_engine.specs.Holds.{HoldsHistory}
@@ -15,7 +16,7 @@ use Rattle.btr_top.specs.declared.ending.Ending.TheVariants.{Replied}
 use Rattle.btr_live.specs.Meaning.{question}
 use Rattle.btr_live.specs.Serving.{IsAnswerOrNoMemory}
 use Rattle.btr_top.specs.Command.{HoldsStoreWith, IsWithinLimit, IsKept, OpeningCause, CommandCause}
-use Rattle.btr_store.specs.Replies.{IsTranscript}
+use Rattle.btr_store.specs.Replies.{AddsReply, IsTranscript}
 use Rattle.btr_store.specs.Work.{IfHolds, IsPlainWork}
 
 -- One reply to each line, in order, all from the same history.
@@ -24,6 +25,10 @@ AnswersEach h [] [] = Unit {0}
 AnswersEach h [] (reply ∷ replies) = ⊥
 AnswersEach h (line ∷ lines) [] = ⊥
 AnswersEach h (line ∷ lines) (reply ∷ replies) = IsAnswerOrNoMemory h (question h line.line) reply × AnswersEach h lines replies
+
+-- A reply to a line was added to the transcript, as the history answers it.
+abbrev pub AddsAnswer : List Entry → Option Line → Transcript → Transcript → Type 0
+AddsAnswer h line old new = (reply : LineReply) × IsAnswerOrNoMemory h (question h line) reply × AddsReply reply old new
 
 -- There is one reply for each line, and this is the transcript of the replies.
 pub record RepliesEach (lines : List ScriptLine) (transcript : Transcript) : Type 0 where

@@ -11,7 +11,7 @@ ghost use Rattle.btr_top.specs.declared.command.TheConstants.{MAX_INPUT};
 ghost use Rattle.btr_live.specs.Meaning.{question};
 ghost use Rattle.btr_top.specs.Command.{IsKept};
 ghost use Rattle.btr_live.specs.Serving.{IsAnswerOrNoMemory};
-ghost use Rattle.btr_top.specs.Ask.{AskCause, QuestionsCause, HasAnswered, RepliesEach};
+ghost use Rattle.btr_top.specs.Ask.{AddsAnswer, AskCause, QuestionsCause, HasAnswered, RepliesEach};
 ghost use Rattle.btr_store.specs.Replies.{AddsReply};
 ghost use Rattle.btr_store.specs.declared.status.Status.TheVariants.{DeviceFault};
 ghost use Rattle.btr_top.specs.declared.ending.Ending.TheVariants.{OutOfMemory, Replied};
@@ -151,7 +151,7 @@ fn ask_line(
 ) -> Result<(), AllocError>
     ensures adds { OnOk result ((reply : ReplySpec) × AddsReply reply transcript.old transcript.new) }
     ensures answers { (h : List EntrySpec) → IsSnapshotOf h snapshot.now
-        → OnOk result ((reply : ReplySpec) × IsAnswerOrNoMemory h (question h line) reply × AddsReply reply transcript.old transcript.new) }
+        → OnOk result (AddsAnswer h line transcript.old transcript.new) }
 {
     let reply = answer_question(alloc, snapshot, line);
     add_reply(transcript, &reply)
