@@ -1,4 +1,4 @@
-//! Tests of sessions, jobs, loads, lanes and refreshes, over a device in memory.
+//! Tests of sessions, jobs, loads, lanes and refreshes, over a device in memory, and of the lines of reports.
 #![tactic(auto)]
 
 #[cfg(test)]
@@ -15,5 +15,7 @@ mod jobs_tests;
 mod live_tests;
 #[cfg(test)]
 mod load_tests;
+#[cfg(test)]
+mod report_tests;
 #[cfg(test)]
 mod work_tests;

@@ -94,7 +94,7 @@ fn bring<R: Threads + Wait + Sync, P: Pace + Sync>(
     session: &mut Session<MemDisk>,
     workers: u8,
     pace: &P,
-) -> Result<Vec<ReportLine>, AllocError>
+) -> Result<Vec<RefreshLine>, AllocError>
     requires at { IsAt hall.now session.old }
     requires alone { IsAlone session.old }
     ensures at { IsAt hall.now session.new }
@@ -112,7 +112,7 @@ fn bring_here<R: Threads + Wait + Sync>(
     alloc: Global,
     hall: &Hall<MemDisk>,
     session: &mut Session<MemDisk>,
-) -> Result<Vec<ReportLine>, AllocError>
+) -> Result<Vec<RefreshLine>, AllocError>
     requires at { IsAt hall.now session.old }
     requires alone { IsAlone session.old }
     ensures at { IsAt hall.now session.new }
@@ -127,8 +127,8 @@ fn bring_here<R: Threads + Wait + Sync>(
 /// The lines of two calls one after the other, the second one without threads, and the engine after them.
 #[derive(Drop)]
 struct Twice {
-    first: Result<Vec<ReportLine>, AllocError>,
-    second: Result<Vec<ReportLine>, AllocError>,
+    first: Result<Vec<RefreshLine>, AllocError>,
+    second: Result<Vec<RefreshLine>, AllocError>,
     engine: Engine<MemDisk>,
 }
 
@@ -176,7 +176,7 @@ fn has_points(
 }
 
 /// Returns whether a report has these lines: outputs, and what became of them.
-fn has_lines(report: &Result<Vec<ReportLine>, AllocError>, wanted: &[(u32, Refreshed)]) -> bool {
+fn has_lines(report: &Result<Vec<RefreshLine>, AllocError>, wanted: &[(u32, Refreshed)]) -> bool {
     match report {
         Ok(lines) => {
             lines.len() == wanted.len()

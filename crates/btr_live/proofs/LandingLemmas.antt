@@ -14,7 +14,7 @@ use Rattle.btr_hall.specs.declared.land.LandFault.{LandFault}
 use Rattle.btr_jobs.specs.States.{StoreState, LogState, GoesOn}
 use Rattle.btr_jobs.specs.Turns.{LandedAfter}
 use Rattle.btr_jobs.specs.TurnLaws.{landed_lasts}
-use Rattle.btr_work.specs.declared.report.ReportLine.{ReportLine}
+use Rattle.btr_work.specs.declared.report.RefreshLine.{RefreshLine}
 use Rattle.btr_work.specs.Report.{Refreshes}
 use Rattle.btr_work.proofs.OwnLemmas.{refreshes-number}
 use Rattle.btr_live.specs.Rounds.{MakesRound, MakesRounds}
@@ -67,7 +67,7 @@ module _ (start : StoreState) (log : LogState) where
   nothing_lands low own none = λ n there. absurd (let is = none n in omega (arith, is, there))
 
   -- What brings outputs up to date adds landings.
-  pub refreshes_lands : (low : List Entry) (report : List ReportLine) (own : List ℕ) → Refreshes start log low report own → Landings start log low own
+  pub refreshes_lands : (low : List Entry) (report : List RefreshLine) (own : List ℕ) → Refreshes start log low report own → Landings start log low own
   refreshes_lands low report own refreshes = λ n there.
       let is = refreshes-number start log low report own refreshes n (omega (arith, there)) in
       record { at = is.0; after = is.4; plan = is.1; planned = is.5; result = is.2; next = is.3; landed = is.6 }
@@ -78,7 +78,7 @@ module _ (start : StoreState) (log : LogState) where
   round_lands low own (inr none) = nothing_lands low own none
 
   -- So does the last round.
-  pub last_lands : (low : List Entry) (materialize : Bool) (last : Option (Result (List ReportLine) AllocError)) (own : List ℕ) → LastRound start log low materialize last own → Landings start log low own
+  pub last_lands : (low : List Entry) (materialize : Bool) (last : Option (Result (List RefreshLine) AllocError)) (own : List ℕ) → LastRound start log low materialize last own → Landings start log low own
   last_lands low false None own is = nothing_lands low own is
   last_lands low false (Some result) own is = absurd is
   last_lands low true None own is = absurd is

@@ -23,7 +23,7 @@ use Rattle.btr_gate.specs.Numbers.{one, total, times, given}
 use Rattle.btr_gate.specs.Prefixes.{StartsWith}
 use Rattle.btr_gate.proofs.NumberLemmas.{given_inside, times_append}
 use Rattle.btr_gate.proofs.PrefixLemmas.{starts_refl, starts_trans, starts_length, starts_whole}
-use Rattle.btr_work.specs.declared.report.ReportLine.{ReportLine}
+use Rattle.btr_work.specs.declared.report.RefreshLine.{RefreshLine}
 use Rattle.btr_work.specs.Laws.{AreAllSince}
 use Rattle.btr_jobs.specs.States.{StoreState, LogState}
 use Rattle.btr_jobs.specs.Turns.{IsIdle, Committed, CommittedAfter}
@@ -328,7 +328,7 @@ module _ (start : StoreState) (log : LogState) (all : Follows log.history) where
 -- ---- a whole run
 
 -- Without a last round no number is added after the lanes.
-no_last : (start : StoreState) (log : LogState) (low : List Entry) (last : Option (Result (List ReportLine) AllocError)) (own : List ℕ) → LastRound start log low false last own → (n : ℕ) → times n own ≡ 0
+no_last : (start : StoreState) (log : LogState) (low : List Entry) (last : Option (Result (List RefreshLine) AllocError)) (own : List ℕ) → LastRound start log low false last own → (n : ℕ) → times n own ≡ 0
 no_last start log low None own is = is
 no_last start log low (Some result) own is = absurd is
 

@@ -14,7 +14,7 @@ use Rattle.btr_jobs.specs.States.{StoreState, LogState, GoesOn}
 use Rattle.btr_jobs.specs.TurnLaws.{goes_refl, goes_trans}
 use Rattle.btr_jobs.specs.Jobs.{IsAt, Does}
 use Rattle.btr_jobs.proofs.DoesLemmas.{does_none, does_then, does_implied}
-use Rattle.btr_work.specs.declared.report.ReportLine.{ReportLine}
+use Rattle.btr_work.specs.declared.report.RefreshLine.{RefreshLine}
 use Rattle.btr_work.specs.Report.{Refreshes}
 use Rattle.btr_live.specs.Rounds.{MakesRound, MakesRounds}
 use Rattle.btr_live.specs.RoundsLaws.{round_lowers}
@@ -84,11 +84,11 @@ module _ (start : StoreState) where
   )
 
 -- A last round is one round at most.
-pub last_makes : (start : StoreState) (log : LogState) (low : List Entry) (materialize : Bool) (last : Option (Result (List ReportLine) AllocError)) (own : List ℕ) → StartsWith log.history low → LastRound start log low materialize last own → MakesRounds start 1 low log own
+pub last_makes : (start : StoreState) (log : LogState) (low : List Entry) (materialize : Bool) (last : Option (Result (List RefreshLine) AllocError)) (own : List ℕ) → StartsWith log.history low → LastRound start log low materialize last own → MakesRounds start 1 low log own
 last_makes start log low materialize last own starts is =
     (log, goes_refl start log, starts, own, [], makes materialize last is, (starts_refl log.history, λ n. refl), λ n. omega arith)
   where
-    makes : (materialize : Bool) (last : Option (Result (List ReportLine) AllocError)) → LastRound start log low materialize last own → MakesRound start log low own
+    makes : (materialize : Bool) (last : Option (Result (List RefreshLine) AllocError)) → LastRound start log low materialize last own → MakesRound start log low own
     makes false None is = inr is
     makes false (Some result) is = absurd is
     makes true None is = absurd is
@@ -116,7 +116,7 @@ module _ {D : Type 0} {disk : Ghosts D} (hall : Hall D disk) where
   round_none s = does_none hall s (λ start log low own. MakesRound start log low own) (λ start log. inr (λ n. refl))
 
   -- One round, if there was memory for it.
-  pub round_made : (old new : Session D disk) (result : Result (List ReportLine) AllocError) → OnErr result (Does hall old new (λ start log low own. (n : ℕ) → times n own ≡ 0)) → IfOk result (λ report. Does hall old new (λ start log low own. Refreshes start log low report own)) → Does hall old new (λ start log low own. MakesRound start log low own)
+  pub round_made : (old new : Session D disk) (result : Result (List RefreshLine) AllocError) → OnErr result (Does hall old new (λ start log low own. (n : ℕ) → times n own ≡ 0)) → IfOk result (λ report. Does hall old new (λ start log low own. Refreshes start log low report own)) → Does hall old new (λ start log low own. MakesRound start log low own)
   round_made old new (Ok report) refused refreshes =
       does_implied hall old new (λ start log low own. Refreshes start log low report own) (λ start log low own. MakesRound start log low own)
       (λ start log low own is. inl (report, is)) refreshes
@@ -125,6 +125,6 @@ module _ {D : Type 0} {disk : Ghosts D} (hall : Hall D disk) where
       (λ start log low own is. inr is) refused
 
   -- The last round.
-  pub round_is_last : (old new : Session D disk) (result : Result (List ReportLine) AllocError) → OnErr result (Does hall old new (λ start log low own. (n : ℕ) → times n own ≡ 0)) → IfOk result (λ report. Does hall old new (λ start log low own. Refreshes start log low report own)) → Does hall old new (λ start log low own. LastRound start log low true (Some result) own)
+  pub round_is_last : (old new : Session D disk) (result : Result (List RefreshLine) AllocError) → OnErr result (Does hall old new (λ start log low own. (n : ℕ) → times n own ≡ 0)) → IfOk result (λ report. Does hall old new (λ start log low own. Refreshes start log low report own)) → Does hall old new (λ start log low own. LastRound start log low true (Some result) own)
   round_is_last old new (Ok report) refused refreshes = refreshes
   round_is_last old new (Err e) refused refreshes = refused

@@ -9,14 +9,14 @@ use Rattle.btr_text.specs.declared.script.ScriptLine.{ScriptLine}
 use Rattle.btr_gate.specs.Prefixes.{StartsWith}
 use Rattle.btr_gate.specs.Numbers.{times}
 use Rattle.btr_jobs.specs.States.{StoreState, LogState, GoesOn}
-use Rattle.btr_work.specs.declared.report.ReportLine.{ReportLine}
+use Rattle.btr_work.specs.declared.report.RefreshLine.{RefreshLine}
 use Rattle.btr_work.specs.Report.{Refreshes}
 use Rattle.btr_work.specs.Laws.{AreAllSince, IsCurrentIn}
 use Rattle.btr_live.specs.declared.live.LiveReport.{LiveReport}
 use Rattle.btr_live.specs.OneHistory.{RunsLanes, OneHistory, times_all}
 
 -- The last round, if one was wanted. It had seen `low`, and `own` are the numbers of what it added. Without memory it adds nothing.
-abbrev pub LastRound : StoreState → LogState → List Entry → Bool → Option (Result (List ReportLine) AllocError) → List ℕ → Type 0
+abbrev pub LastRound : StoreState → LogState → List Entry → Bool → Option (Result (List RefreshLine) AllocError) → List ℕ → Type 0
 LastRound start log low false None own = (n : ℕ) → times n own ≡ 0
 LastRound start log low false (Some result) own = ⊥
 LastRound start log low true None own = ⊥
@@ -57,7 +57,7 @@ RunsAreOneHistory =
 abbrev pub LastIsCurrent : Type 0
 LastIsCurrent =
     (batch : ℕ) (start : StoreState) (log : LogState) (script : List ScriptLine) (report : LiveReport) (own : List ℕ)
-    (last : List ReportLine)
+    (last : List RefreshLine)
     → RunsLive batch true start log start.history script report own → AreAllSince start.history log own
     → Follows log.history → log.failed ≡ None → report.last ≡ Some (Ok last)
     → AllByRecursion (λ line. IsCurrentIn log.history line.output line.result) last

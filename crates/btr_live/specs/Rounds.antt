@@ -4,13 +4,13 @@ use Rattle.btr_hist.specs.declared.entry.Entry.{Entry}
 use Rattle.btr_gate.specs.Prefixes.{StartsWith}
 use Rattle.btr_gate.specs.Numbers.{times}
 use Rattle.btr_jobs.specs.States.{StoreState, LogState, GoesOn}
-use Rattle.btr_work.specs.declared.report.ReportLine.{ReportLine}
+use Rattle.btr_work.specs.declared.report.RefreshLine.{RefreshLine}
 use Rattle.btr_work.specs.Report.{Refreshes}
 
 -- One round, after all of `low` had been seen: each output was brought up to date once. A round that was not begun added nothing: all
 -- lanes had ended, or there was no memory for it.
 abbrev pub MakesRound : StoreState → LogState → List Entry → List ℕ → Type 0
-MakesRound start log low own = ((report : List ReportLine) × Refreshes start log low report own) ⊎ ((n : ℕ) → times n own ≡ 0)
+MakesRound start log low own = ((report : List RefreshLine) × Refreshes start log low report own) ⊎ ((n : ℕ) → times n own ≡ 0)
 
 -- At most this many rounds, one after another. `middle` is the log at the end of a round. Of it the round is said, and the next round
 -- was made after all of its history had been seen. `own` are the numbers of what was added.

@@ -21,9 +21,9 @@ use Rattle.btr_load.specs.Loads.{LoadedValue}
 use Rattle.btr_load.specs.Fits.{HadRoom, OutcomeHadRoom}
 use Rattle.btr_work.specs.declared.report.Refreshed.{Refreshed}
 use Rattle.btr_work.specs.declared.report.Refreshed.TheVariants as results
-use Rattle.btr_work.specs.declared.report.ReportLine as refreshed
-use Rattle.btr_report.specs.declared.line.ReportLine.{ReportLine}
-use Rattle.btr_report.specs.declared.line.ReportLine.TheVariants as lines
+use Rattle.btr_work.specs.declared.report.RefreshLine.{RefreshLine}
+use Rattle.btr_store.specs.declared.report_line.ReportLine.{ReportLine}
+use Rattle.btr_store.specs.declared.report_line.ReportLine.TheVariants as lines
 use Rattle.btr_store.specs.declared.define.DefinedOutput.{DefinedOutput}
 use Rattle.btr_store.specs.declared.load_lines.RefusedNumber.{RefusedNumber}
 use Rattle.btr_store.specs.declared.status.Status.{Status}
@@ -167,7 +167,7 @@ line_benign h id output (results.Landed version) calm = inl refl
 line_benign h id output (results.Current version) calm = inl refl
 line_benign h id output (results.Refused fault) calm = landing_benign fault calm
 
-pub report_benign : (h : List Entry) (report : List refreshed.ReportLine) → AllByRecursion (λ line. IsCalm line.result) report → AreBenign (map (output_line h) report)
+pub report_benign : (h : List Entry) (report : List RefreshLine) → AllByRecursion (λ line. IsCalm line.result) report → AreBenign (map (output_line h) report)
 report_benign h [] calm = tt
 report_benign h (line ∷ report) calm =
     (line_benign h (id_of_stream h line.output) line.output line.result calm.0, report_benign h report calm.1)
@@ -202,7 +202,7 @@ landing_if_refused (results.Landed version) calm = tt
 landing_if_refused (results.Current version) calm = tt
 landing_if_refused (results.Refused fault) calm = landing_benign fault calm
 
-landings_benign : (h : List Entry) (report : List refreshed.ReportLine) → AllByRecursion (λ line. IsCalm line.result) report → AreBenign (flat_map (landing_line h) report)
+landings_benign : (h : List Entry) (report : List RefreshLine) → AllByRecursion (λ line. IsCalm line.result) report → AreBenign (flat_map (landing_line h) report)
 landings_benign h [] calm = tt
 landings_benign h (line ∷ report) calm =
     append_benign (landing_line h line) (flat_map (landing_line h) report) (refusal_benign (id_of_stream h line.output) (landing_refusal line.result) (landing_if_refused line.result calm.0)) (landings_benign h report calm.1)
@@ -211,7 +211,7 @@ summaries_benign : (h : List Entry) (streams : List ℕ) → AreBenign (map (λ 
 summaries_benign h [] = tt
 summaries_benign h (stream ∷ streams) = (inl refl, summaries_benign h streams)
 
-pub sample_benign : (h : List Entry) (l : LoadedValue) (outputs : List DefinedOutput) (report : List refreshed.ReportLine) (t : Transcript) → SaysAll h l outputs report t → AllByRecursion (λ s. OutcomeHadRoom s.outcome) l.streams → AllByRecursion (λ s. OutcomeRan s.outcome) l.streams → AllByRecursion IsCalmOutput outputs → AllByRecursion (λ line. IsCalm line.result) report → HasBenignLines t
+pub sample_benign : (h : List Entry) (l : LoadedValue) (outputs : List DefinedOutput) (report : List RefreshLine) (t : Transcript) → SaysAll h l outputs report t → AllByRecursion (λ s. OutcomeHadRoom s.outcome) l.streams → AllByRecursion (λ s. OutcomeRan s.outcome) l.streams → AllByRecursion IsCalmOutput outputs → AllByRecursion (λ line. IsCalm line.result) report → HasBenignLines t
 sample_benign h l outputs report t says room ran defined calm =
     let rows : List ReportLine = map row_line says.0 in
     let spans : List ReportLine = flat_map stream_spans l.streams in

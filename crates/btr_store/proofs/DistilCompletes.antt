@@ -31,7 +31,7 @@ use Rattle.btr_jobs.specs.States.{StoreState, LogState}
 use Rattle.btr_jobs.specs.Turns.{IsFull, Landed}
 use Rattle.btr_work.specs.declared.report.Refreshed.{Refreshed}
 use Rattle.btr_work.specs.declared.report.Refreshed.TheVariants as results
-use Rattle.btr_work.specs.declared.report.ReportLine as refreshed
+use Rattle.btr_work.specs.declared.report.RefreshLine.{RefreshLine}
 use Rattle.btr_work.specs.Levels.{levels_of, outputs}
 use Rattle.btr_work.specs.Laws.{AreAllSince}
 use Rattle.btr_work.specs.Report.{IsPlanLanded, IsRefreshed, Refreshes}
@@ -99,7 +99,7 @@ module _ (start : StoreState) (log : LogState) (runs : log.failed ≡ None) wher
       let failed : None ≡ Some (entry_of plan) = sym runs ∙ is.2.failed in
       absurd (cc)
 
-module _ (start : StoreState) (log : LogState) (runs : log.failed ≡ None) (low : List Entry) (own : List ℕ) (each : AreAllSince low log own) (follows : Follows log.history) (report : List refreshed.ReportLine) (refreshes : Refreshes start log low report own) where
+module _ (start : StoreState) (log : LogState) (runs : log.failed ≡ None) (low : List Entry) (own : List ℕ) (each : AreAllSince low log own) (follows : Follows log.history) (report : List RefreshLine) (refreshes : Refreshes start log low report own) where
   -- Each entry that was added was landed.
   planned_since : (p : List Entry) (e : Entry) → StartsWith log.history (p ++ e ∷ []) → length low ≤ length p → IsPlannedSince low p e
   planned_since p e starts long =
@@ -226,13 +226,13 @@ module _ (start : StoreState) (log : LogState) (runs : log.failed ≡ None) (low
     report_calm =
         let result : ℕ → Refreshed = refreshes.result in
         let seen_follows : Follows seen = follows-prefix seen refreshes.before.0 (subst Follows refreshes.before.1 follows) in
-        let line : ℕ → refreshed.ReportLine = λ output. record { output = output; result = result output } in
+        let line : ℕ → RefreshLine = λ output. record { output = output; result = result output } in
         subst (AllByRecursion (λ line. IsCalm line.result)) (sym refreshes.lines)
-        (all-members (λ (l : refreshed.ReportLine). IsCalm l.result) line (outputs seen) (λ output is.
+        (all-members (λ (l : RefreshLine). IsCalm l.result) line (outputs seen) (λ output is.
         let spec = output-spec seen output is in
         output_calm output (output-level seen refreshes.levels seen_follows refreshes.are output spec.0 spec.1)))
 
-pub report_completes : (start : StoreState) (log : LogState) (own : List ℕ) (report : Option (List refreshed.ReportLine)) (said : Result Transcript AllocError) → OwnsEachOnce start log own → Follows log.history → RefreshesIf start log start.history report own → SaysReport log.history report said → HasRoomForOutputs start → log.failed ≡ None → SaysBenign said
+pub report_completes : (start : StoreState) (log : LogState) (own : List ℕ) (report : Option (List RefreshLine)) (said : Result Transcript AllocError) → OwnsEachOnce start log own → Follows log.history → RefreshesIf start log start.history report own → SaysReport log.history report said → HasRoomForOutputs start → log.failed ≡ None → SaysBenign said
 report_completes start log own report (Err error) each follows refreshes says room runs = tt
 report_completes start log own None (Ok transcript) each follows refreshes says room runs = absurd says
 report_completes start log own (Some report) (Ok transcript) each follows refreshes says room runs =

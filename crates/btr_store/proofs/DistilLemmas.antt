@@ -22,7 +22,7 @@ use Rattle.btr_hall.specs.declared.land.LandFault.{LandFault}
 use Rattle.btr_hall.specs.declared.land.LandFault.TheVariants as faults
 use Rattle.btr_work.specs.declared.report.Refreshed.{Refreshed}
 use Rattle.btr_work.specs.declared.report.Refreshed.TheVariants.{Landed, Current, Refused}
-use Rattle.btr_work.specs.declared.report.ReportLine as refreshed
+use Rattle.btr_work.specs.declared.report.RefreshLine.{RefreshLine}
 use Rattle.btr_work.specs.Report.{IsPlanLanded, IsRefreshed, RefreshesEach, RefreshesLevels, Refreshes, RefreshesInTurn}
 use Rattle.btr_work.specs.ReportLaws.{refreshed_lasts}
 use Rattle.btr_work.proofs.CurrentLemmas.{refreshed-current}
@@ -38,7 +38,7 @@ use Rattle.btr_store.proofs.Allowing.{allows_none, allows_nothing, allows_both, 
 use Rattle.btr_store.proofs.DistilCompletes.{report_completes}
 use Rattle.btr_store.proofs.WorkLemmas.{works_run}
 
-says_report : (report : List refreshed.ReportLine) (said : Result Transcript AllocError) (h : List Entry) → IfOk said (SaysLines (map (output_line h) report)) → SaysReport h (Some report) said
+says_report : (report : List RefreshLine) (said : Result Transcript AllocError) (h : List Entry) → IfOk said (SaysLines (map (output_line h) report)) → SaysReport h (Some report) said
 says_report report (Ok transcript) h is = is
 says_report report (Err error) h is = tt
 
@@ -58,7 +58,7 @@ module _ {D : Type 0} {disk : Ghosts D} where
   }
 
   -- What was said of a report was said of the history at the end.
-  pub distils_said : (hall : Hall D disk) (old mid new : Session D disk) (report : List refreshed.ReportLine) (said : Result Transcript AllocError) → Does hall old mid (λ start log low own. Refreshes start log low report own) → Stays mid new → ((h : List Entry) → IsEngineOf h (opening_of hall) → IfOk said (SaysLines (map (output_line (history_of h (seen_of mid))) report))) → Does hall old new (λ start log low own. Distils start log low said own)
+  pub distils_said : (hall : Hall D disk) (old mid new : Session D disk) (report : List RefreshLine) (said : Result Transcript AllocError) → Does hall old mid (λ start log low own. Refreshes start log low report own) → Stays mid new → ((h : List Entry) → IsEngineOf h (opening_of hall) → IfOk said (SaysLines (map (output_line (history_of h (seen_of mid))) report))) → Does hall old new (λ start log low own. Distils start log low said own)
   distils_said hall old mid new report said does stays says = (
     does.0,
     goes_stays old mid new does.0 does.1 stays,
@@ -72,7 +72,7 @@ module _ {D : Type 0} {disk : Ghosts D} where
   )
 
   -- The same of one worker.
-  pub turn_said : (hall : Hall D disk) (old mid new : Session D disk) (report : List refreshed.ReportLine) (said : Result Transcript AllocError) → Does hall old mid (λ start log low own. RefreshesInTurn start log low report own) → Stays mid new → ((h : List Entry) → IsEngineOf h (opening_of hall) → IfOk said (SaysLines (map (output_line (history_of h (seen_of mid))) report))) → Does hall old new (λ start log low own. DistilsInTurn start log low said own)
+  pub turn_said : (hall : Hall D disk) (old mid new : Session D disk) (report : List RefreshLine) (said : Result Transcript AllocError) → Does hall old mid (λ start log low own. RefreshesInTurn start log low report own) → Stays mid new → ((h : List Entry) → IsEngineOf h (opening_of hall) → IfOk said (SaysLines (map (output_line (history_of h (seen_of mid))) report))) → Does hall old new (λ start log low own. DistilsInTurn start log low said own)
   turn_said hall old mid new report said does stays says = (
     does.0,
     goes_stays old mid new does.0 does.1 stays,
@@ -98,7 +98,7 @@ module _ {D : Type 0} {disk : Ghosts D} where
       (does.0, does.1, λ h of. record { did = record { report = None; refreshes = does.2 h of; says = tt }; in_turn = tt })
 
 -- What was said holds of what is said in the end: the same, or that memory ran out.
-still_says : (h : List Entry) (report : Option (List refreshed.ReportLine)) (said reported : Result Transcript AllocError) → IfOk reported (λ t. said ≡ Ok t) → SaysReport h report said → SaysReport h report reported
+still_says : (h : List Entry) (report : Option (List RefreshLine)) (said reported : Result Transcript AllocError) → IfOk reported (λ t. said ≡ Ok t) → SaysReport h report said → SaysReport h report reported
 still_says h report said (Err error) is says = tt
 still_says h report said (Ok transcript) is says = subst (λ (s : Result Transcript AllocError). SaysReport h report s) is says
 
@@ -149,10 +149,10 @@ module _ (start : StoreState) where
       (each_allowed late middle low result level refreshes.3 refreshes.1 refreshes.5)
       (levels_allowed middle.history result levels late refreshes.4 refreshes.6)
 
-  pub refreshes_allowed : (log : LogState) (low : List Entry) (report : List refreshed.ReportLine) (own : List ℕ) → Refreshes start log low report own → AddsAllowed log own
+  pub refreshes_allowed : (log : LogState) (low : List Entry) (report : List RefreshLine) (own : List ℕ) → Refreshes start log low report own → AddsAllowed log own
   refreshes_allowed log low report own refreshes = levels_allowed refreshes.seen refreshes.result refreshes.levels log own refreshes.refreshes
 
-  refreshes_if_allowed : (log : LogState) (low : List Entry) (report : Option (List refreshed.ReportLine)) (own : List ℕ) → RefreshesIf start log low report own → AddsAllowed log own
+  refreshes_if_allowed : (log : LogState) (low : List Entry) (report : Option (List RefreshLine)) (own : List ℕ) → RefreshesIf start log low report own → AddsAllowed log own
   refreshes_if_allowed log low None own refreshes = allows_none log own refreshes
   refreshes_if_allowed log low (Some report) own refreshes = refreshes_allowed log low report own refreshes
 
@@ -163,16 +163,16 @@ module _ (start : StoreState) where
 -- ---- what the laws of reports say of it, if nobody else added anything
 
 module _ (start : StoreState) (log : LogState) (own : List ℕ) (each : OwnsEachOnce start log own) where
-  report_current : (report : Option (List refreshed.ReportLine)) → Follows log.history → RefreshesIf start log start.history report own → IfSome report (AreCurrent log.history)
+  report_current : (report : Option (List RefreshLine)) → Follows log.history → RefreshesIf start log start.history report own → IfSome report (AreCurrent log.history)
   report_current None follows refreshes = tt
   report_current (Some report) follows refreshes = refreshed-current start log start.history report own refreshes follows each
 
-  report_alike : (report : Option (List refreshed.ReportLine)) → Legal log.history → RefreshesIf start log start.history report own → IfSome report (λ report. AreUndisturbed report → AreOfOneWorker log.history start.history report)
+  report_alike : (report : Option (List RefreshLine)) → Legal log.history → RefreshesIf start log start.history report own → IfSome report (λ report. AreUndisturbed report → AreOfOneWorker log.history start.history report)
   report_alike None legal refreshes = tt
   report_alike (Some report) legal refreshes = λ undisturbed levels are.
       refreshed-alike start log start.history report own levels refreshes legal each are undisturbed
 
-  report_in_order : (report : Option (List refreshed.ReportLine)) → RunsThrough start log → Legal log.history → IfSome report (λ report. RefreshesInTurn start log start.history report own) → IfSome report (λ report. HadMemoryForOutputs report → AreRefreshedInOrder start log report)
+  report_in_order : (report : Option (List RefreshLine)) → RunsThrough start log → Legal log.history → IfSome report (λ report. RefreshesInTurn start log start.history report own) → IfSome report (λ report. HadMemoryForOutputs report → AreRefreshedInOrder start log report)
   report_in_order None ran legal turn = tt
   report_in_order (Some report) ran legal turn = λ memory levels are.
       refreshed-in-order start log report own levels ran legal each turn are memory

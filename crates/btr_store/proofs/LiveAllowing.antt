@@ -15,7 +15,7 @@ use Rattle.btr_gate.specs.Numbers.{total, times}
 use Rattle.btr_gate.proofs.NumberLemmas.{one_same, times_append}
 use Rattle.btr_jobs.specs.States.{StoreState, LogState}
 use Rattle.btr_jobs.specs.Turns.{IsIdle, CommittedAfter}
-use Rattle.btr_work.specs.declared.report.ReportLine as refreshed
+use Rattle.btr_work.specs.declared.report.RefreshLine.{RefreshLine}
 use Rattle.btr_live.specs.declared.live.LiveReport.{LiveReport}
 use Rattle.btr_live.specs.Meaning.{Meaning, Commits, Asks, Holds, Current, Refuses}
 use Rattle.btr_live.specs.Lanes.{Offers, Answers, LaneState, begun, RunsLines}
@@ -80,7 +80,7 @@ module _ (start : StoreState) (log : LogState) where
 
   -- ---- the last round
 
-  last_allowed : (low : List Entry) (materialize : Bool) (last : Option (Result (List refreshed.ReportLine) AllocError)) (own : List ℕ) → LastRound start log low materialize last own → AddsAllowed log own
+  last_allowed : (low : List Entry) (materialize : Bool) (last : Option (Result (List RefreshLine) AllocError)) (own : List ℕ) → LastRound start log low materialize last own → AddsAllowed log own
   last_allowed low false None own is = allows_none log own is
   last_allowed low false (Some result) own is = absurd is
   last_allowed low true None own is = absurd is

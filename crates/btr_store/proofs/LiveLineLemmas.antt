@@ -11,13 +11,13 @@ use Rattle.btr_hall.specs.declared.item.Item.{Item}
 use Rattle.btr_hall.specs.Trace.{has_halt, stopped_in}
 use Rattle.btr_jobs.specs.States.{failed_in}
 use Rattle.btr_jobs.proofs.StateLemmas.{log_at, failed_halt}
-use Rattle.btr_work.specs.declared.report.ReportLine as refreshed
+use Rattle.btr_work.specs.declared.report.RefreshLine.{RefreshLine}
 use Rattle.btr_store.specs.declared.status.Status.TheVariants.{Done, DeviceFault}
 use Rattle.btr_store.specs.declared.transcript.Transcript.{Transcript}
 use Rattle.btr_live.specs.declared.live.LiveReport.{LiveReport}
 use Rattle.btr_live.specs.Live.{HasReplyEach}
 use Rattle.btr_text.specs.declared.script.ScriptLine.{ScriptLine}
-use Rattle.btr_report.specs.declared.line.ReportLine.{ReportLine}
+use Rattle.btr_store.specs.declared.report_line.ReportLine.{ReportLine}
 use Rattle.btr_store.specs.declared.status.Status.{Status}
 use Rattle.btr_store.specs.Status.{greater}
 use Rattle.btr_live.specs.Script.{text_of_replies}
@@ -26,7 +26,7 @@ use Rattle.btr_store.specs.Transcript.{AddsLines, SaysLines}
 use Rattle.btr_store.specs.Live.{AreRoundLines, SaysSomeLive, SaysSomeScript, log_status, refused_by, round_line, round_status}
 
 -- The line of an output, by its id.
-pub refused_adds : (ids : ℕ → ℕ) (line : refreshed.ReportLine) (id : ℕ) (old new : Transcript) → id ≡ ids line.output → AddsLines (round_line id line.result) old new → AddsLines (refused_by ids line) old new
+pub refused_adds : (ids : ℕ → ℕ) (line : RefreshLine) (id : ℕ) (old new : Transcript) → id ≡ ids line.output → AddsLines (round_line id line.result) old new → AddsLines (refused_by ids line) old new
 refused_adds ids line id old new named adds = subst (λ (i : ℕ). AddsLines (round_line i line.result) old new) named adds
 
 -- What was said of a script, with the status of the device.

@@ -4,7 +4,7 @@ use Rattle.std.proofs.Common.{refl, sym, ap, ◌∙◌, subst, arith, append_ass
 use Rattle.btr_rows.specs.declared.row.NumberedPoint.{NumberedPoint}
 use Rattle.btr_streams.specs.declared.board.Receipt.{Receipt}
 use Rattle.btr_engine.specs.declared.step.StepFault.{StepFault}
-use Rattle.btr_report.specs.declared.line.ReportLine.{ReportLine}
+use Rattle.btr_store.specs.declared.report_line.ReportLine.{ReportLine}
 use Rattle.btr_store.specs.declared.transcript.Transcript.{Transcript}
 use Rattle.btr_store.specs.Transcript.{AddsLines}
 use Rattle.btr_store.proofs.TranscriptLemmas.{adds_then}

@@ -35,7 +35,7 @@ use Rattle.btr_load.proofs.RowLemmas.{streams_distinct}
 use Rattle.btr_load.proofs.ThereLemmas.{batches_there}
 use Rattle.btr_load.proofs.FitLemmas.{loads_fit}
 use Rattle.btr_load.proofs.AlikeLemmas as load
-use Rattle.btr_work.specs.declared.report.ReportLine as refreshed
+use Rattle.btr_work.specs.declared.report.RefreshLine.{RefreshLine}
 use Rattle.btr_work.specs.Laws.{AreAllSince}
 use Rattle.btr_work.proofs.OwnLemmas.{levels-owned}
 use Rattle.btr_work.proofs.CurrentLemmas.{refreshed-current}
@@ -208,7 +208,7 @@ module _ (start : StoreState) (log : LogState) where
 
 -- ---- the numbers of what was added for outputs
 
-refreshes_above : (start : StoreState) (log : LogState) (low : List Entry) (report : Option (List refreshed.ReportLine)) (own : List ℕ) → RefreshesIf start log low report own → (n : ℕ) → 1 ≤ times n own → length low < n
+refreshes_above : (start : StoreState) (log : LogState) (low : List Entry) (report : Option (List RefreshLine)) (own : List ℕ) → RefreshesIf start log low report own → (n : ℕ) → 1 ≤ times n own → length low < n
 refreshes_above start log low None own is n some = absurd (omega (arith, some, is n))
 refreshes_above start log low (Some report) own is n some =
     let owned = levels-owned start is.result is.seen is.levels log own is.refreshes n (omega (arith, some)) in
@@ -289,7 +289,7 @@ module _ (number streams points : ℕ) (start : StoreState) (log : LogState) (ow
   distinct : AreDistinct rows.streams
   distinct = streams_distinct (good_rows (rows_of (sample_text number streams points)))
 
-  module _ (loaded : Option LoadedValue) (outputs : List DefinedOutput) (report : Option (List refreshed.ReportLine)) (work : Work number streams points start log [] loaded outputs report own) where
+  module _ (loaded : Option LoadedValue) (outputs : List DefinedOutput) (report : Option (List RefreshLine)) (work : Work number streams points start log [] loaded outputs report own) where
     abbrev a : ℕ → ℕ
     a n = times n work.load_own
 
@@ -350,11 +350,11 @@ module _ (number streams points : ℕ) (start : StoreState) (log : LogState) (ow
   loaded_alike end None numbers only is = tt
   loaded_alike end (Some loaded) numbers only is = λ plain. load.loads_alike start end [] rows BATCH loaded numbers (follows-prefix [] log.history follows) distinct only is plain
 
-  report_current : (low : List Entry) (report : Option (List refreshed.ReportLine)) (numbers : List ℕ) → AreAllSince low log numbers → RefreshesIf start log low report numbers → IfSome report (AreCurrent log.history)
+  report_current : (low : List Entry) (report : Option (List RefreshLine)) (numbers : List ℕ) → AreAllSince low log numbers → RefreshesIf start log low report numbers → IfSome report (AreCurrent log.history)
   report_current low None numbers since is = tt
   report_current low (Some report) numbers since is = refreshed-current start log low report numbers is follows since
 
-  report_alike : (low : List Entry) (report : Option (List refreshed.ReportLine)) (numbers : List ℕ) → AreAllSince low log numbers → RefreshesIf start log low report numbers → IfSome report (λ report. AreUndisturbed report → AreOfOneWorker log.history low report)
+  report_alike : (low : List Entry) (report : Option (List RefreshLine)) (numbers : List ℕ) → AreAllSince low log numbers → RefreshesIf start log low report numbers → IfSome report (λ report. AreUndisturbed report → AreOfOneWorker log.history low report)
   report_alike low None numbers since is = tt
   report_alike low (Some report) numbers since is = λ undisturbed levels are.
       refreshed-alike start log low report numbers levels is legal since are undisturbed
@@ -373,7 +373,7 @@ module _ (number streams points : ℕ) (start : StoreState) (log : LogState) (ow
   fills_complete : (said : Result Transcript AllocError) → start.history ≡ [] → Fills number streams points start log [] said own → HasRoomToFill number streams points start → log.failed ≡ None → SaysBenign said
   fills_complete said empty did room runs = by_parts did.loaded did.outputs did.report said did.work did.says
     where
-      by_parts : (loaded : Option LoadedValue) (outputs : List DefinedOutput) (report : Option (List refreshed.ReportLine)) (said : Result Transcript AllocError) → Work number streams points start log [] loaded outputs report own → SaysSample streams log.history loaded outputs report said → SaysBenign said
+      by_parts : (loaded : Option LoadedValue) (outputs : List DefinedOutput) (report : Option (List RefreshLine)) (said : Result Transcript AllocError) → Work number streams points start log [] loaded outputs report own → SaysSample streams log.history loaded outputs report said → SaysBenign said
       by_parts loaded outputs report (Err error) work says = tt
       by_parts None outputs report (Ok transcript) work says = absurd says
       by_parts (Some loaded) outputs None (Ok transcript) work says = absurd says

@@ -19,8 +19,8 @@ use Rattle.btr_jobs.proofs.StateLemmas.{log_at}
 use Rattle.btr_jobs.proofs.DoesLemmas.{does_implied, does_then}
 use Rattle.btr_rows.specs.Streams.{RowListValue}
 use Rattle.btr_load.specs.Loads.{LoadedValue, Loads}
-use Rattle.btr_work.specs.declared.report.ReportLine as refreshed
-use Rattle.btr_report.specs.declared.line.ReportLine.TheVariants as lines
+use Rattle.btr_work.specs.declared.report.RefreshLine.{RefreshLine}
+use Rattle.btr_store.specs.declared.report_line.ReportLine.TheVariants as lines
 use Rattle.btr_store.specs.declared.define.DefinedOutput.{DefinedOutput}
 use Rattle.btr_store.specs.declared.sample.Filled.{Filled}
 use Rattle.btr_store.specs.declared.sample.TheConstants.{BATCH}
@@ -94,7 +94,7 @@ module _ (number streams points : ℕ) where
   }
 
   -- All parts, or the last one was left out.
-  work_three : (start : StoreState) (late early : LogState) (low : List Entry) (loaded : LoadedValue) (outputs : List DefinedOutput) (report : Option (List refreshed.ReportLine)) (a b : List ℕ) → GoesOn start late early → Begun start early low loaded outputs a → RefreshesIf start late early.history report b → Work number streams points start late low (Some loaded) outputs report (a ++ b)
+  work_three : (start : StoreState) (late early : LogState) (low : List Entry) (loaded : LoadedValue) (outputs : List DefinedOutput) (report : Option (List RefreshLine)) (a b : List ℕ) → GoesOn start late early → Begun start early low loaded outputs a → RefreshesIf start late early.history report b → Work number streams points start late low (Some loaded) outputs report (a ++ b)
   work_three start late early low loaded outputs report a b on begun refreshes = record {
     load_end = begun.load_end;
     define_end = early;
@@ -115,11 +115,11 @@ module _ (number streams points : ℕ) where
   loads_if_later start late early low (Some loaded) own on is =
       loads_allowed start late early low (rows_of_sample number streams points) BATCH loaded own on is
 
-  refreshes_if : (start : StoreState) (log : LogState) (low : List Entry) (report : Option (List refreshed.ReportLine)) (own : List ℕ) → RefreshesIf start log low report own → AddsAllowed log own
+  refreshes_if : (start : StoreState) (log : LogState) (low : List Entry) (report : Option (List RefreshLine)) (own : List ℕ) → RefreshesIf start log low report own → AddsAllowed log own
   refreshes_if start log low None own is = allows_none log own is
   refreshes_if start log low (Some report) own is = refreshes_allowed start log low report own is
 
-  work_allowed : (start : StoreState) (log : LogState) (low : List Entry) (loaded : Option LoadedValue) (outputs : List DefinedOutput) (report : Option (List refreshed.ReportLine)) (own : List ℕ) → Work number streams points start log low loaded outputs report own → AddsAllowed log own
+  work_allowed : (start : StoreState) (log : LogState) (low : List Entry) (loaded : Option LoadedValue) (outputs : List DefinedOutput) (report : Option (List RefreshLine)) (own : List ℕ) → Work number streams points start log low loaded outputs report own → AddsAllowed log own
   work_allowed start log low loaded outputs report own work =
       let a = work.load_own in
       let b = work.define_own in
@@ -158,7 +158,7 @@ module _ (number streams points : ℕ) where
       record { none = none; same = same; says = subst (λ (n : ℕ). IfOk said (SaysLines (lines.Used n ∷ []))) is says }
 
   -- What was said holds of what is said in the end: the same, or that memory ran out.
-  still_says : (h : List Entry) (loaded : Option LoadedValue) (outputs : List DefinedOutput) (report : Option (List refreshed.ReportLine)) (said reported : Result Transcript AllocError) → IfOk reported (λ t. said ≡ Ok t) → SaysSample streams h loaded outputs report said → SaysSample streams h loaded outputs report reported
+  still_says : (h : List Entry) (loaded : Option LoadedValue) (outputs : List DefinedOutput) (report : Option (List RefreshLine)) (said reported : Result Transcript AllocError) → IfOk reported (λ t. said ≡ Ok t) → SaysSample streams h loaded outputs report said → SaysSample streams h loaded outputs report reported
   still_says h loaded outputs report said (Err error) is says = tt
   still_says h loaded outputs report said (Ok transcript) is says =
       subst (λ (s : Result Transcript AllocError). SaysSample streams h loaded outputs report s) is says

@@ -17,9 +17,9 @@ use Rattle.btr_hist.specs.declared.answer.Rows.TheVariants.{Info}
 use Rattle.btr_hist.specs.History.{ids, is_output, latest, bag, read_by}
 use Rattle.btr_hist.specs.Answer.{answer}
 use Rattle.btr_text.specs.declared.reply.Reason.{Reason}
-use Rattle.btr_work.specs.declared.report.ReportLine as refreshed
-use Rattle.btr_report.specs.declared.line.ReportLine.{ReportLine}
-use Rattle.btr_report.specs.declared.line.ReportLine.TheVariants as lines
+use Rattle.btr_work.specs.declared.report.RefreshLine.{RefreshLine}
+use Rattle.btr_store.specs.declared.report_line.ReportLine.{ReportLine}
+use Rattle.btr_store.specs.declared.report_line.ReportLine.TheVariants as lines
 use Rattle.btr_store.specs.declared.transcript.Transcript.{Transcript}
 use Rattle.btr_store.specs.Transcript.{SaysLines, AddsLine, AddsLines}
 use Rattle.btr_store.specs.SampleLines.{IsSummary, refusal_line, landing_refusal, landing_by, summary_line}
@@ -43,7 +43,7 @@ pub adds_whole : {A : Type 0} (f : A → List ReportLine) (l : List A) (i : ℕ)
 adds_whole f l i old new le adds = subst (λ m. AddsLines (flat_map f m) old new) (take_all i l le) adds
 
 -- The line of an output of a report.
-pub landing_adds : (ids : ℕ → ℕ) (line : refreshed.ReportLine) (id : ℕ) (refused : Option Reason) (old new : Transcript) → id ≡ ids line.output → refused ≡ landing_refusal line.result → AddsLines (refusal_line id refused) old new → AddsLines (landing_by ids line) old new
+pub landing_adds : (ids : ℕ → ℕ) (line : RefreshLine) (id : ℕ) (refused : Option Reason) (old new : Transcript) → id ≡ ids line.output → refused ≡ landing_refusal line.result → AddsLines (refusal_line id refused) old new → AddsLines (landing_by ids line) old new
 landing_adds ids line id refused old new named why adds =
     subst (λ (i : ℕ). AddsLines (refusal_line i (landing_refusal line.result)) old new) named
     (subst (λ (r : Option Reason). AddsLines (refusal_line id r) old new) why adds)

@@ -3,8 +3,8 @@ use Rattle.std.specs.declared.alloc.AllocError.{AllocError}
 use Rattle.std.specs.Prelude.{◌≡◌, ℕ, List, [], ◌∷◌, ◌++◌, Result, Ok, Err, OnOk, IfOk}
 use Rattle.std.proofs.Common.{refl, sym, ◌∙◌, ap, append_assoc, subst}
 use Rattle.std.proofs.lemmas.List.{append-nil}
-use Rattle.btr_report.specs.declared.line.ReportLine.{ReportLine}
-use Rattle.btr_report.specs.Report.{report_text}
+use Rattle.btr_store.specs.declared.report_line.ReportLine.{ReportLine}
+use Rattle.btr_store.specs.Report.{report_text}
 use Rattle.btr_store.specs.declared.status.Status.{Status}
 use Rattle.btr_store.specs.declared.status.Status.TheVariants.{Done}
 use Rattle.btr_store.specs.declared.transcript.Transcript.{Transcript}

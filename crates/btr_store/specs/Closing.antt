@@ -21,4 +21,4 @@ module _ {D : Type 0} (disk : Ghosts D) where
   abbrev pub WorkedAt : D → Hall D disk → Session D disk → D → Type 0
   WorkedAt old hall session new =
       (begun : Session D disk) (own : List ℕ) → Begins (opening_of hall) hall begun → Goes begun session own
-      → (h : List Entry) → IsOpenedOn h (opening_of hall) → Works disk (start_of h hall) (log_seen h session) own old new
+      → (h : List Entry) → IsOpenedOn disk h (opening_of hall) → Works disk (start_of h hall) (log_seen h session) own old new

@@ -12,7 +12,7 @@ use Rattle.btr_rows.specs.Streams.{RowListValue}
 use Rattle.btr_gate.specs.Prefixes.{StartsWith}
 use Rattle.btr_engine.specs.Body.{needs_of}
 use Rattle.btr_jobs.specs.States.{StoreState}
-use Rattle.btr_report.specs.declared.line.ReportLine.{ReportLine}
+use Rattle.btr_store.specs.declared.report_line.ReportLine.{ReportLine}
 use Rattle.btr_load.specs.Fits.{rows_need}
 use Rattle.btr_store.specs.declared.status.Status.{Status}
 use Rattle.btr_store.specs.declared.status.Status.TheVariants.{Done, Refused, OutOfMemory}

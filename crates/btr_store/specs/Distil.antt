@@ -12,14 +12,14 @@ use Rattle.btr_gate.specs.Numbers.{times}
 use Rattle.btr_jobs.specs.States.{StoreState, LogState}
 use Rattle.btr_work.specs.declared.report.Refreshed.{Refreshed}
 use Rattle.btr_work.specs.declared.report.Refreshed.TheVariants as results
-use Rattle.btr_work.specs.declared.report.ReportLine as refreshed
+use Rattle.btr_work.specs.declared.report.RefreshLine.{RefreshLine}
 use Rattle.btr_work.specs.Levels.{AreLevels}
 use Rattle.btr_work.specs.Report.{Refreshes, RefreshesInTurn}
 use Rattle.btr_work.specs.Laws.{IsCurrentIn}
 use Rattle.btr_work.specs.Alike.{IsAlike, IsUndisturbed, landed_levels}
 use Rattle.btr_work.specs.InOrder.{HadMemoryToLand, IsRefreshedInOrder}
-use Rattle.btr_report.specs.declared.line.ReportLine.{ReportLine}
-use Rattle.btr_report.specs.declared.line.ReportLine.TheVariants as lines
+use Rattle.btr_store.specs.declared.report_line.ReportLine.{ReportLine}
+use Rattle.btr_store.specs.declared.report_line.ReportLine.TheVariants as lines
 use Rattle.btr_store.specs.declared.transcript.Transcript.{Transcript}
 use Rattle.btr_live.specs.Reasons.{reason_of_landing}
 use Rattle.btr_store.specs.Streams.{id_of_stream, version_of_stream}
@@ -48,7 +48,7 @@ line_of_output h id output (results.Current version) = current_line h id output
 line_of_output h id output (results.Refused fault) = lines.OutputRefused id (reason_of_landing fault)
 
 -- The line of an output after this history.
-abbrev pub output_line : List Entry → refreshed.ReportLine → ReportLine
+abbrev pub output_line : List Entry → RefreshLine → ReportLine
 output_line h line = line_of_output h (id_of_stream h line.output) line.output line.result
 
 -- ---- the lines on each device
@@ -64,29 +64,29 @@ IsOutputLine (results.Current version) line = IsCurrentLine line
 IsOutputLine (results.Refused fault) line = (id : ℕ) × (line ≡ lines.OutputRefused id (reason_of_landing fault))
 
 -- One line for each output of a report, in order.
-abbrev pub AreOutputLines : List refreshed.ReportLine → List ReportLine → Type 0
+abbrev pub AreOutputLines : List RefreshLine → List ReportLine → Type 0
 AreOutputLines [] [] = Unit {0}
 AreOutputLines [] (line ∷ said) = ⊥
 AreOutputLines (output ∷ report) [] = ⊥
 AreOutputLines (output ∷ report) (line ∷ said) = IsOutputLine output.result line × AreOutputLines report said
 
 -- The transcript has a line for each output of the report.
-abbrev pub SaysOutputs : List refreshed.ReportLine → Transcript → Type 0
+abbrev pub SaysOutputs : List RefreshLine → Transcript → Type 0
 SaysOutputs report transcript = (said : List ReportLine) × AreOutputLines report said × SaysLines said transcript
 
 -- The transcript has the lines of a report, whatever became of its outputs.
 abbrev pub SaysSomeReport : Transcript → Type 0
-SaysSomeReport transcript = (report : List refreshed.ReportLine) × SaysOutputs report transcript
+SaysSomeReport transcript = (report : List RefreshLine) × SaysOutputs report transcript
 
 -- ---- the work
 
 -- All outputs were brought up to date once, with this report; or memory ran out before any.
-abbrev pub RefreshesIf : StoreState → LogState → List Entry → Option (List refreshed.ReportLine) → List ℕ → Type 0
+abbrev pub RefreshesIf : StoreState → LogState → List Entry → Option (List RefreshLine) → List ℕ → Type 0
 RefreshesIf start log low None own = (n : ℕ) → times n own ≡ 0
 RefreshesIf start log low (Some report) own = Refreshes start log low report own
 
 -- The transcript has a line for each output of the report, as the outputs are after this history. Memory may run out for it.
-abbrev pub SaysReport : List Entry → Option (List refreshed.ReportLine) → Result Transcript AllocError → Type 0
+abbrev pub SaysReport : List Entry → Option (List RefreshLine) → Result Transcript AllocError → Type 0
 SaysReport h report (Err error) = Unit {0}
 SaysReport h None (Ok transcript) = ⊥
 SaysReport h (Some report) (Ok transcript) = SaysLines (map (output_line h) report) transcript
@@ -95,7 +95,7 @@ SaysReport h (Some report) (Ok transcript) = SaysLines (map (output_line h) repo
 -- numbers of what was added.
 pub record Distils (start : StoreState) (log : LogState) (low : List Entry) (said : Result Transcript AllocError)
     (own : List ℕ) : Type 0 where
-  pub report : Option (List refreshed.ReportLine)
+  pub report : Option (List RefreshLine)
   pub refreshes : RefreshesIf start log low report own
   pub says : SaysReport log.history report said
 
@@ -109,24 +109,24 @@ pub record DistilsInTurn (start : StoreState) (log : LogState) (low : List Entry
 
 -- Each output of the report whose result is no refusal is up to date after this history, and none was refused because another version
 -- came first.
-abbrev pub AreCurrent : List Entry → List refreshed.ReportLine → Type 0
+abbrev pub AreCurrent : List Entry → List RefreshLine → Type 0
 AreCurrent h report = AllByRecursion (λ line. IsCurrentIn h line.output line.result) report
 
 -- No result of the report came from the memory or from the device.
-abbrev pub AreUndisturbed : List refreshed.ReportLine → Type 0
+abbrev pub AreUndisturbed : List RefreshLine → Type 0
 AreUndisturbed report = AllByRecursion (λ line. IsUndisturbed line.result) report
 
 -- After the history h, each stream has the commits that one worker leaves after the history `low`, with the same reads: it lands the
 -- outputs one after another, level by level. The report is that of this worker, too.
-abbrev pub AreOfOneWorker : List Entry → List Entry → List refreshed.ReportLine → Type 0
+abbrev pub AreOfOneWorker : List Entry → List Entry → List RefreshLine → Type 0
 AreOfOneWorker h low report = (levels : List (List ℕ)) → AreLevels low levels → IsAlike h (landed_levels low levels) low report
 
 -- The memory sufficed for each output of the report.
-abbrev pub HadMemoryForOutputs : List refreshed.ReportLine → Type 0
+abbrev pub HadMemoryForOutputs : List RefreshLine → Type 0
 HadMemoryForOutputs report = AllByRecursion (λ line. HadMemoryToLand line.result) report
 
 -- The history and the report are those of one worker on this device, who lands the outputs one after another, level by level.
-abbrev pub AreRefreshedInOrder : StoreState → LogState → List refreshed.ReportLine → Type 0
+abbrev pub AreRefreshedInOrder : StoreState → LogState → List RefreshLine → Type 0
 AreRefreshedInOrder start log report =
     (levels : List (List ℕ)) → AreLevels start.history levels → IsRefreshedInOrder start log levels report
 

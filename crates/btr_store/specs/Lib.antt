@@ -2,6 +2,7 @@
 pub mod Closing
 pub mod Work
 -- the lines that are written, and the status that they ask for
+pub mod Report
 pub mod Status
 pub mod Transcript
 pub mod Replies

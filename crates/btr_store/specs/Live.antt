@@ -9,10 +9,10 @@ use Rattle.btr_text.specs.declared.script.ScriptLine.{ScriptLine}
 use Rattle.btr_jobs.specs.States.{StoreState, LogState}
 use Rattle.btr_work.specs.declared.report.Refreshed.{Refreshed}
 use Rattle.btr_work.specs.declared.report.Refreshed.TheVariants as results
-use Rattle.btr_work.specs.declared.report.ReportLine as refreshed
+use Rattle.btr_work.specs.declared.report.RefreshLine.{RefreshLine}
 use Rattle.btr_work.specs.Laws.{IsCurrentIn}
-use Rattle.btr_report.specs.declared.line.ReportLine.{ReportLine}
-use Rattle.btr_report.specs.declared.line.ReportLine.TheVariants as lines
+use Rattle.btr_store.specs.declared.report_line.ReportLine.{ReportLine}
+use Rattle.btr_store.specs.declared.report_line.ReportLine.TheVariants as lines
 use Rattle.btr_live.specs.declared.live.LiveReport.{LiveReport}
 use Rattle.btr_live.specs.Live.{HasReplyEach, RunsLive}
 use Rattle.btr_live.specs.OneHistory.{OneHistory}
@@ -31,7 +31,7 @@ use Rattle.btr_store.specs.Replies.{status_of_replies}
 
 -- The result of a last round, if there was one.
 abbrev pub LastResult : Type 0
-LastResult = Option (Result (List refreshed.ReportLine) AllocError)
+LastResult = Option (Result (List RefreshLine) AllocError)
 
 -- The line of an output with this id, of which this became in the last round: it has one if it was not brought up to date.
 abbrev pub round_line : ℕ → Refreshed → List ReportLine
@@ -40,7 +40,7 @@ round_line id (results.Current version) = []
 round_line id (results.Refused fault) = lines.RoundRefused id (reason_of_landing fault) ∷ []
 
 -- The line of an output, if a round refused it, by ids of outputs.
-abbrev pub refused_by : (ℕ → ℕ) → refreshed.ReportLine → List ReportLine
+abbrev pub refused_by : (ℕ → ℕ) → RefreshLine → List ReportLine
 refused_by ids line = round_line (ids line.output) line.result
 
 -- The lines of the last round, after this history.

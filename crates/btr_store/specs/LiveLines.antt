@@ -6,14 +6,14 @@ use Rattle.btr_text.specs.declared.script.ScriptLine.{ScriptLine}
 use Rattle.btr_jobs.specs.States.{StoreState, LogState}
 use Rattle.btr_live.specs.declared.live.LiveReport.{LiveReport}
 use Rattle.btr_live.specs.Live.{RunsLive}
-use Rattle.btr_work.specs.declared.report.ReportLine as refreshed
-use Rattle.btr_report.specs.declared.line.ReportLine.{ReportLine}
+use Rattle.btr_work.specs.declared.report.RefreshLine.{RefreshLine}
+use Rattle.btr_store.specs.declared.report_line.ReportLine.{ReportLine}
 use Rattle.btr_store.specs.declared.transcript.Transcript.{Transcript}
 use Rattle.btr_store.specs.Streams.{id_of_stream}
 use Rattle.btr_store.specs.Live.{SaysScript, round_line}
 
 -- The line of an output after this history, if the last round refused it.
-abbrev pub refused_line : List Entry → refreshed.ReportLine → List ReportLine
+abbrev pub refused_line : List Entry → RefreshLine → List ReportLine
 refused_line h line = round_line (id_of_stream h line.output) line.result
 
 -- A script ran in a session that had seen `low`; or memory ran out before any line.

@@ -9,9 +9,9 @@ use Rattle.btr_load.specs.declared.outcome.RowsOutcome.{RowsOutcome}
 use Rattle.btr_load.specs.declared.outcome.RowsOutcome.TheVariants.{Output, NotCreated, Committed}
 use Rattle.btr_load.specs.declared.stream.LoadedStream.{LoadedStream}
 use Rattle.btr_load.specs.Loads.{LoadedValue}
-use Rattle.btr_report.specs.declared.line.ReportLine.{ReportLine}
-use Rattle.btr_report.specs.declared.line.ReportLine.TheVariants as lines
-use Rattle.btr_report.specs.declared.line.RowRefusal.TheVariants as refusals
+use Rattle.btr_store.specs.declared.report_line.ReportLine.{ReportLine}
+use Rattle.btr_store.specs.declared.report_line.ReportLine.TheVariants as lines
+use Rattle.btr_store.specs.declared.report_line.RowRefusal.TheVariants as refusals
 use Rattle.btr_store.specs.declared.load_lines.RefusedNumber.{RefusedNumber}
 use Rattle.btr_store.specs.declared.transcript.Transcript.{Transcript}
 use Rattle.btr_live.specs.Reasons.{reason_of_step}

@@ -8,8 +8,8 @@ use Rattle.btr_rows.specs.Streams.{RowListValue, list_of}
 use Rattle.btr_gate.specs.Numbers.{times}
 use Rattle.btr_jobs.specs.States.{StoreState, LogState, GoesOn}
 use Rattle.btr_load.specs.Loads.{LoadedValue}
-use Rattle.btr_work.specs.declared.report.ReportLine as refreshed
-use Rattle.btr_report.specs.declared.line.ReportLine.TheVariants as lines
+use Rattle.btr_work.specs.declared.report.RefreshLine.{RefreshLine}
+use Rattle.btr_store.specs.declared.report_line.ReportLine.TheVariants as lines
 use Rattle.btr_store.specs.declared.define.DefinedOutput.{DefinedOutput}
 use Rattle.btr_store.specs.declared.sample.Filled.{Filled}
 use Rattle.btr_store.specs.declared.sample.TheConstants.{BATCH}
@@ -29,7 +29,7 @@ rows_of_sample number streams points = list_of (rows_of (sample_text number stre
 -- An empty store was filled, after all of `low` had been seen: the rows were loaded, then outputs were defined, and then each output
 -- was brought up to date. If memory ran out, what follows was left out. `numbers` are those of what was added.
 pub record Work (number streams points : ℕ) (start : StoreState) (log : LogState) (low : List Entry)
-    (loaded : Option LoadedValue) (outputs : List DefinedOutput) (report : Option (List refreshed.ReportLine)) (numbers : List ℕ)
+    (loaded : Option LoadedValue) (outputs : List DefinedOutput) (report : Option (List RefreshLine)) (numbers : List ℕ)
     : Type 0 where
   -- the states of the log after the load, and after the definitions
   pub load_end : LogState
@@ -48,7 +48,7 @@ pub record Work (number streams points : ℕ) (start : StoreState) (log : LogSta
 -- ---- what is said
 
 -- The transcript has the lines of what was done, if all was: one output was defined for each stream. Memory may run out for it.
-abbrev pub SaysSample : ℕ → List Entry → Option LoadedValue → List DefinedOutput → Option (List refreshed.ReportLine)
+abbrev pub SaysSample : ℕ → List Entry → Option LoadedValue → List DefinedOutput → Option (List RefreshLine)
     → Result Transcript AllocError → Type 0
 SaysSample streams h loaded outputs report (Err error) = Unit {0}
 SaysSample streams h None outputs report (Ok transcript) = ⊥
@@ -61,7 +61,7 @@ pub record Fills (number streams points : ℕ) (start : StoreState) (log : LogSt
     (said : Result Transcript AllocError) (own : List ℕ) : Type 0 where
   pub loaded : Option LoadedValue
   pub outputs : List DefinedOutput
-  pub report : Option (List refreshed.ReportLine)
+  pub report : Option (List RefreshLine)
   pub work : Work number streams points start log low loaded outputs report own
   pub says : SaysSample streams log.history loaded outputs report said
 
@@ -90,5 +90,5 @@ IsFilledInPart number streams points start log low (Ok filled) own =
     (length filled.outputs.items ≡ streams)
     × Work number streams points start log low (Some filled.loaded) filled.outputs.items (Some filled.report) own
 IsFilledInPart number streams points start log low (Err error) own =
-    (loaded : Option LoadedValue) × (outputs : List DefinedOutput) × (report : Option (List refreshed.ReportLine))
+    (loaded : Option LoadedValue) × (outputs : List DefinedOutput) × (report : Option (List RefreshLine))
     × Work number streams points start log low loaded outputs report own

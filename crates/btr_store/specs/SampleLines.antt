@@ -9,9 +9,9 @@ use Rattle.btr_text.specs.declared.reply.Reason.{Reason}
 use Rattle.btr_load.specs.Loads.{LoadedValue}
 use Rattle.btr_work.specs.declared.report.Refreshed.{Refreshed}
 use Rattle.btr_work.specs.declared.report.Refreshed.TheVariants as results
-use Rattle.btr_work.specs.declared.report.ReportLine as refreshed
-use Rattle.btr_report.specs.declared.line.ReportLine.{ReportLine}
-use Rattle.btr_report.specs.declared.line.ReportLine.TheVariants as lines
+use Rattle.btr_work.specs.declared.report.RefreshLine.{RefreshLine}
+use Rattle.btr_store.specs.declared.report_line.ReportLine.{ReportLine}
+use Rattle.btr_store.specs.declared.report_line.ReportLine.TheVariants as lines
 use Rattle.btr_store.specs.declared.define.DefinedOutput.{DefinedOutput}
 use Rattle.btr_store.specs.declared.load_lines.RefusedNumber.{RefusedNumber}
 use Rattle.btr_store.specs.declared.sample.Filled.{Filled}
@@ -39,11 +39,11 @@ landing_refusal (results.Current version) = None
 landing_refusal (results.Refused fault) = Some (reason_of_landing fault)
 
 -- The line of an output, if it was not brought up to date, by ids of outputs.
-abbrev pub landing_by : (ℕ → ℕ) → refreshed.ReportLine → List ReportLine
+abbrev pub landing_by : (ℕ → ℕ) → RefreshLine → List ReportLine
 landing_by ids line = refusal_line (ids line.output) (landing_refusal line.result)
 
 -- The line of an output after this history, if it was not brought up to date.
-abbrev pub landing_line : List Entry → refreshed.ReportLine → List ReportLine
+abbrev pub landing_line : List Entry → RefreshLine → List ReportLine
 landing_line h line = landing_by (id_of_stream h) line
 
 -- ---- the streams at the end
@@ -60,7 +60,7 @@ summary_lines h = map (λ stream. summary_line h (id_of_stream h stream) stream)
 
 -- What was done to the store is in the transcript, and then the streams of this history: refused rows by their numbers, refused
 -- batches, refused outputs, and a line for each stream.
-abbrev pub SaysAll : List Entry → LoadedValue → List DefinedOutput → List refreshed.ReportLine → Transcript → Type 0
+abbrev pub SaysAll : List Entry → LoadedValue → List DefinedOutput → List RefreshLine → Transcript → Type 0
 SaysAll h loaded outputs report t =
     (rows : List RefusedNumber) × AreRefused loaded rows
     × SaysLines (map row_line rows ++ flat_map stream_spans loaded.streams ++ flat_map define_line outputs

@@ -13,6 +13,7 @@ ghost use Rattle.btr_store.specs.Streams.{AreStreams, Stays};
 ghost use Rattle.btr_store.specs.Distil.{Distils, DistilsInTurn, DistilsStore, output_line, current_line, nothing_of};
 ghost use Rattle.btr_store.specs.Distil.{IsCurrentLine, IsOutputLine, SaysOutputs, SaysSomeReport};
 
+use crate::report_line::ReportLine;
 use crate::streams::{all_streams, id_of};
 use crate::transcript::Transcript;
 use crate::work::{Worked, close_hall, open_hall};
@@ -23,8 +24,7 @@ use btr_hist::{Reads, Spec, StreamRow};
 use btr_jobs::{Pace, System};
 use btr_live::reason_of_landing;
 use btr_open::OpenFault;
-use btr_report::ReportLine;
-use btr_work::{Refreshed, Report, ReportLine as RefreshLine, bring_current};
+use btr_work::{RefreshLine, Refreshed, Report, bring_current};
 use std::alloc::{AllocError, Global};
 use std::sync::Wait;
 use std::thread::Threads;

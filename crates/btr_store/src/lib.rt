@@ -4,6 +4,9 @@
 //! empty store. What is said of the device afterwards, also after a crash at any moment, is the
 //! same for all work ([`Works`]), also for work of another crate between [`open_hall`] and [`close_hall`].
 //!
+//! [`write_line`] writes a [`ReportLine`] as `specs/Report.antt` says. A new line is one more variant, one more row of `report_words`
+//! there, and one more branch in `report_text.rt`.
+//!
 //! [`Works`]: ../specs/Work.antt
 #![tactic(auto)]
 
@@ -24,6 +27,8 @@ mod sample_lines;
 mod streams;
 // the lines that are written, and the status that they ask for
 mod replies;
+mod report_line;
+mod report_text;
 mod status;
 mod transcript;
 // the limits of a sample
@@ -34,6 +39,8 @@ pub use laws::sample_limits_are_these;
 pub use live::live_store;
 pub use load::load_store;
 pub use replies::{add_reply, no_replies};
+pub use report_line::{ReportLine, RowRefusal};
+pub use report_text::write_line;
 pub use sample::sample_store;
 pub use status::Status;
 pub use streams::{all_streams, id_of};

@@ -8,7 +8,7 @@ ghost use Rattle.btr_hall.specs.Session.{IsAlone, opening_of, seen_of};
 ghost use Rattle.btr_jobs.specs.States.{log_seen};
 ghost use Rattle.btr_jobs.specs.Jobs.{IsAt};
 ghost use Rattle.btr_store.specs.Status.{greater};
-ghost use Rattle.btr_report.specs.declared.line.ReportLine.{ReportLine as LineSpec};
+ghost use Rattle.btr_store.specs.declared.report_line.ReportLine.{ReportLine as LineSpec};
 ghost use Rattle.btr_store.specs.declared.status.Status.TheVariants.{Done, DeviceFault};
 ghost use Rattle.btr_store.specs.Streams.{Stays, id_in};
 ghost use Rattle.btr_store.specs.Transcript.{AddsLines, SaysLines};
@@ -17,6 +17,7 @@ ghost use Rattle.btr_store.specs.Live.{AreRoundLines, SaysLive, SaysSomeLive, lo
 ghost use Rattle.btr_store.specs.LiveLines.{refused_line};
 
 use crate::replies::{add_reply, no_replies};
+use crate::report_line::ReportLine;
 use crate::status::Status;
 use crate::streams::{all_streams, id_of};
 use crate::transcript::Transcript;
@@ -26,9 +27,8 @@ use btr_hall::{Hall, Session};
 use btr_hist::StreamRow;
 use btr_jobs::System;
 use btr_live::{LiveReport, reason_of_landing};
-use btr_report::ReportLine;
 use btr_text::LineReply;
-use btr_work::{Refreshed, Report, ReportLine as RefreshLine};
+use btr_work::{RefreshLine, Refreshed, Report};
 use std::alloc::{AllocError, Global};
 use std::sync::Wait;
 

@@ -5,11 +5,11 @@ ghost use Rattle.btr_store.specs.LoadLines.{AreRefused, SaysLoad, SaysRefused, r
 ghost use Rattle.btr_store.specs.LoadLines.{output_rows, refused_point, stream_lines, stream_spans, span_line, batch_span, batch_spans};
 ghost use Rattle.btr_store.specs.LoadLines.{points_committed, points_by_result, good_in, total_line};
 
+use crate::report_line::{ReportLine, RowRefusal};
 use crate::transcript::Transcript;
 use btr_engine::{Receipt, StepFault};
 use btr_live::reason_of_step;
 use btr_load::{Loaded, LoadedStream, RowsOutcome};
-use btr_report::{ReportLine, RowRefusal};
 use btr_rows::NumberedPoint;
 use std::alloc::{AllocError, Global};
 

@@ -5,7 +5,7 @@ ghost use Rattle.btr_hist.specs.declared.entry.Entry.{Entry as EntrySpec};
 ghost use Rattle.btr_hist.specs.History.{ids};
 ghost use Rattle.btr_streams.specs.Snapshot.{IsSnapshotOf};
 ghost use Rattle.btr_store.specs.Transcript.{AddsLines};
-ghost use Rattle.btr_report.specs.declared.line.ReportLine.{ReportLine as LineSpec};
+ghost use Rattle.btr_store.specs.declared.report_line.ReportLine.{ReportLine as LineSpec};
 ghost use Rattle.btr_store.specs.Streams.{AreStreams, id_in};
 ghost use Rattle.btr_store.specs.LoadLines.{stream_spans};
 ghost use Rattle.btr_store.specs.SampleLines.{SaysFilled, summary_line, summary_lines, define_line, landing_by, landing_refusal};
@@ -13,6 +13,7 @@ ghost use Rattle.btr_store.specs.SampleLines.{IsSummary, SaysSomeFilled, refusal
 
 use crate::define::DefinedOutput;
 use crate::load_lines::{add_spans, refused_lines};
+use crate::report_line::ReportLine;
 use crate::sample::Filled;
 use crate::streams::{all_streams, id_of};
 use crate::transcript::Transcript;
@@ -20,9 +21,8 @@ use btr_engine::Snapshot;
 use btr_hist::{Answer, At, Query, Rows, StreamRow};
 use btr_live::reason_of_landing;
 use btr_load::LoadedStream;
-use btr_report::ReportLine;
 use btr_text::Reason;
-use btr_work::{Refreshed, ReportLine as RefreshLine};
+use btr_work::{RefreshLine, Refreshed};
 use std::alloc::{AllocError, Global};
 
 /// Says what was done to a store, and what its streams are. An `Err` means out of memory.

@@ -2,7 +2,7 @@
 ghost use Rattle.std.specs.Prelude.{◌≡◌};
 ghost use Rattle.btr_store.specs.Status.{code_of, greater, status_rank, status_of_reason, status_of_line};
 
-use btr_report::ReportLine;
+use crate::report_line::ReportLine;
 use btr_text::Reason;
 
 /// The status of lines, from the least to the greatest. The status of many lines is the greatest of theirs.

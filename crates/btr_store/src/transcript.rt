@@ -3,8 +3,9 @@ ghost use Rattle.std.specs.Prelude.{◌≡◌, [], OnOk};
 ghost use Rattle.btr_store.specs.declared.status.Status.TheVariants.{Done as DoneSpec};
 ghost use Rattle.btr_store.specs.Transcript.{AddsLine, SaysLines};
 
+use crate::report_line::ReportLine;
+use crate::report_text::write_line;
 use crate::status::Status;
-use btr_report::{ReportLine, write_line};
 use std::alloc::{AllocError, Global};
 
 /// The lines or replies of a command, as they are written at the end of the run.

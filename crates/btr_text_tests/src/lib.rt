@@ -1,12 +1,10 @@
-//! Tests of lines, rows, words and reports, and of the adapters of real files.
+//! Tests of lines, rows and words, and of the adapters of real files.
 #![tactic(auto)]
 
 #[cfg(test)]
 mod fixture;
 #[cfg(test)]
 mod host_tests;
-#[cfg(test)]
-mod report_tests;
 #[cfg(test)]
 mod rows_tests;
 #[cfg(test)]

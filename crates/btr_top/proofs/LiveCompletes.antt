@@ -12,10 +12,10 @@ use Rattle.btr_text.specs.Input.{script_of}
 use Rattle.btr_text.specs.declared.script.ScriptLine.{ScriptLine}
 use Rattle.btr_open.specs.Laws.{HeldIsSound, OneHistoryIsHeld}
 use Rattle.btr_jobs.specs.States.{StoreState, LogState}
-use Rattle.btr_report.specs.declared.line.ReportLine.{ReportLine}
+use Rattle.btr_store.specs.declared.report_line.ReportLine.{ReportLine}
 use Rattle.btr_work.specs.declared.report.Refreshed.{Refreshed}
 use Rattle.btr_work.specs.declared.report.Refreshed.TheVariants as results
-use Rattle.btr_work.specs.declared.report.ReportLine as refreshed
+use Rattle.btr_work.specs.declared.report.RefreshLine.{RefreshLine}
 use Rattle.btr_live.specs.declared.live.LiveReport.{LiveReport}
 use Rattle.btr_live.specs.Live as runs
 use Rattle.btr_live.specs.Script.{begun_state}
@@ -60,7 +60,7 @@ line_benign id (results.Landed version) calm = tt
 line_benign id (results.Current version) calm = tt
 line_benign id (results.Refused fault) calm = (calm, tt)
 
-lines_benign : (h : List Entry) (report : List refreshed.ReportLine) → AllByRecursion (λ (line : refreshed.ReportLine). IsCalm line.result) report → AreBenign (round_lines h (Some (Ok report)))
+lines_benign : (h : List Entry) (report : List RefreshLine) → AllByRecursion (λ (line : RefreshLine). IsCalm line.result) report → AreBenign (round_lines h (Some (Ok report)))
 lines_benign h [] calm = tt
 lines_benign h (line ∷ report) calm =
     append_benign (round_line (id_of_stream h line.output) line.result) (round_lines h (Some (Ok report)))

@@ -22,7 +22,7 @@ use Rattle.btr_load.proofs.TotalLemmas.{total_append}
 use Rattle.btr_text.specs.declared.script.ScriptLine.{ScriptLine}
 use Rattle.btr_work.specs.declared.report.Refreshed.{Refreshed}
 use Rattle.btr_work.specs.declared.report.Refreshed.TheVariants as results
-use Rattle.btr_work.specs.declared.report.ReportLine as refreshed
+use Rattle.btr_work.specs.declared.report.RefreshLine.{RefreshLine}
 use Rattle.btr_work.specs.Levels.{outputs, levels_of}
 use Rattle.btr_work.specs.Report.{IsPlanLanded, IsRefreshed, RefreshesEach, RefreshesLevels, Refreshes}
 use Rattle.btr_work.specs.ReportLaws.{refreshed_lasts}
@@ -308,17 +308,17 @@ module _ (batch rounds : ℕ) (script : List ScriptLine) (start : StoreState) (l
   -- ---- a round
 
   -- Each output once.
-  pub round_serves : round < rounds → (late : LogState) (known : List Entry) (report : List refreshed.ReportLine) (own : List ℕ) → GoesOn start log late → StartsWith known low → Refreshes start late known report own → RoundServes (λ o. 1) (AllByRecursion (λ (line : refreshed.ReportLine). IsCalm line.result) report) own
+  pub round_serves : round < rounds → (late : LogState) (known : List Entry) (report : List RefreshLine) (own : List ℕ) → GoesOn start log late → StartsWith known low → Refreshes start late known report own → RoundServes (λ o. 1) (AllByRecursion (λ (line : RefreshLine). IsCalm line.result) report) own
   round_serves is_round late known report own on after refreshes =
       let seen : List Entry = refreshes.seen in
       let levels : List (List ℕ) = refreshes.levels in
       let here : StartsWith log.history seen = starts_trans log.history late.history seen on.begins refreshes.before in
       let then : Follows seen = follows-prefix seen here.0 (subst Follows here.1 follows) in
-      more_serves (λ o. total (times o) levels) (λ o. 1) (AreAllCalm refreshes.result levels) (AllByRecursion (λ (line : refreshed.ReportLine). IsCalm line.result) report) own
+      more_serves (λ o. total (times o) levels) (λ o. 1) (AreAllCalm refreshes.result levels) (AllByRecursion (λ (line : RefreshLine). IsCalm line.result) report) own
       (λ o. graded_once o 1 (levels_of seen) levels (groups-graded (levels_of seen) levels refreshes.are))
       (λ calm.
-      subst (λ (r : List refreshed.ReportLine). AllByRecursion (λ line. IsCalm line.result) r) (sym refreshes.lines)
-      (all-members (λ (line : refreshed.ReportLine). IsCalm line.result) (λ output. record { output = output; result = refreshes.result output }) (outputs seen) (λ output is.
+      subst (λ (r : List RefreshLine). AllByRecursion (λ line. IsCalm line.result) r) (sym refreshes.lines)
+      (all-members (λ (line : RefreshLine). IsCalm line.result) (λ output. record { output = output; result = refreshes.result output }) (outputs seen) (λ output is.
       let spec = output-spec seen output is in
       calm output (output-level seen levels then refreshes.are output spec.0 spec.1))))
       (levels_serve is_round late seen refreshes.result levels own on (starts_trans seen known low refreshes.after after) refreshes.refreshes)
@@ -327,6 +327,6 @@ module _ (batch rounds : ℕ) (script : List ScriptLine) (start : StoreState) (l
   pub no_round : (own : List ℕ) → ((n : ℕ) → times n own ≡ 0) → RoundServes (λ o. 1) (Unit {0}) own
   no_round own none = more_serves (λ o. 0) (λ o. 1) (Unit {0}) (Unit {0}) own (λ o. omega arith) (λ calm. calm) (none_serves (Unit {0}) own tt none)
 
-  pub any_round : round < rounds → (late : LogState) (known : List Entry) (report : List refreshed.ReportLine) (own : List ℕ) → GoesOn start log late → StartsWith known low → Refreshes start late known report own → RoundServes (λ o. 1) (Unit {0}) own
+  pub any_round : round < rounds → (late : LogState) (known : List Entry) (report : List RefreshLine) (own : List ℕ) → GoesOn start log late → StartsWith known low → Refreshes start late known report own → RoundServes (λ o. 1) (Unit {0}) own
   any_round is_round late known report own on after refreshes =
-      more_serves (λ o. 1) (λ o. 1) (AllByRecursion (λ (line : refreshed.ReportLine). IsCalm line.result) report) (Unit {0}) own (λ o. omega arith) (λ calm. tt) (round_serves is_round late known report own on after refreshes)
+      more_serves (λ o. 1) (λ o. 1) (AllByRecursion (λ (line : RefreshLine). IsCalm line.result) report) (Unit {0}) own (λ o. omega arith) (λ calm. tt) (round_serves is_round late known report own on after refreshes)

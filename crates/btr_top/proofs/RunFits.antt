@@ -12,7 +12,7 @@ use Rattle.btr_gate.specs.Prefixes.{StartsWith}
 use Rattle.btr_jobs.specs.States.{StoreState, LogState, GoesOn}
 use Rattle.btr_jobs.specs.TurnLaws.{goes_refl}
 use Rattle.btr_text.specs.declared.script.ScriptLine.{ScriptLine}
-use Rattle.btr_work.specs.declared.report.ReportLine.{ReportLine}
+use Rattle.btr_work.specs.declared.report.RefreshLine.{RefreshLine}
 use Rattle.btr_work.specs.Laws.{AreAllSince}
 use Rattle.btr_live.specs.declared.live.LiveReport.{LiveReport}
 use Rattle.btr_live.specs.Lanes.{begun, RunsLines}
@@ -28,16 +28,16 @@ use Rattle.btr_top.proofs.HistoriesFit.{PartiesServe, no_party, replies_benign, 
 use Rattle.btr_top.proofs.PartyServes.{party_serves}
 
 -- The lines of the last round ask for benign statuses, if there was one.
-abbrev pub LastCalm : Option (Result (List ReportLine) AllocError) → Type 0
+abbrev pub LastCalm : Option (Result (List RefreshLine) AllocError) → Type 0
 LastCalm None = Unit {0}
 LastCalm (Some (Err error)) = Unit {0}
-LastCalm (Some (Ok report)) = AllByRecursion (λ (line : ReportLine). IsCalm line.result) report
+LastCalm (Some (Ok report)) = AllByRecursion (λ (line : RefreshLine). IsCalm line.result) report
 
 module _ (batch : ℕ) (script : List ScriptLine) (start : StoreState) (log : LogState) (running : start.stopped ≡ false) (sound : log.failed ≡ None) (follows : Follows log.history) (begins : StartsWith log.history start.history) where
   abbrev low : List Entry
   low = start.history
 
-  last_serves : (materialize : Bool) (last : Option (Result (List ReportLine) AllocError)) (known : List Entry) (own : List ℕ) → StartsWith known low → LastRound start log known materialize last own → RoundServes batch (rounds_of materialize script) script start log running sound follows low 0 (λ o. 1) (LastCalm last) own
+  last_serves : (materialize : Bool) (last : Option (Result (List RefreshLine) AllocError)) (known : List Entry) (own : List ℕ) → StartsWith known low → LastRound start log known materialize last own → RoundServes batch (rounds_of materialize script) script start log running sound follows low 0 (λ o. 1) (LastCalm last) own
   last_serves false None known own after is = no_round batch 0 script start log running sound follows low 0 own is
   last_serves false (Some result) known own after is = absurd is
   last_serves true None known own after is = absurd is

@@ -32,7 +32,7 @@ use Rattle.btr_jobs.specs.States.{StoreState, LogState}
 use Rattle.btr_work.specs.declared.report.Refreshed.{Refreshed}
 use Rattle.btr_work.specs.declared.report.Refreshed.TheVariants as refreshed
 use Rattle.btr_work.specs.Report.{IsRefreshed, RefreshesEach, RefreshesLevels, Refreshes}
-use Rattle.btr_work.specs.declared.report.ReportLine.{ReportLine}
+use Rattle.btr_work.specs.declared.report.RefreshLine.{RefreshLine}
 use Rattle.btr_work.specs.Levels.{levels_of, outputs, AreGroups}
 use Rattle.btr_work.specs.Laws.{AreAllSince}
 use Rattle.btr_work.specs.Alike.{landed_next, landed_each, landed_levels, result_by, IsUndisturbed, IsAlike, RefreshedIsAlike}
@@ -591,7 +591,7 @@ module _ (start : StoreState) (result : ℕ → Refreshed) (seen : List Entry) (
 -- ---- the whole
 
 -- Nobody added anything before the call saw the history.
-pub seen-low : (start : StoreState) (log : LogState) (low : List Entry) (report : List ReportLine) (own : List ℕ) (refreshes : Refreshes start log low report own) → AreAllSince low log own → refreshes.seen ≡ low
+pub seen-low : (start : StoreState) (log : LogState) (low : List Entry) (report : List RefreshLine) (own : List ℕ) (refreshes : Refreshes start log low report own) → AreAllSince low log own → refreshes.seen ≡ low
 seen-low start log low report own refreshes all =
     elim (cases_lt (length low) (length refreshes.seen)) [
       | inl more ↦
@@ -616,11 +616,11 @@ member-of P f [] all x is = absurd is
 member-of P f (y ∷ xs) all x (inl here) = subst (λ z. P (f z)) (sym here) all.0
 member-of P f (y ∷ xs) all x (inr later) = member-of P f xs all.1 x later
 
-module _ (start : StoreState) (log : LogState) (low : List Entry) (report : List ReportLine) (own : List ℕ) (refreshes : Refreshes start log low report own) (legal : Legal log.history) (every : AreAll refreshes.seen log.history own) (undisturbed : AllByRecursion (λ (line : ReportLine). IsUndisturbed line.result) report) where
+module _ (start : StoreState) (log : LogState) (low : List Entry) (report : List RefreshLine) (own : List ℕ) (refreshes : Refreshes start log low report own) (legal : Legal log.history) (every : AreAll refreshes.seen log.history own) (undisturbed : AllByRecursion (λ (line : RefreshLine). IsUndisturbed line.result) report) where
   abbrev seen : List Entry
   seen = refreshes.seen
 
-  abbrev line : ℕ → ReportLine
+  abbrev line : ℕ → RefreshLine
   line output = record { output = output; result = refreshes.result output }
 
   seen-follows : Follows seen
@@ -635,7 +635,7 @@ module _ (start : StoreState) (log : LogState) (low : List Entry) (report : List
   free : (s : ℕ) → IsInAny s refreshes.levels → IsUndisturbed (refreshes.result s)
   free s any =
       let spec = are-outputs s any in
-      member-of (λ (l : ReportLine). IsUndisturbed l.result) line (outputs seen) (subst (AllByRecursion (λ (l : ReportLine). IsUndisturbed l.result)) refreshes.lines undisturbed) s
+      member-of (λ (l : RefreshLine). IsUndisturbed l.result) line (outputs seen) (subst (AllByRecursion (λ (l : RefreshLine). IsUndisturbed l.result)) refreshes.lines undisturbed) s
       (output-in seen s spec.0 spec.1)
 
   after : List Entry

@@ -26,7 +26,7 @@ use Rattle.btr_hall.specs.declared.land.LandFault.TheVariants as faults
 use Rattle.btr_jobs.specs.States.{StoreState, LogState}
 use Rattle.btr_work.specs.declared.report.Refreshed.{Refreshed}
 use Rattle.btr_work.specs.declared.report.Refreshed.TheVariants as refreshed
-use Rattle.btr_work.specs.declared.report.ReportLine.{ReportLine}
+use Rattle.btr_work.specs.declared.report.RefreshLine.{RefreshLine}
 use Rattle.btr_work.specs.Levels.{levels_of, outputs}
 use Rattle.btr_work.specs.Report.{IsRefreshed, IsPlanLanded, RefreshesEach, RefreshesLevels}
 use Rattle.btr_work.specs.Laws.{AreAllSince, IsNotOvertaken, IsCurrentIn, RefreshedIsCurrent}
@@ -220,9 +220,9 @@ refreshed-current start log low report own refreshes follows all =
     let every = all-since low seen log own refreshes.after all in
     let graded = groups-graded (levels_of seen) refreshes.levels refreshes.are in
     let result = refreshes.result in
-    let line : ℕ → ReportLine = λ output. record { output = output; result = result output } in
+    let line : ℕ → RefreshLine = λ output. record { output = output; result = result output } in
     subst (AllByRecursion (λ line. IsCurrentIn log.history line.output line.result)) (sym refreshes.lines)
-    (all-members (λ (l : ReportLine). IsCurrentIn log.history l.output l.result) line (outputs seen) (λ output is.
+    (all-members (λ (l : RefreshLine). IsCurrentIn log.history l.output l.result) line (outputs seen) (λ output is.
     let spec = output-spec seen output is in
     levels-current start result seen seen_follows 1 seen refreshes.levels log own (starts_refl seen) graded refreshes.refreshes every output spec.0
     (output-level seen refreshes.levels seen_follows refreshes.are output spec.0 spec.1) spec.1))

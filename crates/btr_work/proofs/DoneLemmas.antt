@@ -27,7 +27,7 @@ use Rattle.btr_work.specs.declared.prepare.Level.{Level}
 use Rattle.btr_work.specs.declared.prepare.Work.{Work}
 use Rattle.btr_work.specs.declared.report.Refreshed.{Refreshed}
 use Rattle.btr_work.specs.declared.report.Refreshed.TheVariants.{Refused}
-use Rattle.btr_work.specs.declared.report.ReportLine.{ReportLine}
+use Rattle.btr_work.specs.declared.report.RefreshLine.{RefreshLine}
 use Rattle.btr_work.specs.Levels.{levels_of, by_levels, outputs}
 use Rattle.btr_work.specs.Report.{IsRefreshed, RefreshesEach, RefreshesLevels, Refreshes, RefreshesInTurn}
 use Rattle.btr_work.specs.ReportLaws.{done_lasts, done_lowers}
@@ -280,7 +280,7 @@ done-turn start low seen work after late own starts before prepared turn =
 
 module _ {D : Type 0} {disk : Ghosts D} (hall : Hall D disk) where
   -- The report that is made from work that was prepared and done, if this follows of it.
-  refreshed-by : (did : Doing (List OutputJob)) (What : StoreState → LogState → List Entry → List ReportLine → List ℕ → Type 0) → ((start : StoreState) (low seen : List Entry) (work : Work) (after : List Level) (late : LogState) (own : List ℕ) → StartsWith seen low → StartsWith late.history seen → IsPrepared seen work → DidInTurn did start late seen (jobs_in work.levels.items) (jobs_in after) own → What start late low (map (filled (noted_all work.results.items (jobs_in after))) work.lines.items) own) → (old mid new : Session D disk) (work : Work) (before after : List Level) (report : List ReportLine) → IsAt hall new → Looks hall old mid → ((h : List Entry) → IsEngineOf h (opening_of hall) → IsPrepared (history_of h (seen_of mid)) work) → before ≡ work.levels.items → length after ≡ work.levels.len → Does hall mid new (LevelsDone did before after) → report ≡ map (filled (noted_all work.results.items (jobs_in (with_items work.levels after).items))) work.lines.items → Does hall old new (λ start log low own. What start log low report own)
+  refreshed-by : (did : Doing (List OutputJob)) (What : StoreState → LogState → List Entry → List RefreshLine → List ℕ → Type 0) → ((start : StoreState) (low seen : List Entry) (work : Work) (after : List Level) (late : LogState) (own : List ℕ) → StartsWith seen low → StartsWith late.history seen → IsPrepared seen work → DidInTurn did start late seen (jobs_in work.levels.items) (jobs_in after) own → What start late low (map (filled (noted_all work.results.items (jobs_in after))) work.lines.items) own) → (old mid new : Session D disk) (work : Work) (before after : List Level) (report : List RefreshLine) → IsAt hall new → Looks hall old mid → ((h : List Entry) → IsEngineOf h (opening_of hall) → IsPrepared (history_of h (seen_of mid)) work) → before ≡ work.levels.items → length after ≡ work.levels.len → Does hall mid new (LevelsDone did before after) → report ≡ map (filled (noted_all work.results.items (jobs_in (with_items work.levels after).items))) work.lines.items → Does hall old new (λ start log low own. What start log low report own)
   refreshed-by did What follows old mid new work before after report at looks prepared same long done is =
       let made = is ∙ ap (λ ls. map (filled (noted_all work.results.items (jobs_in ls))) work.lines.items) (with_items_is work.levels after long) in
       let all = subst (λ ls. Does hall mid new (LevelsDone did ls after)) same done in
@@ -291,7 +291,7 @@ module _ {D : Type 0} {disk : Ghosts D} (hall : Hall D disk) where
       (follows start low early.history work after late b starts on.begins first.2 second)))
       (look_turn hall old mid looks (λ h. IsPrepared h work) prepared) all
 
-  module _ (old mid new : Session D disk) (work : Work) (before after : List Level) (report : List ReportLine) (at : IsAt hall new) (looks : Looks hall old mid) (prepared : (h : List Entry) → IsEngineOf h (opening_of hall) → IsPrepared (history_of h (seen_of mid)) work) (same : before ≡ work.levels.items) (long : length after ≡ work.levels.len) (is : report ≡ map (filled (noted_all work.results.items (jobs_in (with_items work.levels after).items))) work.lines.items) where
+  module _ (old mid new : Session D disk) (work : Work) (before after : List Level) (report : List RefreshLine) (at : IsAt hall new) (looks : Looks hall old mid) (prepared : (h : List Entry) → IsEngineOf h (opening_of hall) → IsPrepared (history_of h (seen_of mid)) work) (same : before ≡ work.levels.items) (long : length after ≡ work.levels.len) (is : report ≡ map (filled (noted_all work.results.items (jobs_in (with_items work.levels after).items))) work.lines.items) where
     pub all-refreshed : Does hall mid new (LevelsDone (AllDid IsDone) before after) → Does hall old new (λ start log low own. Refreshes start log low report own)
     all-refreshed done = refreshed-by (AllDid IsDone) Refreshes done-refreshes old mid new work before after report at looks prepared same long done is
 

@@ -31,7 +31,7 @@ use Rattle.btr_jobs.specs.PlainStore.TakeResult.{Taken, Rejected, Full}
 use Rattle.btr_jobs.proofs.PlainStoreLemmas.{needs_prefix, middle_runs, outcome_taken, outcome_full, outcome_rejected, Holds, first_holds, added_fits, holds_added, holds_full, holds_rejected, full_left, never_stopped}
 use Rattle.btr_work.specs.declared.report.Refreshed.{Refreshed}
 use Rattle.btr_work.specs.declared.report.Refreshed.TheVariants as refreshed
-use Rattle.btr_work.specs.declared.report.ReportLine.{ReportLine}
+use Rattle.btr_work.specs.declared.report.RefreshLine.{RefreshLine}
 use Rattle.btr_work.specs.Levels.{levels_of, by_levels, outputs, AreGroups}
 use Rattle.btr_work.specs.Report.{IsPlanLanded, IsRefreshed, RefreshesLevels}
 use Rattle.btr_work.specs.InOrder.{store_landed, store_refreshed, refreshed_by, result_landed, result_refreshed, store_each, SaysEach, HadMemoryToLand, RefreshedInOrder}
@@ -310,12 +310,12 @@ refreshed-in-order start log report own levels ran legal mine turn are memory =
     let every = all-since start.history seen log own refreshes.after mine in
     let graded = groups-graded (levels_of seen) refreshes.levels refreshes.are in
     let same : refreshes.levels ≡ levels = groups-unique (levels_of seen) refreshes.levels levels refreshes.are (subst (λ h. AreGroups (levels_of h) levels) (sym seen_is) are) in
-    let line : ℕ → ReportLine = λ output. record { output = output; result = refreshes.result output } in
+    let line : ℕ → RefreshLine = λ output. record { output = output; result = refreshes.result output } in
     let specs : (o : ℕ) → IsIn o (by_levels refreshes.levels) → (spec : Spec) × (spec_of seen o ≡ Some spec) = λ o is.
     level-output seen o (graded-above (levels_of seen) 1 refreshes.levels o graded (in-levels o refreshes.levels is)) in
     let had : (o : ℕ) → IsIn o (by_levels refreshes.levels) → HadMemoryToLand (refreshes.result o) = λ o is.
     let spec = specs o is in
-    member-of (λ (l : ReportLine). HadMemoryToLand l.result) line (outputs seen) (subst (AllByRecursion (λ (l : ReportLine). HadMemoryToLand l.result)) refreshes.lines memory) o
+    member-of (λ (l : RefreshLine). HadMemoryToLand l.result) line (outputs seen) (subst (AllByRecursion (λ (l : RefreshLine). HadMemoryToLand l.result)) refreshes.lines memory) o
     (output-in seen o spec.0 spec.1) in
     let exact = outputs-exact start refreshes.result (first_store start) seen (by_levels refreshes.levels) log own ran legal
     (subst (Holds start (first_store start)) (sym seen_is) (first_holds start)) specs had turn.in_turn every in

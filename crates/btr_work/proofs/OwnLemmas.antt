@@ -21,7 +21,7 @@ use Rattle.btr_jobs.specs.TurnLaws.{landed_lasts}
 use Rattle.btr_jobs.proofs.DoesLemmas.{in_sum}
 use Rattle.btr_work.specs.declared.report.Refreshed.{Refreshed}
 use Rattle.btr_work.specs.declared.report.Refreshed.TheVariants as refreshed
-use Rattle.btr_work.specs.declared.report.ReportLine.{ReportLine}
+use Rattle.btr_work.specs.declared.report.RefreshLine.{RefreshLine}
 use Rattle.btr_plan.specs.Next.{IsNextPlan}
 use Rattle.btr_work.specs.Report.{IsPlanLanded, IsRefreshed, RefreshesEach, RefreshesLevels, Refreshes}
 use Rattle.btr_work.proofs.MemberLemmas.{IsIn, Distinct, IsInAny}
@@ -309,6 +309,6 @@ module _ (start : StoreState) (result : ℕ → Refreshed) where
       ]
 
 -- Each number that a call adds is that of one landing.
-pub refreshes-number : (start : StoreState) (log : LogState) (low : List Entry) (report : List ReportLine) (own : List ℕ) → Refreshes start log low report own → (n : ℕ) → 0 < times n own → IsLanding start log low n
+pub refreshes-number : (start : StoreState) (log : LogState) (low : List Entry) (report : List RefreshLine) (own : List ℕ) → Refreshes start log low report own → (n : ℕ) → 0 < times n own → IsLanding start log low n
 refreshes-number start log low report own refreshes n some =
     landing-lowers start log refreshes.seen low n refreshes.after (levels-landing start refreshes.result refreshes.seen refreshes.levels log own refreshes.refreshes n some)

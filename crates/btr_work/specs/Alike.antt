@@ -10,7 +10,7 @@ use Rattle.btr_hall.specs.declared.land.LandFault.TheVariants as faults
 use Rattle.btr_jobs.specs.States.{StoreState, LogState}
 use Rattle.btr_work.specs.declared.report.Refreshed.{Refreshed}
 use Rattle.btr_work.specs.declared.report.Refreshed.TheVariants.{Landed, Current, Refused}
-use Rattle.btr_work.specs.declared.report.ReportLine.{ReportLine}
+use Rattle.btr_work.specs.declared.report.RefreshLine.{RefreshLine}
 use Rattle.btr_work.specs.Levels.{AreLevels, outputs}
 use Rattle.btr_work.specs.Report.{Refreshes}
 use Rattle.btr_work.specs.Laws.{AreAllSince}
@@ -46,7 +46,7 @@ IsUndisturbed (Refused faults.DeviceFault) = ⊥
 IsUndisturbed result = Unit {0}
 
 -- Each stream has the same commits in both histories, with the same reads, and the report is that of the second one.
-pub record IsAlike (h after low : List Entry) (report : List ReportLine) : Type 0 where
+pub record IsAlike (h after low : List Entry) (report : List RefreshLine) : Type 0 where
   pub commits : (stream : ℕ) → commits h stream ≡ commits after stream
   pub recorded : (stream : ℕ) → recorded h stream ≡ recorded after stream
   pub lines : report ≡ map (λ output. record { output = output; result = result_by low after output }) (outputs low)
@@ -55,7 +55,7 @@ pub record IsAlike (h after low : List Entry) (report : List ReportLine) : Type 
 -- of one that lands the outputs one after another, level by level, each level in rising order.
 abbrev pub RefreshedIsAlike : Type 0
 RefreshedIsAlike =
-    (start : StoreState) (log : LogState) (low : List Entry) (report : List ReportLine) (own : List ℕ) (levels : List (List ℕ))
+    (start : StoreState) (log : LogState) (low : List Entry) (report : List RefreshLine) (own : List ℕ) (levels : List (List ℕ))
     → Refreshes start log low report own → Legal log.history → AreAllSince low log own → AreLevels low levels
     → AllByRecursion (λ line. IsUndisturbed line.result) report
     → IsAlike log.history (landed_levels low levels) low report

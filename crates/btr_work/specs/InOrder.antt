@@ -12,7 +12,7 @@ use Rattle.btr_jobs.specs.PlainStore.{PlainStore, TakeResult, take_result, store
 use Rattle.btr_jobs.specs.PlainStore.TakeResult.{Taken, Rejected, Full}
 use Rattle.btr_work.specs.declared.report.Refreshed.{Refreshed}
 use Rattle.btr_work.specs.declared.report.Refreshed.TheVariants.{Landed, Current, Refused}
-use Rattle.btr_work.specs.declared.report.ReportLine.{ReportLine}
+use Rattle.btr_work.specs.declared.report.RefreshLine.{RefreshLine}
 use Rattle.btr_work.specs.Levels.{AreLevels, by_levels, outputs}
 use Rattle.btr_work.specs.Report.{RefreshesInTurn}
 use Rattle.btr_work.specs.Laws.{AreAllSince}
@@ -67,7 +67,7 @@ HadMemoryToLand (Refused faults.Want) = ⊥
 HadMemoryToLand result = Unit {0}
 
 -- The history and the report are those that one worker leaves of the outputs by levels.
-pub record IsRefreshedInOrder (start : StoreState) (log : LogState) (levels : List (List ℕ)) (report : List ReportLine) : Type 0 where
+pub record IsRefreshedInOrder (start : StoreState) (log : LogState) (levels : List (List ℕ)) (report : List RefreshLine) : Type 0 where
   pub history : log.history ≡ (store_each (first_store start) (by_levels levels)).history
   pub result : ℕ → Refreshed
   pub says : SaysEach (first_store start) result (by_levels levels)
@@ -76,7 +76,7 @@ pub record IsRefreshedInOrder (start : StoreState) (log : LogState) (levels : Li
 -- If nobody else added anything since the hall began, and memory and device did not fail, one worker leaves just this.
 abbrev pub RefreshedInOrder : Type 0
 RefreshedInOrder =
-    (start : StoreState) (log : LogState) (report : List ReportLine) (own : List ℕ) (levels : List (List ℕ))
+    (start : StoreState) (log : LogState) (report : List RefreshLine) (own : List ℕ) (levels : List (List ℕ))
     → RunsThrough start log → Legal log.history → AreAllSince start.history log own
     → RefreshesInTurn start log start.history report own → AreLevels start.history levels
     → AllByRecursion (λ line. HadMemoryToLand line.result) report

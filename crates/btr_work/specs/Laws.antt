@@ -11,7 +11,7 @@ use Rattle.btr_gate.specs.Numbers.{times, given, one}
 use Rattle.btr_jobs.specs.States.{StoreState, LogState}
 use Rattle.btr_work.specs.declared.report.Refreshed.{Refreshed}
 use Rattle.btr_work.specs.declared.report.Refreshed.TheVariants.{Landed, Current, Refused}
-use Rattle.btr_work.specs.declared.report.ReportLine.{ReportLine}
+use Rattle.btr_work.specs.declared.report.RefreshLine.{RefreshLine}
 use Rattle.btr_work.specs.Report.{Refreshes}
 
 -- These are the numbers of all that was added since the history was `low`, and of the entry in whose step the device failed.
@@ -34,6 +34,6 @@ IsCurrentIn h output (Refused fault) = IsNotOvertaken fault
 -- because another version came first.
 abbrev pub RefreshedIsCurrent : Type 0
 RefreshedIsCurrent =
-    (start : StoreState) (log : LogState) (low : List Entry) (report : List ReportLine) (own : List ℕ)
+    (start : StoreState) (log : LogState) (low : List Entry) (report : List RefreshLine) (own : List ℕ)
     → Refreshes start log low report own → Follows log.history → AreAllSince low log own
     → AllByRecursion (λ line. IsCurrentIn log.history line.output line.result) report

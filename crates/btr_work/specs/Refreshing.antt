@@ -19,7 +19,7 @@ use Rattle.btr_work.specs.declared.prepare.Level.{Level}
 use Rattle.btr_work.specs.declared.prepare.Work.{Work}
 use Rattle.btr_work.specs.declared.report.Refreshed.{Refreshed}
 use Rattle.btr_work.specs.declared.report.Refreshed.TheVariants.{Refused}
-use Rattle.btr_work.specs.declared.report.ReportLine.{ReportLine}
+use Rattle.btr_work.specs.declared.report.RefreshLine.{RefreshLine}
 use Rattle.btr_work.specs.Levels.{AreLevels, outputs}
 use Rattle.btr_work.specs.Report.{IsRefreshed}
 
@@ -52,7 +52,7 @@ abbrev pub groups_in : List Level → List (List ℕ)
 groups_in levels = map (λ l. outputs_in l.jobs.items) levels
 
 -- The line of an output for which nothing was done.
-abbrev pub blank_line : ℕ → ReportLine
+abbrev pub blank_line : ℕ → RefreshLine
 blank_line output = record { output = output; result = Refused Want }
 
 -- The work for the outputs of a history, before any was done.
@@ -78,5 +78,5 @@ abbrev pub result_at : List Refreshed → ℕ → Refreshed
 result_at results output = slice_index_or results output (Refused Want)
 
 -- A line with the result of its output.
-abbrev pub filled : List Refreshed → ReportLine → ReportLine
+abbrev pub filled : List Refreshed → RefreshLine → RefreshLine
 filled results line = record { output = line.output; result = result_at results line.output }

@@ -18,7 +18,7 @@ use Rattle.btr_jobs.specs.States.{StoreState, LogState, GoesOn}
 use Rattle.btr_jobs.specs.Turns.{LandedAfter}
 use Rattle.btr_work.specs.declared.report.Refreshed.{Refreshed}
 use Rattle.btr_work.specs.declared.report.Refreshed.TheVariants.{Landed, Current, Refused}
-use Rattle.btr_work.specs.declared.report.ReportLine.{ReportLine}
+use Rattle.btr_work.specs.declared.report.RefreshLine.{RefreshLine}
 use Rattle.btr_work.specs.Levels.{AreLevels, by_levels, outputs}
 
 -- ---- one output
@@ -87,7 +87,7 @@ RefreshesLevels start low result (level ∷ levels) late own =
 
 -- The report of a call, after this state of the log. The session had seen `low` before the call. The outputs and their levels are those of
 -- `seen`, the history that it saw first. `own` are the numbers of what was added.
-pub record Refreshes (start : StoreState) (log : LogState) (low : List Entry) (report : List ReportLine) (own : List ℕ) : Type 0 where
+pub record Refreshes (start : StoreState) (log : LogState) (low : List Entry) (report : List RefreshLine) (own : List ℕ) : Type 0 where
   pub seen : List Entry
   pub after : StartsWith seen low
   pub before : StartsWith log.history seen
@@ -102,6 +102,6 @@ abbrev pub one_by_one : List (List ℕ) → List (List ℕ)
 one_by_one levels = map (λ output. output ∷ []) (by_levels levels)
 
 -- The report of a call of one worker: each output was planned after all that was seen when the one before it was done.
-pub record RefreshesInTurn (start : StoreState) (log : LogState) (low : List Entry) (report : List ReportLine) (own : List ℕ) : Type 0 where
+pub record RefreshesInTurn (start : StoreState) (log : LogState) (low : List Entry) (report : List RefreshLine) (own : List ℕ) : Type 0 where
   pub refreshes : Refreshes start log low report own
   pub in_turn : RefreshesLevels start refreshes.seen refreshes.result (one_by_one refreshes.levels) log own

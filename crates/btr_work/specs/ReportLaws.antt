@@ -10,7 +10,7 @@ use Rattle.btr_jobs.specs.States.{StoreState, LogState, GoesOn}
 use Rattle.btr_jobs.specs.TurnLaws.{goes_trans, landed_lasts}
 use Rattle.btr_work.specs.declared.report.Refreshed.{Refreshed}
 use Rattle.btr_work.specs.declared.report.Refreshed.TheVariants.{Landed, Current, Refused}
-use Rattle.btr_work.specs.declared.report.ReportLine.{ReportLine}
+use Rattle.btr_work.specs.declared.report.RefreshLine.{RefreshLine}
 use Rattle.btr_work.specs.declared.refreshing.OutputJob.{OutputJob}
 use Rattle.btr_work.specs.Report.{IsPlanLanded, IsRefreshed, RefreshesLevels, Refreshes}
 use Rattle.btr_work.specs.Refreshing.{IsDone}
@@ -127,7 +127,7 @@ levels_lasts start result low (level ∷ levels) late early own on is = (
 )
 
 -- What a report says is true for ever.
-pub refreshes_lasts : (start : StoreState) (late early : LogState) (low : List Entry) (report : List ReportLine) (own : List ℕ)
+pub refreshes_lasts : (start : StoreState) (late early : LogState) (low : List Entry) (report : List RefreshLine) (own : List ℕ)
     → GoesOn start late early → Refreshes start early low report own → Refreshes start late low report own
 refreshes_lasts start late early low report own on is = record {
   seen = is.seen;
@@ -141,7 +141,7 @@ refreshes_lasts start late early low report own on is = record {
 }
 
 -- It is true after less had been seen.
-pub refreshes_lowers : (start : StoreState) (log : LogState) (low less : List Entry) (report : List ReportLine) (own : List ℕ)
+pub refreshes_lowers : (start : StoreState) (log : LogState) (low less : List Entry) (report : List RefreshLine) (own : List ℕ)
     → StartsWith low less → Refreshes start log low report own → Refreshes start log less report own
 refreshes_lowers start log low less report own starts is = record {
   seen = is.seen;

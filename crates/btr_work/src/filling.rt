@@ -4,7 +4,7 @@ ghost use Rattle.btr_work.specs.Refreshing.{noted, noted_all, result_at, filled,
 
 use crate::prepare::{Level, Work};
 use crate::refreshing::OutputJob;
-use crate::report::{Refreshed, Report, ReportLine};
+use crate::report::{RefreshLine, Refreshed, Report};
 use btr_hall::LandFault;
 
 /// Makes the report of work that was done. It takes no memory.
@@ -50,7 +50,7 @@ fn put(results: &mut [Refreshed], job: &OutputJob)
 }
 
 /// Fills in the results of all lines.
-fn fill(lines: &mut [ReportLine], results: &[Refreshed])
+fn fill(lines: &mut [RefreshLine], results: &[Refreshed])
     ensures { lines.new ≡ map (filled results.now) lines.old }
 {
     for line in lines.iter_mut() {

@@ -24,4 +24,4 @@ pub use here::bring_current_here;
 pub use laws::{refreshed_in_order, refreshed_is_alike, refreshed_is_current};
 pub use leveling::levels;
 pub use refreshing::refresh_output;
-pub use report::{Refreshed, Report, ReportLine};
+pub use report::{RefreshLine, Refreshed, Report};

@@ -8,7 +8,7 @@ ghost use Rattle.btr_work.specs.Refreshing.{IsPrepared, outputs_in, groups_in, b
 
 use crate::leveling::levels;
 use crate::refreshing::OutputJob;
-use crate::report::{Refreshed, ReportLine};
+use crate::report::{RefreshLine, Refreshed};
 use btr_engine::Snapshot;
 use btr_hall::LandFault;
 use btr_hist::Spec;
@@ -20,7 +20,7 @@ pub(crate) struct Work {
     pub(crate) levels: Vec<Level>,
 
     /// A line for each output.
-    pub(crate) lines: Vec<ReportLine>,
+    pub(crate) lines: Vec<RefreshLine>,
 
     /// A result for each stream, also for those that are no outputs.
     pub(crate) results: Vec<Refreshed>,
@@ -36,7 +36,7 @@ pub(crate) struct Level {
 /// The streams of a store: a line for each output, and for each stream a result and the number of outputs before it.
 #[derive(Drop)]
 struct Streams {
-    lines: Vec<ReportLine>,
+    lines: Vec<RefreshLine>,
     results: Vec<Refreshed>,
     turns: Vec<u32>,
 }
@@ -83,11 +83,15 @@ fn streams_of(alloc: Global, snapshot: &Snapshot) -> Result<Streams, AllocError>
 }
 
 /// Adds the line of a stream, if it is an output.
-fn push_line(lines: &mut Vec<ReportLine>, stream: u32, kind: Option<Spec>) -> Result<(), AllocError>
+fn push_line(
+    lines: &mut Vec<RefreshLine>,
+    stream: u32,
+    kind: Option<Spec>,
+) -> Result<(), AllocError>
     ensures { OnOk result (lines.new.items ≡ lines.old.items ++ map blank_line (outputs_from stream (kind ∷ []))) }
 {
     if kind.is_some() {
-        lines.push(ReportLine {
+        lines.push(RefreshLine {
             output: stream,
             result: NOTHING,
         })?;

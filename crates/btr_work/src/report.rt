@@ -18,7 +18,7 @@ pub enum Refreshed {
 
 /// An output, by its number, and what became of it.
 #[derive(Clone, Copy, PartialEq, Eq)]
-pub struct ReportLine {
+pub struct RefreshLine {
     pub output: u32,
     pub result: Refreshed,
 }
@@ -26,14 +26,14 @@ pub struct ReportLine {
 /// What became of each output, in the order in which the outputs were defined.
 #[derive(Drop)]
 pub struct Report {
-    lines: Vec<ReportLine>,
+    lines: Vec<RefreshLine>,
 }
 
 impl Model for Report {
     ghost use Rattle.std.specs.Prelude.{List};
-    ghost use Rattle.btr_work.specs.declared.report.ReportLine.{ReportLine};
+    ghost use Rattle.btr_work.specs.declared.report.RefreshLine.{RefreshLine};
 
-    ghost Value = { List ReportLine };
+    ghost Value = { List RefreshLine };
 
     ghost view = { λ r. r.lines.items };
 }
@@ -42,21 +42,21 @@ impl Report {
     ghost use Rattle.std.specs.Prelude.{◌≡◌};
 
     /// Makes a report of these lines. It takes no memory.
-    pub fn from_lines(lines: Vec<ReportLine>) -> Report
+    pub fn from_lines(lines: Vec<RefreshLine>) -> Report
         ensures { result ≡ lines.items }
     {
         Report { lines }
     }
 
     /// The lines, in order.
-    pub fn lines(&self) -> &[ReportLine]
+    pub fn lines(&self) -> &[RefreshLine]
         ensures { result.now ≡ self.now }
     {
         self.lines.as_slice()
     }
 
     /// Takes the lines out. It takes no memory.
-    pub fn into_lines(self) -> Vec<ReportLine>
+    pub fn into_lines(self) -> Vec<RefreshLine>
         ensures { result.items ≡ self }
     {
         let Report { lines } = self;

@@ -7,7 +7,7 @@ use Rattle.btr_store.proofs.distil.output_lines.Goals as goal
 
 pub loop-line-preserved : goal.loop-line-preserved
 loop-line-preserved c =
-    let items = c.loop-line.line-items in
+    let items = c.lines-line-items.result.now in
     let i = c.loop-line.line-index in
     let line = c.output_line.result in
     let old = c.loop-line.transcript in

@@ -2,7 +2,7 @@
 use Rattle.std.proofs.Common.{◌≡◌, ◌≤◌, [], ◌∷◌, length, inl, inr, arith}
 use Rattle.btr_load.proofs.LoadLemmas.{look_alone}
 use Rattle.btr_store.proofs.SampleLemmas.{fills_said, fills_none, sampled_none, sampled_used, sampled_empty}
-use Rattle.btr_report.specs.declared.line.ReportLine.TheVariants as lines
+use Rattle.btr_store.specs.declared.report_line.ReportLine.TheVariants as lines
 use Rattle.btr_store.specs.Transcript.{SaysLines}
 use Rattle.btr_store.specs.SampleLines.{SaysSomeFilled}
 use Rattle.btr_store.specs.Sample.{SaysSomeSample}

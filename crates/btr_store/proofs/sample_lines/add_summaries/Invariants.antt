@@ -3,7 +3,7 @@ use Rattle.std.proofs.Common.{List, map}
 use Rattle.std.specs.List.{AllByRecursion, range_with_len}
 use Rattle.btr_hist.specs.declared.entry.Entry.{Entry}
 use Rattle.btr_streams.specs.Snapshot.{IsSnapshotOf}
-use Rattle.btr_report.specs.declared.line.ReportLine.{ReportLine}
+use Rattle.btr_store.specs.declared.report_line.ReportLine.{ReportLine}
 use Rattle.btr_store.specs.Transcript.{AddsLines}
 use Rattle.btr_store.specs.Streams.{AreStreams, id_of_stream}
 use Rattle.btr_store.specs.SampleLines.{IsSummary, summary_line}

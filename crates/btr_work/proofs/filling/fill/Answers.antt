@@ -3,7 +3,7 @@ use Rattle.std.proofs.lemmas.List.{get_or_default}
 use mathlib.Core.List.{map-append}
 use Rattle.btr_jobs.proofs.RunLemmas.{length_after, rest_after, items_more, now_more}
 use Rattle.btr_work.specs.declared.report.Refreshed.TheVariants.{Landed}
-use Rattle.btr_work.specs.declared.report.ReportLine.{ReportLine}
+use Rattle.btr_work.specs.declared.report.RefreshLine.{RefreshLine}
 use Rattle.btr_work.specs.Refreshing.{filled}
 use Rattle.btr_work.proofs.filling.fill.Goals as goal
 
@@ -13,9 +13,9 @@ loop-line-preserved c =
     let lines = c.args.lines.now in
     let now = c.loop-line.lines in
     let f = filled c.args.results.now in
-    let none : ReportLine = record { output = 0; result = Landed 0 } in
-    let was : ReportLine = slice_index_or now i none in
-    let done : ReportLine = record { output = was.output; result = c.result_at-line.result } in
+    let none : RefreshLine = record { output = 0; result = Landed 0 } in
+    let was : RefreshLine = slice_index_or now i none in
+    let done : RefreshLine = record { output = was.output; result = c.result_at-line.result } in
     let long = c.loop-line.invariant.0 in
     let rest = c.loop-line.invariant.1 in
     let inside : i < length now = omega (arith, c.loop-line-test.true, long) in

@@ -1,7 +1,7 @@
 -- The line's text and status were added.
 use Rattle.std.specs.Prelude.{◌≡◌, ◌++◌}
 use Rattle.std.proofs.Common.{◌∙◌, ap}
-use Rattle.btr_report.specs.Report.{report_text}
+use Rattle.btr_store.specs.Report.{report_text}
 use Rattle.btr_store.specs.declared.status.Status.{Status}
 use Rattle.btr_store.specs.Status.{greater}
 use Rattle.btr_store.proofs.TranscriptLemmas.{adds_line, on_ok}

@@ -1,8 +1,8 @@
 //! Lines as users read them.
 use btr_base::Agg;
 use btr_hist::Reads;
-use btr_report::{ReportLine, RowRefusal, write_line};
 use btr_rows::RowReason;
+use btr_store::{ReportLine, RowRefusal, write_line};
 use btr_text::Reason;
 use std::alloc::{AllocError, Global};
 use std::test::Fail;

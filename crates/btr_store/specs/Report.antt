@@ -4,11 +4,11 @@ use Rattle.std.specs.Fmt.{signed_decimal}
 use Rattle.btr_hist.specs.declared.kernel.Reads.{Reads}
 use Rattle.btr_rows.specs.declared.row.RowReason.TheVariants as reasons
 use Rattle.btr_text.specs.Text.{agg_words, id_text, line_text, reason_words, second_words}
-use Rattle.btr_report.specs.declared.line.RowRefusal.{RowRefusal}
-use Rattle.btr_report.specs.declared.line.RowRefusal.TheVariants.{Row, Output}
-use Rattle.btr_report.specs.declared.line.ReportLine.{ReportLine}
-use Rattle.btr_report.specs.declared.line.ReportLine.TheVariants.{RowRefused, BatchRefused, StreamLoaded, Loaded}
-use Rattle.btr_report.specs.declared.line.ReportLine.TheVariants.{OutputCurrent, OutputRefused, RoundRefused, Used, StreamSummary}
+use Rattle.btr_store.specs.declared.report_line.RowRefusal.{RowRefusal}
+use Rattle.btr_store.specs.declared.report_line.RowRefusal.TheVariants.{Row, Output}
+use Rattle.btr_store.specs.declared.report_line.ReportLine.{ReportLine}
+use Rattle.btr_store.specs.declared.report_line.ReportLine.TheVariants.{RowRefused, BatchRefused, StreamLoaded, Loaded}
+use Rattle.btr_store.specs.declared.report_line.ReportLine.TheVariants.{OutputCurrent, OutputRefused, RoundRefused, Used, StreamSummary}
 
 -- A number with a colon, after which the reason of a refusal comes.
 abbrev pub marked : ℕ → List ℕ

@@ -1,9 +1,9 @@
 ghost use Rattle.std.specs.Prelude.{◌≡◌, [], ◌∷◌, ◌++◌, length, take, map, flat_map, codes, decimal, OnOk, OnErr};
 ghost use Rattle.btr_text.specs.Text.{line_text, id_text, agg_words, reason_words};
 ghost use Rattle.btr_text.specs.declared.word.TheConstants.{SPACE};
-ghost use Rattle.btr_report.specs.Report.{marked, reads_words, report_text, row_words};
+ghost use Rattle.btr_store.specs.Report.{marked, reads_words, report_text, row_words};
 
-use crate::line::{ReportLine, RowRefusal};
+use crate::report_line::{ReportLine, RowRefusal};
 use btr_base::Agg;
 use btr_hist::Reads;
 use btr_rows::RowReason;

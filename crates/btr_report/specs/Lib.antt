@@ -1,2 +1,0 @@
--- the text of a line
-pub mod Report
