@@ -4,7 +4,7 @@ use Rattle.std.proofs.Common.{refl, sym, ap, ◌∙◌}
 use Rattle.std.specs.Option.{option_and_then}
 use Rattle.std.specs.declared.alloc.Global.{Global}
 use Rattle.std.specs.declared.sync.Arc.{Arc}
-use Rattle.btr_board.specs.declared.index_node.Entry.{Entry}
+use Rattle.btr_board.specs.declared.index_node.IndexEntry.{IndexEntry}
 use Rattle.btr_board.specs.declared.index_node.IndexNode.{IndexNode, out-IndexNode}
 use Rattle.btr_board.specs.declared.index_node.IndexNode.TheVariants.{Leaf, Inner, rolls-Leaf, rolls-Inner}
 use Rattle.btr_board.specs.declared.index_node.IndexNode.TheOpen.{IndexNode-F}
@@ -14,14 +14,14 @@ use Rattle.btr_board.specs.Places.{node_of}
 use Rattle.btr_board.specs.Numbers.{first, bit, leaf_entries, number_of_kind, number_in, IndexValue, number_of}
 use Rattle.btr_board.proofs.PutLemmas.{put-other, put-alike}
 
-out-leaf : (es : Vec Entry Global) → out-IndexNode (Leaf es) ≡ IndexNode-F.Leaf es
+out-leaf : (es : Vec IndexEntry Global) → out-IndexNode (Leaf es) ≡ IndexNode-F.Leaf es
 out-leaf es = ap out-IndexNode (sym (rolls-Leaf es)) ∙ out-roll-IndexNode (IndexNode-F.Leaf es)
 
 out-inner : (zs os : Arc IndexNode Global) → out-IndexNode (Inner zs os) ≡ IndexNode-F.Inner zs os
 out-inner zs os =
     ap out-IndexNode (sym (rolls-Inner zs os)) ∙ out-roll-IndexNode (IndexNode-F.Inner zs os)
 
-pub number-leaf : (h : ℕ) (n : IndexNode) (es : Vec Entry Global) (j : ℕ) → n ≡ Leaf es → number_in h n j ≡ first es.items j
+pub number-leaf : (h : ℕ) (n : IndexNode) (es : Vec IndexEntry Global) (j : ℕ) → n ≡ Leaf es → number_in h n j ≡ first es.items j
 unfolding number_in
 number-leaf zero n es j e = ap (λ m. first (leaf_entries m) j) (ap out-IndexNode e ∙ out-leaf es)
 number-leaf (suc k) n es j e =
@@ -88,13 +88,13 @@ pub number-put-zero : (k h : ℕ) (n m : IndexNode) (zs os zs' os' : Arc IndexNo
 number-put-zero k h n m zs os zs' os' id number j = put-zero (bit k j) k h n m zs os zs' os' id number j refl
 
 -- A node of two halves of entries has their numbers.
-split-by : (b : Bool) (k h : ℕ) (n : IndexNode) (zs os : Arc IndexNode Global) (es zeros ones : List Entry) (j : ℕ) → bit k j ≡ b → h ≡ suc k → n ≡ Inner zs os → ((i : ℕ) → bit k i ≡ false → first zeros i ≡ first es i) → ((i : ℕ) → number_in k zs.value i ≡ first zeros i) → ((i : ℕ) → bit k i ≡ true → first ones i ≡ first es i) → ((i : ℕ) → number_in k os.value i ≡ first ones i) → number_in h n j ≡ first es j
+split-by : (b : Bool) (k h : ℕ) (n : IndexNode) (zs os : Arc IndexNode Global) (es zeros ones : List IndexEntry) (j : ℕ) → bit k j ≡ b → h ≡ suc k → n ≡ Inner zs os → ((i : ℕ) → bit k i ≡ false → first zeros i ≡ first es i) → ((i : ℕ) → number_in k zs.value i ≡ first zeros i) → ((i : ℕ) → bit k i ≡ true → first ones i ≡ first es i) → ((i : ℕ) → number_in k os.value i ≡ first ones i) → number_in h n j ≡ first es j
 split-by true k h n zs os es zeros ones j b high e zeros_are below ones_are above =
     number-one k h n zs os j high e b ∙ above j ∙ ones_are j b
 split-by false k h n zs os es zeros ones j b high e zeros_are below ones_are above =
     number-zero k h n zs os j high e b ∙ below j ∙ zeros_are j b
 
-pub split-number : (k h : ℕ) (n : IndexNode) (zs os : Arc IndexNode Global) (es zeros ones : List Entry) (j : ℕ) → h ≡ suc k → n ≡ Inner zs os → ((i : ℕ) → bit k i ≡ false → first zeros i ≡ first es i) → ((i : ℕ) → number_in k zs.value i ≡ first zeros i) → ((i : ℕ) → bit k i ≡ true → first ones i ≡ first es i) → ((i : ℕ) → number_in k os.value i ≡ first ones i) → number_in h n j ≡ first es j
+pub split-number : (k h : ℕ) (n : IndexNode) (zs os : Arc IndexNode Global) (es zeros ones : List IndexEntry) (j : ℕ) → h ≡ suc k → n ≡ Inner zs os → ((i : ℕ) → bit k i ≡ false → first zeros i ≡ first es i) → ((i : ℕ) → number_in k zs.value i ≡ first zeros i) → ((i : ℕ) → bit k i ≡ true → first ones i ≡ first es i) → ((i : ℕ) → number_in k os.value i ≡ first ones i) → number_in h n j ≡ first es j
 split-number k h n zs os es zeros ones j = split-by (bit k j) k h n zs os es zeros ones j refl
 
 -- The number that a whole index has, by its root.

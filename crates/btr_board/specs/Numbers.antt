@@ -1,12 +1,12 @@
 -- What a node of an index has for each id, and the partial function of ids that an index is.
 use Rattle.std.specs.Prelude.{ℕ, zero, suc, ◌*◌, ◌/◌, ◌%◌, ◌^◌, Bool, ◌==◌, if◌then◌else◌, List, [], ◌∷◌, Option, None, Some}
 use Rattle.std.specs.Option.{option_and_then}
-use Rattle.btr_board.specs.declared.index_node.Entry.{Entry}
+use Rattle.btr_board.specs.declared.index_node.IndexEntry.{IndexEntry}
 use Rattle.btr_board.specs.declared.index_node.IndexNode.{IndexNode, out-IndexNode}
 use Rattle.btr_board.specs.declared.index_node.IndexNode.TheOpen.{IndexNode-F}
 
 -- The number of the first entry with this id, if there is one.
-abbrev pub first : List Entry → ℕ → Option ℕ
+abbrev pub first : List IndexEntry → ℕ → Option ℕ
 first [] id = None
 first (e ∷ es) id = if e.id == id then Some e.number else first es id
 
@@ -15,7 +15,7 @@ unfoldable pub bit : ℕ → ℕ → Bool
 bit place id = (id * 210306068529402873165736369884012333109 % 2 ^ 128 / 2 ^ place % 2) == 1
 
 -- The entries of a leaf.
-abbrev pub leaf_entries : IndexNode-F IndexNode → List Entry
+abbrev pub leaf_entries : IndexNode-F IndexNode → List IndexEntry
 leaf_entries (IndexNode-F.Leaf entries) = entries.items
 leaf_entries (IndexNode-F.Inner zeros ones) = []
 

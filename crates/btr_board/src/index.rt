@@ -3,7 +3,7 @@ ghost use Rattle.std.specs.Prelude.{◌≡◌, ℕ, IfOk, None};
 ghost use Rattle.btr_board.specs.Put.{put_at};
 ghost use Rattle.btr_board.specs.Numbers.{number_of};
 
-use crate::index_node::{Entry, IndexNode, build, find_in, insert_in, with_entry};
+use crate::index_node::{IndexEntry, IndexNode, build, find_in, insert_in, with_entry};
 use std::alloc::{AllocError, Global};
 use std::marker::Model;
 use std::sync::Arc;
@@ -64,7 +64,7 @@ impl Index {
     pub fn insert(&self, alloc: Global, id: u128, number: u32) -> Result<Index, AllocError>
         ensures { IfOk result (λ m. (j : ℕ) → number_of m j ≡ put_at id number (number_of self.now) j) }
     {
-        let entry = Entry { id, number };
+        let entry = IndexEntry { id, number };
         let root = match &self.root {
             None => build(alloc, with_entry(alloc, &[], entry)?, 128)?,
             Some(root) => insert_in(alloc, root, 128, entry)?,

@@ -15,7 +15,7 @@ const SCATTER: u128 = 210306068529402873165736369884012333109;
 
 /// An id and its number.
 #[derive(Clone, Copy)]
-pub(crate) struct Entry {
+pub(crate) struct IndexEntry {
     pub(crate) id: u128,
     pub(crate) number: u32,
 }
@@ -24,7 +24,7 @@ pub(crate) struct Entry {
 #[derive(Drop)]
 pub(crate) enum IndexNode {
     /// The entries, with no id twice: at most 16, but any number at height 0.
-    Leaf(Vec<Entry>),
+    Leaf(Vec<IndexEntry>),
 
     /// The nodes of the height below: of the ids whose bit is 0, and of those whose bit is 1.
     Inner {
@@ -42,7 +42,7 @@ fn bit_of(height: u8, id: u128) -> bool
 }
 
 /// Returns the number of the first entry with this id.
-fn first_number(entries: &[Entry], id: u128) -> Option<u32>
+fn first_number(entries: &[IndexEntry], id: u128) -> Option<u32>
     ensures { result ≡ first entries.now id }
 {
     for entry in entries {
@@ -78,7 +78,7 @@ pub(crate) fn insert_in(
     alloc: Global,
     node: &IndexNode,
     height: u8,
-    entry: Entry,
+    entry: IndexEntry,
 ) -> Result<Arc<IndexNode, Global>, AllocError>
     requires { height ≤ 128 }
     ensures { IfOk result (λ n. (j : ℕ) → number_in height n.value j ≡ put_at entry.id entry.number (number_in height node.now) j) }
@@ -105,7 +105,7 @@ pub(crate) fn insert_in(
 /// Returns the node of these entries: a leaf if they are few.
 pub(crate) fn build(
     alloc: Global,
-    entries: Vec<Entry>,
+    entries: Vec<IndexEntry>,
     height: u8,
 ) -> Result<Arc<IndexNode, Global>, AllocError>
     requires { height ≤ 128 }
@@ -121,7 +121,12 @@ pub(crate) fn build(
 }
 
 /// Returns the entries of the ids whose bit is `one`.
-fn half(alloc: Global, entries: &[Entry], place: u8, one: bool) -> Result<Vec<Entry>, AllocError>
+fn half(
+    alloc: Global,
+    entries: &[IndexEntry],
+    place: u8,
+    one: bool,
+) -> Result<Vec<IndexEntry>, AllocError>
     requires { place < 128 }
     ensures { IfOk result (λ v. (j : ℕ) → bit place j ≡ one → first v.items j ≡ first entries.now j) }
 {
@@ -137,9 +142,9 @@ fn half(alloc: Global, entries: &[Entry], place: u8, one: bool) -> Result<Vec<En
 /// Returns the entries that have another id than `new`, and `new`.
 pub(crate) fn with_entry(
     alloc: Global,
-    entries: &[Entry],
-    new: Entry,
-) -> Result<Vec<Entry>, AllocError>
+    entries: &[IndexEntry],
+    new: IndexEntry,
+) -> Result<Vec<IndexEntry>, AllocError>
     ensures { IfOk result (λ v. (j : ℕ) → first v.items j ≡ put_at new.id new.number (first entries.now) j) }
 {
     let mut others = Vec::with_capacity(alloc, entries.len().saturating_add(1))?;

@@ -19,7 +19,7 @@ const FIRST_NODE: u64 = 5;
 
 /// What becomes of an entry that is committed or landed. The board is as it was until the entry is accepted.
 #[derive(Drop)]
-pub(crate) enum Outcome {
+pub(crate) enum StageOutcome {
     /// The entry may follow the history.
     Staged(Staged),
 
@@ -28,7 +28,7 @@ pub(crate) enum Outcome {
 }
 
 /// Tests an entry, and makes the board with it. An `Err` means out of memory.
-pub(crate) fn stage(alloc: Global, board: &Board, entry: &Entry) -> Result<Outcome, AllocError>
+pub(crate) fn stage(alloc: Global, board: &Board, entry: &Entry) -> Result<StageOutcome, AllocError>
     ensures { (h : List EntrySpec) → IsBoardOf h board.now → IfOk result
         (Makes h (commit_reply h entry.now (rejection h entry.now)) (committed h entry.now (rejection h entry.now))) }
 {
@@ -37,32 +37,36 @@ pub(crate) fn stage(alloc: Global, board: &Board, entry: &Entry) -> Result<Outco
         return Err(AllocError);
     }
     match board.stage(&Alone, alloc, entry, FIRST_NODE) {
-        Ok(staged) => Ok(Outcome::Staged(staged)),
-        Err(PushFault::Rejected(why)) => Ok(Outcome::Refused(Reply::Rejected(why))),
+        Ok(staged) => Ok(StageOutcome::Staged(staged)),
+        Err(PushFault::Rejected(why)) => Ok(StageOutcome::Refused(Reply::Rejected(why))),
         Err(PushFault::Want) => Err(AllocError),
     }
 }
 
 /// Tests a plan, and makes the board with its entry. The plan has its own reads, and lands only on the version of its output that
 /// it was made for. An `Err` means out of memory.
-pub(crate) fn stage_plan(alloc: Global, board: &Board, plan: &Plan) -> Result<Outcome, AllocError>
+pub(crate) fn stage_plan(
+    alloc: Global,
+    board: &Board,
+    plan: &Plan,
+) -> Result<StageOutcome, AllocError>
     ensures { (h : List EntrySpec) → IsBoardOf h board.now → Legal h → IsPlanOf h plan.now
         → IfOk result (Makes h (reply_to h plan.now) (landed_after h plan.now)) }
 {
     let version = board.latest(plan.stream()).unwrap_or(0);
     if plan.base() < version {
-        return Ok(Outcome::Refused(Reply::Superseded { version }));
+        return Ok(StageOutcome::Refused(Reply::Superseded { version }));
     }
     stage(alloc, board, plan.entry())
 }
 
 /// Accepts what was staged, and returns the reply. If the entry was refused, the board stays as it is. It takes no memory.
-pub(crate) fn finish(board: &mut Board, outcome: Outcome) -> Reply
+pub(crate) fn finish(board: &mut Board, outcome: StageOutcome) -> Reply
     ensures { (h next : List EntrySpec) (reply : ModelReply) → IsBoardOf h board.old → Makes h reply next outcome
         → (reply_of result ≡ reply) × IsBoardOf next board.new }
 {
     match outcome {
-        Outcome::Staged(staged) => Reply::Accepted(board.accept(staged)),
-        Outcome::Refused(reply) => reply,
+        StageOutcome::Staged(staged) => Reply::Accepted(board.accept(staged)),
+        StageOutcome::Refused(reply) => reply,
     }
 }

@@ -23,6 +23,6 @@ mod travel;
 
 pub use item::Item;
 pub use land::LandFault;
-pub use look::Found;
+pub use look::FoundStream;
 pub use session::{Hall, Session};
 pub use store::Store;

@@ -17,7 +17,7 @@ use std::sync::Wait;
 
 /// A stream, found by its id.
 #[derive(Clone, Copy, PartialEq, Eq)]
-pub struct Found {
+pub struct FoundStream {
     /// The number of the stream.
     pub stream: u32,
 
@@ -64,7 +64,7 @@ impl<D: Disk> Session<D> {
 
     /// Returns the stream with this id and its spec, if there is one. It waits for a turn, takes logarithmic time in it, and no
     /// memory.
-    pub fn find<R: Wait>(&mut self, rt: &R, hall: &Hall<D>, id: u128) -> Option<Found>
+    pub fn find<R: Wait>(&mut self, rt: &R, hall: &Hall<D>, id: u128) -> Option<FoundStream>
         requires session { IsSessionOf hall.now self.old }
         ensures session { IsSessionOf hall.now self.new }
         ensures looks { Looks hall.now self.old self.new }
@@ -108,11 +108,11 @@ impl<D: Disk> Session<D> {
 }
 
 /// Returns the stream with this id and its spec, if there is one.
-fn look_up<D: Disk>(engine: &Engine<D>, id: u128) -> Option<Found>
+fn look_up<D: Disk>(engine: &Engine<D>, id: u128) -> Option<FoundStream>
     ensures { (h : List EntrySpec) → IsEngineOf h engine.now → IsFound h id result }
 {
     let stream = engine.find(id)?;
-    Some(Found {
+    Some(FoundStream {
         stream,
         spec: engine.spec(stream),
     })

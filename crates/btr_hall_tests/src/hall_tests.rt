@@ -17,7 +17,7 @@ use btr_engine::{Engine, Receipt, StepFault};
 use btr_entry::decode;
 use btr_hall::*;
 use btr_hist::{Answer, At, Entry, Kernel, Query, Rows, Spec};
-use btr_log::{Found as FoundExtent, HEAD_BYTES, Log};
+use btr_log::{Found, HEAD_BYTES, Log};
 use btr_plan::{Next, next_plan};
 use std::alloc::{AllocError, Global};
 use std::sync::Wait;
@@ -534,8 +534,8 @@ fn commits_on(alloc: Global, disk: MemDisk) -> List {
             return None;
         }
         match log.read_extent(alloc, gate).ok()? {
-            FoundExtent::Closed => return Some(list),
-            FoundExtent::Extent { head, body, next } => {
+            Found::Closed => return Some(list),
+            Found::Extent { head, body, next } => {
                 if head.number != number {
                     return None;
                 }
@@ -642,8 +642,8 @@ fn refused_thrice<R: Threads + Wait + Sync>(
 type Sight = (
     Option<u64>,
     Option<(u64, usize)>,
-    Option<Found>,
-    Option<Found>,
+    Option<FoundStream>,
+    Option<FoundStream>,
 );
 
 fn sight_of<R: Wait>(rt: &R, alloc: Global, hall: &Place, user: &mut User) -> Sight
@@ -717,7 +717,7 @@ fn failed_for_two<R: Threads + Wait + Sync>(
 const AFTER_FAULT: Sight = (
     Some(2),
     Some((1, 1)),
-    Some(Found {
+    Some(FoundStream {
         stream: 0,
         spec: None,
     }),
@@ -754,7 +754,7 @@ fn step_alone<R: Threads + Wait + Sync>(
 
 /// What the only session of a hall sees: the stream with the id 7 and its spec, the number of entries if the engine is stopped, and the
 /// entries and the latest version of stream 0 in a snapshot.
-type AloneSight = (Option<Found>, Option<u64>, u64, Option<u64>);
+type AloneSight = (Option<FoundStream>, Option<u64>, u64, Option<u64>);
 
 fn sight_alone<R: Wait>(rt: &R, hall: &Place, user: &mut User) -> Result<AloneSight, AllocError>
     requires { IsSessionOf hall.now user.old }
@@ -768,7 +768,7 @@ fn sight_alone<R: Wait>(rt: &R, hall: &Place, user: &mut User) -> Result<AloneSi
 }
 
 /// What the only session of a hall saw: the stream with the id 7 before, the steps, and the sight after them.
-type Alone = (Option<Found>, [Stepped; 2], AloneSight);
+type Alone = (Option<FoundStream>, [Stepped; 2], AloneSight);
 
 /// Uses a hall by its only session.
 fn use_alone<R: Threads + Wait + Sync>(
@@ -807,7 +807,7 @@ fn receipt(number: u64, stream: u32, version: u64) -> Stepped {
 #[test]
 fn a_session_alone_is_used_as_an_engine(rt: HostRuntime) -> Result<(), Fail> {
     let ((before, stepped, after), entries, is_stopped) = used_alone(&rt, rt.alloc())?;
-    let found = Found {
+    let found = FoundStream {
         stream: 0,
         spec: None,
     };

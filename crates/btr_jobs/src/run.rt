@@ -41,15 +41,8 @@ pub fn run_jobs<R: Threads + Wait + Sync, D: Disk + Send, J: Job + Send, P: Pace
         hall,
         session: other,
     };
-    share_out(
-        system.rt,
-        system.alloc,
-        pace,
-        workers,
-        first,
-        &mut worker,
-        jobs,
-    );
+    let System { rt, alloc } = system;
+    share_out(rt, alloc, pace, workers, first, &mut worker, jobs);
     let Worker {
         hall: _,
         session: other,

@@ -11,7 +11,7 @@ use Rattle.btr_gate.proofs.NumberLemmas.{times_append}
 use Rattle.btr_gate.proofs.PrefixLemmas.{starts_trans}
 use Rattle.btr_jobs.specs.States.{StoreState, LogState, GoesOn}
 use Rattle.btr_jobs.specs.Jobs.{AllDid}
-use Rattle.btr_live.specs.declared.part.Part.{Part}
+use Rattle.btr_live.specs.declared.part.ScriptPart.{ScriptPart}
 use Rattle.btr_live.specs.declared.live.LiveReport.{LiveReport}
 use Rattle.btr_live.specs.Lanes.{begun, RunsLines}
 use Rattle.btr_live.specs.LaneLaws.{lines_last}
@@ -32,7 +32,7 @@ pub record RanLanes (batch : ℕ) (materialize : Bool) (start : StoreState) (log
   pub count : length beside ≡ one materialize
   pub numbers : (n : ℕ) → times n own ≡ times_all n mine beside
 
-module _ (batch : ℕ) (script : List ScriptLine) (before after : List Part) (have : HaveLimits batch (length script) before) (lines : (k : ℕ) → lines_at before k ≡ lane_lines k script) where
+module _ (batch : ℕ) (script : List ScriptLine) (before after : List ScriptPart) (have : HaveLimits batch (length script) before) (lines : (k : ℕ) → lines_at before k ≡ lane_lines k script) where
   -- Each lane has as many replies as lines.
   pub replies_each : (start : StoreState) (log : LogState) (low : List Entry) (own : List ℕ) → StartsWith log.history low → AllDid PartDid start log low before after own → (k : ℕ) → length (replies_at after k) ≡ length (lane_lines k script)
   replies_each start log low own starts did k =

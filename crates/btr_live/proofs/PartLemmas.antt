@@ -16,15 +16,15 @@ use Rattle.btr_jobs.specs.Jobs.{AllDid}
 use Rattle.btr_live.specs.Lanes.{begun}
 use Rattle.btr_live.specs.Rounds.{MakesRounds}
 use Rattle.btr_live.specs.Running.{RunsLane}
-use Rattle.btr_live.specs.declared.part.Part.{Part}
-use Rattle.btr_live.specs.declared.part.Part.TheVariants as parts
+use Rattle.btr_live.specs.declared.part.ScriptPart.{ScriptPart}
+use Rattle.btr_live.specs.declared.part.ScriptPart.TheVariants as parts
 use Rattle.btr_live.specs.declared.rounds.Rounds.{Rounds}
 use Rattle.btr_live.specs.OneHistory.{of_lane, IsParty}
 use Rattle.btr_live.proofs.RoundLemmas.{no_rounds}
 use Rattle.btr_live.specs.Parts.{PartDid, HaveLimits, parties_of, lines_at, replies_of, replies_in, replies_at, lane_with, list_in, list_at}
 
 -- All parts together: each lane ran, and the other numbers are those of parties, which made at most this many rounds.
-pub record RanParts (batch rounds : ℕ) (start : StoreState) (log : LogState) (low : List Entry) (before after : List Part) (own : List ℕ) : Type 0 where
+pub record RanParts (batch rounds : ℕ) (start : StoreState) (log : LogState) (low : List Entry) (before after : List ScriptPart) (own : List ℕ) : Type 0 where
   pub mine : List (List ℕ)
   pub beside : List (List ℕ)
   pub lanes : (k : ℕ) → RunsLane batch start log low (lines_at before k) (replies_at after k) (slice_index_or mine k [])
@@ -33,7 +33,7 @@ pub record RanParts (batch rounds : ℕ) (start : StoreState) (log : LogState) (
   pub numbers : (n : ℕ) → times n own ≡ total (times n) mine + total (times n) beside
 
 module _ (batch rounds : ℕ) (start : StoreState) (log : LogState) (low : List Entry) (starts : StartsWith log.history low) where
-  pub ran_parts : (before after : List Part) (own : List ℕ) → HaveLimits batch rounds before → AllDid PartDid start log low before after own → RanParts batch rounds start log low before after own
+  pub ran_parts : (before after : List ScriptPart) (own : List ℕ) → HaveLimits batch rounds before → AllDid PartDid start log low before after own → RanParts batch rounds start log low before after own
   ran_parts [] [] own have did = record {
     mine = [];
     beside = [];
@@ -100,36 +100,36 @@ parties-lane batch [] = refl
 parties-lane batch (list ∷ lists) = let rest = parties-lane batch lists in omega (arith, rest)
 
 -- Rounds have no lines.
-pub lines-rounds : (all : List Part) (rounds : Rounds) (k : ℕ) → lines_at (all ++ parts.Rounds rounds ∷ []) k ≡ lines_at all k
+pub lines-rounds : (all : List ScriptPart) (rounds : Rounds) (k : ℕ) → lines_at (all ++ parts.Rounds rounds ∷ []) k ≡ lines_at all k
 lines-rounds [] rounds zero = refl
 lines-rounds [] rounds (suc k) = refl
 lines-rounds (part ∷ all) rounds zero = refl
 lines-rounds (part ∷ all) rounds (suc k) = lines-rounds all rounds k
 
-pub limits-rounds : (batch count : ℕ) (all : List Part) (rounds : Rounds) → rounds.count ≡ count → HaveLimits batch count all → HaveLimits batch count (all ++ parts.Rounds rounds ∷ [])
+pub limits-rounds : (batch count : ℕ) (all : List ScriptPart) (rounds : Rounds) → rounds.count ≡ count → HaveLimits batch count all → HaveLimits batch count (all ++ parts.Rounds rounds ∷ [])
 limits-rounds batch count [] rounds is have = (is, tt)
 limits-rounds batch count (part ∷ all) rounds is have = (have.0, limits-rounds batch count all rounds is have.1)
 
 -- Rounds are one party more.
-pub parties-rounds : (all : List Part) (rounds : Rounds) → parties_of (all ++ parts.Rounds rounds ∷ []) ≡ parties_of all + 1
+pub parties-rounds : (all : List ScriptPart) (rounds : Rounds) → parties_of (all ++ parts.Rounds rounds ∷ []) ≡ parties_of all + 1
 parties-rounds [] rounds = refl
 parties-rounds (part ∷ all) rounds = let more = parties-rounds all rounds in omega (arith, more)
 
 -- ---- one place of a list
 
 -- A part that has replies is there.
-pub replies-there : (all : List Part) (k : ℕ) → 1 ≤ length (replies_at all k) → k < length all
+pub replies-there : (all : List ScriptPart) (k : ℕ) → 1 ≤ length (replies_at all k) → k < length all
 replies-there [] k some = absurd (omega (arith, some))
 replies-there (part ∷ all) zero some = omega arith
 replies-there (part ∷ all) (suc k) some = let more = replies-there all k some in omega (arith, more)
 
-pub replies-place : (all : List Part) (k : ℕ) (d : Part) → k < length all → replies_at all k ≡ replies_of (get_or all k d)
+pub replies-place : (all : List ScriptPart) (k : ℕ) (d : ScriptPart) → k < length all → replies_at all k ≡ replies_of (get_or all k d)
 replies-place [] k d low = absurd (omega (arith, low))
 replies-place (part ∷ all) zero d low = refl
 replies-place (part ∷ all) (suc k) d low = replies-place all k d (omega (arith, low))
 
 -- One part has given a reply.
-pub replies-reported : (all : List Part) (lane : ℕ) (now : Part) (reply : LineReply) → lane < length all → replies_at all lane ≡ reply ∷ replies_of now → (k : ℕ) → replies_at all k ≡ of_lane k (lane ∷ []) (reply ∷ []) ++ replies_at (set all lane now) k
+pub replies-reported : (all : List ScriptPart) (lane : ℕ) (now : ScriptPart) (reply : LineReply) → lane < length all → replies_at all lane ≡ reply ∷ replies_of now → (k : ℕ) → replies_at all k ≡ of_lane k (lane ∷ []) (reply ∷ []) ++ replies_at (set all lane now) k
 replies-reported all lane now reply low is k =
     elim (lane == k) as (λ t. (lane == k) ≡ t → replies_at all k ≡ cond t (reply ∷ []) [] ++ replies_at (set all lane now) k) [
       | true ↦ λ e.

@@ -11,58 +11,58 @@ use Rattle.btr_hist.specs.declared.entry.Entry.{Entry}
 use Rattle.btr_text.specs.declared.script.Line.{Line}
 use Rattle.btr_text.specs.declared.reply.LineReply.{LineReply}
 use Rattle.btr_jobs.specs.States.{StoreState, LogState}
-use Rattle.btr_live.specs.declared.part.Part.{Part}
-use Rattle.btr_live.specs.declared.part.Part.TheVariants as parts
+use Rattle.btr_live.specs.declared.part.ScriptPart.{ScriptPart}
+use Rattle.btr_live.specs.declared.part.ScriptPart.TheVariants as parts
 use Rattle.btr_gate.specs.Numbers.{one, total}
 use Rattle.btr_live.specs.Running.{LaneDid, RoundsDid}
 
 -- What a part did: a lane ran, or rounds were made.
-abbrev pub PartDid : StoreState → LogState → List Entry → Part → Part → List ℕ → Type 0
+abbrev pub PartDid : StoreState → LogState → List Entry → ScriptPart → ScriptPart → List ℕ → Type 0
 PartDid start log low (parts.Lane was) (parts.Lane now) own = LaneDid start log low was now own
 PartDid start log low (parts.Lane was) (parts.Rounds now) own = ⊥
 PartDid start log low (parts.Rounds was) (parts.Lane now) own = ⊥
 PartDid start log low (parts.Rounds was) (parts.Rounds now) own = RoundsDid start log low was now own
 
 -- The lines of a part that was looked up, if it is a lane.
-abbrev pub lines_in : Option Part → List (Option Line)
+abbrev pub lines_in : Option ScriptPart → List (Option Line)
 lines_in None = []
 lines_in (Some (parts.Lane lane)) = lane.lines
 lines_in (Some (parts.Rounds rounds)) = []
 
 -- The lines of the lane with this number.
-abbrev pub lines_at : List Part → ℕ → List (Option Line)
+abbrev pub lines_at : List ScriptPart → ℕ → List (Option Line)
 lines_at all k = lines_in (slice_get all k)
 
 -- The replies of a part, if it is a lane.
-abbrev pub replies_of : Part → List LineReply
+abbrev pub replies_of : ScriptPart → List LineReply
 replies_of (parts.Lane lane) = lane.replies
 replies_of (parts.Rounds rounds) = []
 
 -- The replies of a part that was looked up.
-abbrev pub replies_in : Option Part → List LineReply
+abbrev pub replies_in : Option ScriptPart → List LineReply
 replies_in None = []
 replies_in (Some part) = replies_of part
 
 -- The replies of the lane with this number.
-abbrev pub replies_at : List Part → ℕ → List LineReply
+abbrev pub replies_at : List ScriptPart → ℕ → List LineReply
 replies_at all k = replies_in (slice_get all k)
 
 -- How many parties beside the lanes the part is.
-abbrev pub party_of : Part → ℕ
+abbrev pub party_of : ScriptPart → ℕ
 party_of (parts.Lane lane) = 0
 party_of (parts.Rounds rounds) = 1
 
 -- How many parties beside the lanes there are.
-abbrev pub parties_of : List Part → ℕ
+abbrev pub parties_of : List ScriptPart → ℕ
 parties_of all = total party_of all
 
 -- The feeds of a lane are due with `batch` points, and rounds are at most this many.
-abbrev pub HasLimits : ℕ → ℕ → Part → Type 0
+abbrev pub HasLimits : ℕ → ℕ → ScriptPart → Type 0
 HasLimits batch count (parts.Lane lane) = lane.batch ≡ batch
 HasLimits batch count (parts.Rounds rounds) = rounds.count ≡ count
 
 -- All parts have these limits.
-abbrev pub HaveLimits : ℕ → ℕ → List Part → Type 0
+abbrev pub HaveLimits : ℕ → ℕ → List ScriptPart → Type 0
 HaveLimits batch count all = AllByRecursion (HasLimits batch count) all
 
 -- ---- before a run
@@ -83,7 +83,7 @@ pub record HasLists (script : List ScriptLine) (lanes : List ℕ) (lists : List 
   pub lines : (k : ℕ) → list_at lists k ≡ lane_lines k script
 
 -- A lane of a list of lines, before it runs.
-abbrev pub lane_with : ℕ → Vec (Option Line) Global → Part
+abbrev pub lane_with : ℕ → Vec (Option Line) Global → ScriptPart
 lane_with batch list = parts.Lane (record { batch = batch; lines = list.items; replies = [] })
 
 -- The run is prepared for this script: each lane has its lines, and there is room for the replies. There are rounds only if they are

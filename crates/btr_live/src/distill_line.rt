@@ -12,7 +12,7 @@ ghost use Rattle.btr_live.specs.Serving.{AsksFor, RefreshAsks, ServesIn, reply_o
 use crate::line::commit;
 use crate::reasons::reason_of_landing;
 use btr_disk::Disk;
-use btr_hall::{Found, Hall, Session};
+use btr_hall::{FoundStream, Hall, Session};
 use btr_hist::{Entry, Kernel, Spec};
 use btr_jobs::System;
 use btr_text::{LineReply, Reason};
@@ -39,7 +39,7 @@ pub(crate) fn define<R: Threads + Wait + Sync, D: Disk>(
 {
     match session.find(system.rt, hall, first) {
         None => LineReply::No(Reason::Stream),
-        Some(Found { stream, .. }) => {
+        Some(FoundStream { stream, .. }) => {
             let spec = Spec {
                 kernel,
                 lead,
@@ -71,7 +71,7 @@ fn define_of_two<R: Threads + Wait + Sync, D: Disk>(
 {
     match session.find(system.rt, hall, second) {
         None => LineReply::No(Reason::Stream),
-        Some(Found { stream, .. }) => {
+        Some(FoundStream { stream, .. }) => {
             let spec = Spec {
                 second: Some(stream),
                 ..spec

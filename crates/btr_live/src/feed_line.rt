@@ -15,7 +15,7 @@ use crate::line::commit;
 use btr_base::{Bag, Point, Ranges};
 use btr_disk::Disk;
 use btr_feed::{FeedFault, Held};
-use btr_hall::{Found, Hall, Session};
+use btr_hall::{FoundStream, Hall, Session};
 use btr_hist::Entry;
 use btr_jobs::System;
 use btr_text::{LineReply, Reason};
@@ -126,7 +126,7 @@ pub(crate) fn discard<R: Wait, D: Disk>(
 {
     match session.find(rt, hall, id) {
         None => LineReply::No(Reason::Stream),
-        Some(Found { stream, .. }) => {
+        Some(FoundStream { stream, .. }) => {
             feeds.discard(stream);
             LineReply::Held { count: 0 }
         }

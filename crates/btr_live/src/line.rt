@@ -19,7 +19,7 @@ use crate::reasons::reason_of_step;
 use btr_base::{Bag, Range, Ranges};
 use btr_disk::Disk;
 use btr_engine::{Receipt, StepFault};
-use btr_hall::{Found, Hall, Session};
+use btr_hall::{FoundStream, Hall, Session};
 use btr_hist::{Entry, Query, StreamQuery};
 use btr_jobs::System;
 use btr_text::{Line, LineReply, Reason};
@@ -84,7 +84,7 @@ fn insert<R: Threads + Wait + Sync, D: Disk>(
 {
     match session.find(system.rt, hall, id) {
         None => LineReply::No(Reason::Stream),
-        Some(Found { stream, .. }) => {
+        Some(FoundStream { stream, .. }) => {
             let cut = Ranges::none(system.alloc);
             commit(system, hall, session, &Entry::Commit { stream, cut, added })
         }
@@ -119,7 +119,7 @@ fn delete_range<R: Threads + Wait + Sync, D: Disk>(
     system: System<'_, R>,
     hall: &Hall<D>,
     session: &mut Session<D>,
-    found: Found,
+    found: FoundStream,
     range: Range,
 ) -> LineReply
     requires at { IsAt hall.now session.old }
@@ -142,7 +142,7 @@ fn refuse_range<R: Wait, D: Disk>(
     rt: &R,
     hall: &Hall<D>,
     session: &mut Session<D>,
-    found: Found,
+    found: FoundStream,
 ) -> LineReply
     requires at { IsAt hall.now session.old }
     requires found { Knows hall.now session.old (λ h. (id : ℕ) × IsFound h id (Some found)) }

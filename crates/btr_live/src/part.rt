@@ -14,7 +14,7 @@ use std::thread::Threads;
 
 /// A part of a run.
 #[derive(Drop)]
-pub(crate) enum Part {
+pub(crate) enum ScriptPart {
     /// The lines of one lane.
     Lane(Lane),
 
@@ -22,14 +22,14 @@ pub(crate) enum Part {
     Rounds(Rounds),
 }
 
-impl Part {
+impl ScriptPart {
     /// Whether it is a lane that has a reply left.
     pub(crate) fn has_reply(&self) -> bool
         ensures { IsTrue result ↔ (1 ≤ length (replies_of self.now)) }
     {
         match self {
-            Part::Lane(lane) => lane.has_reply(),
-            Part::Rounds(_) => false,
+            ScriptPart::Lane(lane) => lane.has_reply(),
+            ScriptPart::Rounds(_) => false,
         }
     }
 
@@ -39,13 +39,13 @@ impl Part {
         ensures { replies_of self.old ≡ result ∷ replies_of self.new }
     {
         match self {
-            Part::Lane(lane) => lane.next_reply(),
-            Part::Rounds(_) => LineReply::No(Reason::Memory),
+            ScriptPart::Lane(lane) => lane.next_reply(),
+            ScriptPart::Rounds(_) => LineReply::No(Reason::Memory),
         }
     }
 }
 
-impl Job for Part {
+impl Job for ScriptPart {
     ghost use Rattle.btr_live.specs.Parts.{PartDid};
     ghost use Rattle.btr_live.specs.PartLaws.{part_did_lasts, part_did_lowers};
 
@@ -58,8 +58,8 @@ impl Job for Part {
         session: &mut Session<D>,
     ) {
         match self {
-            Part::Lane(lane) => lane.run(system, hall, session),
-            Part::Rounds(rounds) => rounds.run(system, hall, session),
+            ScriptPart::Lane(lane) => lane.run(system, hall, session),
+            ScriptPart::Rounds(rounds) => rounds.run(system, hall, session),
         }
     }
 

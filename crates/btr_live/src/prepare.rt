@@ -7,7 +7,7 @@ ghost use Rattle.btr_live.specs.OneHistory.{of_lane, lanes_of, lane_lines};
 ghost use Rattle.btr_live.specs.Parts.{lane_with, lines_at, list_at, parties_of, HasLists, HaveLimits, IsRunPrepared};
 
 use crate::lane::Lane;
-use crate::part::Part;
+use crate::part::ScriptPart;
 use crate::rounds::Rounds;
 use btr_text::{Line, LineReply, ScriptLine};
 use std::alloc::{AllocError, Global};
@@ -23,7 +23,7 @@ pub(crate) struct Prepared {
     pub(crate) lanes: Vec<u8>,
 
     /// The lanes from 0 on, and then the rounds, if there are any.
-    pub(crate) parts: Vec<Part>,
+    pub(crate) parts: Vec<ScriptPart>,
 
     /// Room for a reply to each line.
     pub(crate) replies: Vec<LineReply>,
@@ -100,7 +100,7 @@ fn parts_of(
     batch: u32,
     lists: Vec<Vec<Option<Line>>>,
     running: &Arc<AtomicU32>,
-) -> Result<Vec<Part>, AllocError>
+) -> Result<Vec<ScriptPart>, AllocError>
     requires least { 1 ≤ batch }
     requires most { batch ≤ MAX_COMMIT_POINTS }
     ensures { IfOk result (λ p. p.items ≡ map (lane_with batch) lists.items) }
@@ -108,14 +108,14 @@ fn parts_of(
     let mut parts = Vec::new(alloc);
     for lines in lists {
         let lane = Lane::new(alloc, batch, lines, running)?;
-        parts.push(Part::Lane(lane))?;
+        parts.push(ScriptPart::Lane(lane))?;
     }
     Ok(parts)
 }
 
 /// Adds rounds to the parts of a run, if they are wanted: at most `count`, while `running` is not 0.
 fn add_rounds(
-    parts: &mut Vec<Part>,
+    parts: &mut Vec<ScriptPart>,
     count: usize,
     materialize: bool,
     running: &Arc<AtomicU32>,
@@ -128,6 +128,6 @@ fn add_rounds(
         return Ok(());
     }
     let lanes = Arc::try_clone(running)?;
-    parts.push(Part::Rounds(Rounds { count, lanes }))?;
+    parts.push(ScriptPart::Rounds(Rounds { count, lanes }))?;
     Ok(())
 }

@@ -8,7 +8,7 @@ ghost use Rattle.btr_live.specs.Meaning.{Asks, on_stream, question};
 ghost use Rattle.btr_live.specs.Serving.{IsAnswerOrNoMemory};
 
 use btr_engine::Snapshot;
-use btr_hall::Found;
+use btr_hall::FoundStream;
 use btr_hist::{Answer, Query, StreamQuery};
 use btr_text::{Line, LineReply, Reason};
 use std::alloc::Global;

@@ -14,7 +14,7 @@ use Rattle.btr_streams.specs.declared.board.Receipt.{Receipt}
 use Rattle.btr_engine.specs.declared.step.StepFault.{StepFault}
 use Rattle.btr_gate.specs.Numbers.{times}
 use Rattle.btr_gate.proofs.NumberLemmas.{times_append}
-use Rattle.btr_hall.specs.declared.look.Found.{Found}
+use Rattle.btr_hall.specs.declared.look.FoundStream.{FoundStream}
 use Rattle.btr_hall.specs.declared.session.Hall.{Hall}
 use Rattle.btr_hall.specs.declared.session.Session.{Session}
 use Rattle.btr_hall.specs.Found.{IsFound}
@@ -127,7 +127,7 @@ module _ {D : Type 0} {disk : Ghosts D} where
       does
 
   -- The input was found, and the output defined over it.
-  pub defines_some : (hall : Hall D disk) (old mid new : Session D disk) (stream id number : ℕ) (found : Found) (result : Result Receipt StepFault) (refused : Option Reason) → id ≡ output_id stream → number ≡ stream + 1 → refused ≡ refusal_of result → IsAt hall new → Does hall old mid (λ start log low own. (own ≡ []) × (log.history ≡ low) × IsFound low number (Some found)) → Does hall mid new (λ start log low own. Committed start log low (entries.Define id (mean_of found.stream)) result own log.history) → Does hall old new (λ start log low own. Defines start log low stream (record { id = id; refused = refused }) own log.history)
+  pub defines_some : (hall : Hall D disk) (old mid new : Session D disk) (stream id number : ℕ) (found : FoundStream) (result : Result Receipt StepFault) (refused : Option Reason) → id ≡ output_id stream → number ≡ stream + 1 → refused ≡ refusal_of result → IsAt hall new → Does hall old mid (λ start log low own. (own ≡ []) × (log.history ≡ low) × IsFound low number (Some found)) → Does hall mid new (λ start log low own. Committed start log low (entries.Define id (mean_of found.stream)) result own log.history) → Does hall old new (λ start log low own. Defines start log low stream (record { id = id; refused = refused }) own log.history)
   defines_some hall old mid new stream id number found result refused named at why is_at look turn =
       does_then hall old mid new
       (λ start log low own. (own ≡ []) × (log.history ≡ low) × IsFound low number (Some found))

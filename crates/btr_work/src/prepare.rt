@@ -35,7 +35,7 @@ pub(crate) struct Level {
 
 /// The streams of a store: a line for each output, and for each stream a result and the number of outputs before it.
 #[derive(Drop)]
-struct Streams {
+struct PreparedStreams {
     lines: Vec<RefreshLine>,
     results: Vec<Refreshed>,
     turns: Vec<u32>,
@@ -49,7 +49,7 @@ pub(crate) fn prepare(alloc: Global, snapshot: &Snapshot, workers: u8) -> Result
     ensures { (h : List EntrySpec) → IsSnapshotOf h snapshot.now → IfOk result (IsPrepared h) }
 {
     let groups = levels(alloc, snapshot)?;
-    let Streams {
+    let PreparedStreams {
         lines,
         results,
         turns,
@@ -63,7 +63,7 @@ pub(crate) fn prepare(alloc: Global, snapshot: &Snapshot, workers: u8) -> Result
 }
 
 /// Makes the lines and results of all streams.
-fn streams_of(alloc: Global, snapshot: &Snapshot) -> Result<Streams, AllocError>
+fn streams_of(alloc: Global, snapshot: &Snapshot) -> Result<PreparedStreams, AllocError>
     ensures lines { (h : List EntrySpec) → IsSnapshotOf h snapshot.now → IfOk result (λ s. s.lines.items ≡ map blank_line (outputs h)) }
     ensures results { (h : List EntrySpec) → IsSnapshotOf h snapshot.now → IfOk result (λ s. length s.results.items ≡ length (ids h)) }
 {
@@ -75,7 +75,7 @@ fn streams_of(alloc: Global, snapshot: &Snapshot) -> Result<Streams, AllocError>
         results.push(NOTHING)?;
         push_line(&mut lines, stream, snapshot.spec(stream))?;
     }
-    Ok(Streams {
+    Ok(PreparedStreams {
         lines,
         results,
         turns,
