@@ -1,5 +1,5 @@
 ghost use Rattle.std.specs.Prelude.{◌≡◌, ◌+◌, ◌<◌, ◌^◌, ℤ, List, [], ◌∷◌, ◌++◌};
-ghost use Rattle.btr_base.specs.declared.point.Point.{Point as APoint};
+ghost use Rattle.btr_base.specs.declared.point.Point.{Point as PointSpec};
 ghost use Rattle.btr_base.specs.Agg.{IsSummary, agg, joined, one_point, join_ends as outer_ends};
 
 use crate::point::Point;
@@ -74,7 +74,7 @@ impl Agg {
     pub fn join(&self, other: &Agg) -> Agg
         requires { self.now.count + other.now.count < 2 ^ 64 }
         ensures numbers { result ≡ joined self.now other.now }
-        ensures lists { (a b : List APoint) → agg a ≡ self.now → agg b ≡ other.now → agg (a ++ b) ≡ result }
+        ensures lists { (a b : List PointSpec) → agg a ≡ self.now → agg b ≡ other.now → agg (a ++ b) ≡ result }
         ensures summary { IsSummary result }
     {
         Agg {

@@ -1,7 +1,7 @@
 //! The slots in which two lists of points differ.
 ghost use Rattle.std.specs.Prelude.{◌≡◌, ◌<◌, ◌≤◌, ◌-◌, ◌+◌, ◌⊎◌, ◌<ℤ◌, ◌≤ℤ◌, int_lt, not};
 ghost use Rattle.std.specs.Prelude.{[], ◌++◌, length, filter, MatchOption, OnOk, IsTrue, ◌↔◌};
-ghost use Rattle.btr_base.specs.declared.point.Point.{Point as APoint};
+ghost use Rattle.btr_base.specs.declared.point.Point.{Point as PointSpec};
 ghost use Rattle.btr_base.specs.Bag.{IsInOrder};
 ghost use Rattle.btr_base.specs.Point.{AreInDomain};
 ghost use Rattle.btr_diff.specs.Comparison.{AddsChangedSlots, IsFirstTime, point_time};
@@ -74,7 +74,7 @@ fn add_each(new: &[Point], comparison: Comparison, out: &mut Ranges) -> Result<(
 
 /// Whether there is a first point, and it is before a time.
 fn begins_before(points: &[Point], time: i64) -> bool
-    ensures { IsTrue result ↔ ((0 < length points.now) × ((d : APoint) → point_time points.now 0 d <ℤ time)) }
+    ensures { IsTrue result ↔ ((0 < length points.now) × ((d : PointSpec) → point_time points.now 0 d <ℤ time)) }
 {
     match points.first() {
         Some(first) => first.time < time,
@@ -88,11 +88,11 @@ fn begins_before(points: &[Point], time: i64) -> bool
 fn next_place(points: &[Point], slot_end: i64, longer_end: i64) -> usize
     requires order { IsInOrder points.now }
     requires some { 0 < length points.now }
-    requires first { (d : APoint) → point_time points.now 0 d <ℤ longer_end }
+    requires first { (d : PointSpec) → point_time points.now 0 d <ℤ longer_end }
     ensures within { result ≤ length points.now }
-    ensures before { (d : APoint) → 0 < result → (point_time points.now (result - 1) d <ℤ slot_end) ⊎
+    ensures before { (d : PointSpec) → 0 < result → (point_time points.now (result - 1) d <ℤ slot_end) ⊎
         ((result < length points.now) × (point_time points.now result d <ℤ longer_end)) }
-    ensures from { (d : APoint) → result + 1 < length points.now → longer_end ≤ℤ point_time points.now (result + 1) d }
+    ensures from { (d : PointSpec) → result + 1 < length points.now → longer_end ≤ℤ point_time points.now (result + 1) d }
 {
     let last = last_before(points, longer_end);
     if points[last].time < slot_end {
@@ -110,10 +110,10 @@ fn next_place(points: &[Point], slot_end: i64, longer_end: i64) -> usize
 fn last_before(points: &[Point], time: i64) -> usize
     requires order { IsInOrder points.now }
     requires some { 0 < length points.now }
-    requires first { (d : APoint) → point_time points.now 0 d <ℤ time }
+    requires first { (d : PointSpec) → point_time points.now 0 d <ℤ time }
     ensures within { result < length points.now }
-    ensures before { (d : APoint) → point_time points.now result d <ℤ time }
-    ensures from { (d : APoint) → result + 1 < length points.now → time ≤ℤ point_time points.now (result + 1) d }
+    ensures before { (d : PointSpec) → point_time points.now result d <ℤ time }
+    ensures from { (d : PointSpec) → result + 1 < length points.now → time ≤ℤ point_time points.now (result + 1) d }
 {
     let mut low = 0;
     let mut high = 1;
@@ -141,8 +141,8 @@ fn parted_near(points: &[Point], time: i64) -> (&[Point], &[Point])
 /// The index of the first point that is not before a time, or the number of points. It walks there from the first point.
 fn place_near(points: &[Point], time: i64) -> usize
     ensures within { result ≤ length points.now }
-    ensures before { (d : APoint) → 0 < result → point_time points.now (result - 1) d <ℤ time }
-    ensures from { (d : APoint) → result < length points.now → time ≤ℤ point_time points.now result d }
+    ensures before { (d : PointSpec) → 0 < result → point_time points.now (result - 1) d <ℤ time }
+    ensures from { (d : PointSpec) → result < length points.now → time ≤ℤ point_time points.now result d }
 {
     let mut place = 0;
     while place < points.len() && points[place].time < time {

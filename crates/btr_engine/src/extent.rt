@@ -16,7 +16,7 @@ ghost use Rattle.btr_engine.specs.Travel.{written_pages};
 use crate::late::fill_blocks;
 use crate::maker::Maker;
 use btr_disk::{BLOCK, Parts};
-use btr_entry::{append_entry, append_front, spelling_length};
+use btr_entry::{append_before_points, append_entry, spelling_length};
 use btr_hist::Entry;
 use btr_log::{HEAD_BYTES, Head, blocks_of_content};
 use btr_roll::{Roll, encode_roll};
@@ -130,7 +130,7 @@ fn before_pages<M: Maker>(
 {
     let mut front = Vec::new(alloc);
     put_head(&mut front, head)?;
-    let points = append_front(&mut front, entry)?;
+    let points = append_before_points(&mut front, entry)?;
     let mut extent = Parts::of(alloc, front)?;
     extent.append(maker.points(alloc, points)?)?;
     extent.push(zeros_after(alloc, spelling_length(entry))?)?;

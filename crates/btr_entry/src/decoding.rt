@@ -7,11 +7,8 @@ use crate::lists::read_change;
 use crate::reads_bytes::read_reads;
 use crate::spec_bytes::read_spec;
 use btr_base::{MAX_COMMIT_POINTS, MAX_COMMIT_RANGES, MAX_POINTS};
-use btr_hist::Entry;
+use btr_hist::{Entry, MAX_DISTILLATE_RANGES};
 use std::alloc::{AllocError, Global};
-
-/// The greatest number of ranges that one distillate empties: `2^34`.
-const MAX_DISTILLATE_RANGES: u64 = 17179869184;
 
 /// Decodes all of the bytes into the entry that they spell. Returns `None` if they spell none. An `Err` means out of
 /// memory.
@@ -92,7 +89,8 @@ fn read_distillate(alloc: Global, bytes: &[u8]) -> Result<Option<Entry>, AllocEr
     let Some((reads, rest)) = read_reads(rest) else {
         return Ok(None);
     };
-    let Some((cut, added)) = read_change(alloc, rest, MAX_DISTILLATE_RANGES, MAX_POINTS)? else {
+    let Some((cut, added)) = read_change(alloc, rest, MAX_DISTILLATE_RANGES as u64, MAX_POINTS)?
+    else {
         return Ok(None);
     };
     Ok(Some(Entry::Distillate {

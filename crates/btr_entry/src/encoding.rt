@@ -21,13 +21,16 @@ pub fn append_entry(out: &mut Vec<u8>, entry: &Entry) -> Result<(), AllocError>
     ensures bytes { OnOk result (out.new.items ≡ out.old.items ++ spelling entry.now) }
     ensures spelled { OnOk result (IsSpelled entry.now) }
 {
-    let points = append_front(out, entry)?;
+    let points = append_before_points(out, entry)?;
     append_points(out, points)
 }
 
 /// Appends the spelling of an entry up to its points, and returns the points, whose bytes are the rest of it: none if the entry makes a
 /// stream. It takes time linear in the ranges of the cut. An `Err` means out of memory, and a part may have been appended.
-pub fn append_front<'a>(out: &mut Vec<u8>, entry: &'a Entry) -> Result<&'a [Point], AllocError>
+pub fn append_before_points<'a>(
+    out: &mut Vec<u8>,
+    entry: &'a Entry,
+) -> Result<&'a [Point], AllocError>
     requires { IsWithinBounds entry.now }
     ensures bytes { IfOk result (λ p. out.new.items ++ flat_map point p.now ≡ out.old.items ++ spelling entry.now) }
     ensures spelled { IfOk result (λ p. ValuesFit p.now → IsSpelled entry.now) }

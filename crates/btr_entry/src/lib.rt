@@ -39,7 +39,7 @@ mod encoding;
 mod laws;
 
 pub use decoding::decode;
-pub use encoding::{append_entry, append_front, append_points, spelling_length};
+pub use encoding::{append_before_points, append_entry, append_points, spelling_length};
 pub use fields::{put_byte, put_id, put_u32, put_u64, read_id, read_u32, read_u64};
 pub use laws::one_spelling;
 pub use reads_bytes::{put_reads, read_reads, reads_length};

@@ -1,7 +1,7 @@
 //! The versions that a distillate was computed from as bytes, and back.
 ghost use Rattle.std.specs.Prelude.{◌≡◌, ◌≤◌, ℕ, List, ◌++◌, length, IfSome, IfNone, OnOk};
 ghost use Rattle.std.specs.Int.{w64};
-ghost use Rattle.btr_hist.specs.declared.kernel.Reads.{Reads as ReadsValue};
+ghost use Rattle.btr_hist.specs.declared.kernel.Reads.{Reads as ReadsSpec};
 ghost use Rattle.btr_entry.specs.Grammar.{number, reads_bytes, AreVersions};
 
 use crate::fields::{put_byte, put_u64, read_u64};
@@ -42,7 +42,7 @@ pub fn put_reads(out: &mut Vec<u8>, reads: &Reads) -> Result<(), AllocError>
 pub fn read_reads(bytes: &[u8]) -> Option<(Reads, &[u8])>
     ensures some { IfSome result (λ x. bytes.now ≡ reads_bytes x.0 ++ x.1.now) }
     ensures versions { IfSome result (λ x. AreVersions x.0) }
-    ensures none { IfNone result ((r : ReadsValue) (rest : List ℕ) → AreVersions r → bytes.now ≡ reads_bytes r ++ rest → ⊥) }
+    ensures none { IfNone result ((r : ReadsSpec) (rest : List ℕ) → AreVersions r → bytes.now ≡ reads_bytes r ++ rest → ⊥) }
 {
     let (count, rest) = bytes.split_first()?;
     let (first, rest) = read_version(rest)?;

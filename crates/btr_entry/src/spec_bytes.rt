@@ -1,7 +1,7 @@
 //! The spec of an output as bytes, and back.
 ghost use Rattle.std.specs.Prelude.{◌≡◌, Option, ℕ, ◌<◌, ◌≤◌, ◌^◌, List, ◌∷◌, ◌++◌, length, slice_index_or, IsTrue, IfSome, IfNone, OnOk};
 ghost use Rattle.std.specs.Int.{w32};
-ghost use Rattle.btr_hist.specs.declared.kernel.Kernel.{Kernel as KernelValue};
+ghost use Rattle.btr_hist.specs.declared.kernel.Kernel.{Kernel as KernelSpec};
 ghost use Rattle.btr_hist.specs.declared.kernel.Spec.{Spec as SpecValue};
 ghost use Rattle.btr_hist.specs.Kernel.{is_good};
 ghost use Rattle.btr_entry.specs.Grammar.{one_or_two, kernel_bytes, spec_bytes, KernelFits, IsSpec};
@@ -141,7 +141,7 @@ pub fn read_spec(bytes: &[u8]) -> Option<(Spec, &[u8])>
 fn read_kernel(bytes: &[u8]) -> Option<(Kernel, &[u8])>
     ensures some { IfSome result (λ x. bytes.now ≡ kernel_bytes x.0 ++ x.1.now) }
     ensures fits { IfSome result (λ x. KernelFits x.0) }
-    ensures none { IfNone result ((k : KernelValue) (rest : List ℕ) → bytes.now ≡ kernel_bytes k ++ rest → ⊥) }
+    ensures none { IfNone result ((k : KernelSpec) (rest : List ℕ) → bytes.now ≡ kernel_bytes k ++ rest → ⊥) }
 {
     let (number, rest) = bytes.split_first()?;
     match *number {

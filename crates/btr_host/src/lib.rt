@@ -26,6 +26,3 @@ pub use no_disk::NoDisk;
 pub use renewing::renew_gates;
 pub use std_sink::StdSink;
 pub use std_source::StdSource;
-
-/// Blocks of a device in a file: the greatest number that a store may have.
-const MAX_BLOCKS: u64 = 1 << 32;

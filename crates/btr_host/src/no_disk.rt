@@ -2,9 +2,9 @@
 ghost use Rattle.std.specs.Prelude.{◌≡◌, ◌^◌};
 ghost use Rattle.btr_disk.specs.Causes.{Counted};
 
-use crate::MAX_BLOCKS;
 use crate::count::raise;
 use btr_disk::{Disk, Failed, Parts, Supply};
+use btr_super::MAX_BLOCKS;
 
 /// A device of `2^32` blocks on which each read, write and sync fails: the device of a run without a path, or whose
 /// file cannot be opened. Its contents are not observable.

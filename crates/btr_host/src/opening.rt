@@ -2,10 +2,10 @@
 ghost use Rattle.std.specs.Prelude.{◌≡◌, ◌≤◌, ◌≤ℤ◌, ◌*◌, ◌^◌, pos, IfOk};
 ghost use Rattle.std.specs.Fd.{file_raw_fd};
 
-use crate::MAX_BLOCKS;
 use crate::access::Access;
 use crate::in_use::{claim, is_in_use};
 use btr_disk::BLOCK;
+use btr_super::MAX_BLOCKS;
 use std::fs::{File, FileType, Files, OpenOptions};
 use std::io::{ErrorKind, Seek, SeekFrom};
 use std::os::fd::AsRawFd;

@@ -1,6 +1,6 @@
 //! The two directions: from a page to its bytes, and back.
 ghost use Rattle.std.specs.Prelude.{◌≡◌, IfSome, take, codes};
-ghost use Rattle.btr_node.specs.declared.page.NodePage.{NodePage as PageValue};
+ghost use Rattle.btr_node.specs.declared.page.NodePage.{NodePage as PageSpec};
 ghost use Rattle.btr_node.specs.Page.{page_bytes, Keeps, Spells, Fits};
 
 use crate::filling::{fill_leaf, put_inner_end, put_inner_front};
@@ -57,7 +57,7 @@ pub fn decode(bytes: &[u8; PAGE]) -> Option<NodePage>
     // Its numbers fit their widths, and its aggregates are those of points: so no other page has the same bytes.
     ensures fits { IfSome result (λ page. Fits page) }
     // A page is returned wherever the bytes are those of one.
-    ensures only { (page : PageValue) → Fits page → Spells bytes.now page → result ≡ Some page }
+    ensures only { (page : PageSpec) → Fits page → Spells bytes.now page → result ≡ Some page }
 {
     if bytes[..8] == LEAF_MARK[..] {
         leaf_of(bytes)
@@ -76,7 +76,7 @@ fn leaf_of(bytes: &[u8; PAGE]) -> Option<NodePage>
     requires { take 8 bytes.now ≡ codes "BTR-LEAF" }
     ensures found { IfSome result (λ page. Spells bytes.now page) }
     ensures fits { IfSome result (λ page. Fits page) }
-    ensures only { (page : PageValue) → Fits page → Spells bytes.now page → result ≡ Some page }
+    ensures only { (page : PageSpec) → Fits page → Spells bytes.now page → result ≡ Some page }
 {
     if bytes[40..64] != GAP[..] {
         return None;
@@ -105,7 +105,7 @@ fn inner_of(bytes: &[u8; PAGE]) -> Option<NodePage>
     requires { take 8 bytes.now ≡ codes "BTR-NODE" }
     ensures found { IfSome result (λ page. Spells bytes.now page) }
     ensures fits { IfSome result (λ page. Fits page) }
-    ensures only { (page : PageValue) → Fits page → Spells bytes.now page → result ≡ Some page }
+    ensures only { (page : PageSpec) → Fits page → Spells bytes.now page → result ≡ Some page }
 {
     if bytes[40..64] != GAP[..] || bytes[3648..] != TAIL[..] {
         return None;

@@ -2,8 +2,8 @@
 //! memory is taken for it: a version has at least 16 bytes, and a stream at least 33.
 ghost use Rattle.std.specs.Prelude.{◌≡◌, ℕ, ◌++◌, List, Option, IfOk, IfSome, IfNone};
 ghost use Rattle.btr_hist.specs.declared.kernel.Spec.{Spec as SpecValue};
-ghost use Rattle.btr_hist.specs.declared.kernel.Reads.{Reads as ReadsValue};
-ghost use Rattle.btr_roll.specs.declared.roll.RollVersion.{RollVersion as VersionValue};
+ghost use Rattle.btr_hist.specs.declared.kernel.Reads.{Reads as ReadsSpec};
+ghost use Rattle.btr_roll.specs.declared.roll.RollVersion.{RollVersion as VersionSpec};
 ghost use Rattle.btr_entry.specs.Grammar.{IsSpec};
 ghost use Rattle.btr_roll.specs.Roll.{RollStreamValue, some_reads_bytes, version_bytes, kind_bytes, stream_bytes};
 ghost use Rattle.btr_roll.specs.Roll.{ReadsFit, VersionFits, StreamFits};
@@ -110,7 +110,7 @@ fn read_versions(
     output: bool,
 ) -> Result<Option<(Vec<RollVersion>, &[u8])>, AllocError>
     ensures some { IfOk result (λ o. IfSome o (λ x. AreItems version_bytes (VersionFits output) count bytes.now x.0.items x.1.now)) }
-    ensures none { IfOk result (λ o. IfNone o ((versions : List VersionValue) (rest : List ℕ)
+    ensures none { IfOk result (λ o. IfNone o ((versions : List VersionSpec) (rest : List ℕ)
         → AreItems version_bytes (VersionFits output) count bytes.now versions rest → ⊥)) }
 {
     if count > bytes.len() / 16 {
@@ -132,7 +132,7 @@ fn read_versions(
 fn read_version(bytes: &[u8], output: bool) -> Option<(RollVersion, &[u8])>
     ensures some { IfSome result (λ x. bytes.now ≡ version_bytes x.0 ++ x.1.now) }
     ensures fits { IfSome result (λ x. VersionFits output x.0) }
-    ensures none { IfNone result ((v : VersionValue) (rest : List ℕ)
+    ensures none { IfNone result ((v : VersionSpec) (rest : List ℕ)
         → VersionFits output v → bytes.now ≡ version_bytes v ++ rest → ⊥) }
 {
     let (entry, rest) = read_u64(bytes)?;
@@ -145,7 +145,7 @@ fn read_version(bytes: &[u8], output: bool) -> Option<(RollVersion, &[u8])>
 fn read_some_reads(bytes: &[u8], output: bool) -> Option<(Option<Reads>, &[u8])>
     ensures some { IfSome result (λ x. bytes.now ≡ some_reads_bytes x.0 ++ x.1.now) }
     ensures fits { IfSome result (λ x. ReadsFit output x.0) }
-    ensures none { IfNone result ((reads : Option ReadsValue) (rest : List ℕ)
+    ensures none { IfNone result ((reads : Option ReadsSpec) (rest : List ℕ)
         → ReadsFit output reads → bytes.now ≡ some_reads_bytes reads ++ rest → ⊥) }
 {
     if !output {

@@ -1,6 +1,6 @@
 ghost use Rattle.std.specs.Prelude.{◌≡◌, ◌+◌, ◌<◌, ◌^◌, List, [], ◌∷◌, ◌++◌, Result, OnOk};
-ghost use Rattle.btr_rows.specs.declared.row.Row.{Row as ARow};
-ghost use Rattle.btr_rows.specs.declared.row.RowReason.{RowReason as AReason};
+ghost use Rattle.btr_rows.specs.declared.row.Row.{Row as RowSpec};
+ghost use Rattle.btr_rows.specs.declared.row.RowReason.{RowReason as ReasonSpec};
 ghost use Rattle.btr_rows.specs.Builder.{built_of};
 
 use crate::list::RowList;
@@ -41,7 +41,7 @@ impl Builder {
     pub fn add(&mut self, alloc: Global, said: Result<Row, RowReason>) -> Result<(), AllocError>
         requires { self.old.count + 1 < 2 ^ 64 }
         ensures count { self.new.count ≡ self.old.count + 1 }
-        ensures row { (rows : List (Result ARow AReason)) → self.old ≡ built_of rows
+        ensures row { (rows : List (Result RowSpec ReasonSpec)) → self.old ≡ built_of rows
             → OnOk result (self.new ≡ built_of (rows ++ said ∷ [])) }
     {
         self.count += 1;

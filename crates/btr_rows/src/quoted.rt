@@ -1,7 +1,7 @@
 ghost use Rattle.std.specs.Prelude.{◌≡◌, ◌+◌, ◌<◌, ◌^◌, List, ℕ, ◌++◌, length, map, Result, OnOk, IfOk};
 ghost use Rattle.csv.specs.Records.{fields_of};
-ghost use Rattle.btr_rows.specs.declared.row.Row.{Row as ARow};
-ghost use Rattle.btr_rows.specs.declared.row.RowReason.{RowReason as AReason};
+ghost use Rattle.btr_rows.specs.declared.row.Row.{Row as RowSpec};
+ghost use Rattle.btr_rows.specs.declared.row.RowReason.{RowReason as ReasonSpec};
 ghost use Rattle.btr_rows.specs.Row.{row_of};
 ghost use Rattle.btr_rows.specs.Rows.{records_of};
 ghost use Rattle.btr_rows.specs.Builder.{built_of};
@@ -15,7 +15,7 @@ use std::alloc::{AllocError, Global};
 /// Adds what each record of a text says. An `Err` means out of memory.
 pub fn read_records(alloc: Global, text: &[u8], rows: &mut Builder) -> Result<(), AllocError>
     requires { rows.old.count + length text.now < 2 ^ 64 }
-    ensures { (before : List (Result ARow AReason)) → rows.old ≡ built_of before
+    ensures { (before : List (Result RowSpec ReasonSpec)) → rows.old ≡ built_of before
         → OnOk result (rows.new ≡ built_of (before ++ map row_of (records_of text.now))) }
 {
     let mut reader = ReaderBuilder::new()

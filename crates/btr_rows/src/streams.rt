@@ -1,5 +1,5 @@
 ghost use Rattle.std.specs.Prelude.{◌≡◌, ℕ, List, [], ◌∷◌, ◌++◌, OnOk};
-ghost use Rattle.btr_rows.specs.declared.row.Row.{Row as ARow};
+ghost use Rattle.btr_rows.specs.declared.row.Row.{Row as RowSpec};
 ghost use Rattle.btr_rows.specs.Streams.{by_stream};
 
 use crate::list::StreamRows;
@@ -43,7 +43,7 @@ impl Streams {
     /// Adds a row to its stream. A first row of a stream begins it. It takes time logarithmic in the number of streams. An
     /// `Err` means out of memory.
     pub fn add(&mut self, alloc: Global, number: u64, row: Row) -> Result<(), AllocError>
-        ensures { (rows : List (ℕ × ARow)) → self.old ≡ by_stream rows → OnOk result (self.new ≡ by_stream (rows ++ (number, row) ∷ [])) }
+        ensures { (rows : List (ℕ × RowSpec)) → self.old ≡ by_stream rows → OnOk result (self.new ≡ by_stream (rows ++ (number, row) ∷ [])) }
     {
         let point = NumberedPoint {
             number,

@@ -37,7 +37,7 @@ impl From<Failed> for ChooseFault {
 }
 
 /// Bytes of the two superblocks, gates and bodies.
-const FRONT: usize = 4 * BLOCK;
+const SUPERBLOCKS: usize = 4 * BLOCK;
 
 /// One block of the prefix, if the device has it.
 fn block_of(prefix: &[u8], block: usize) -> Option<&[u8]>
@@ -166,7 +166,7 @@ pub fn choose<D: Disk>(device: &mut D) -> Result<Super, ChooseFault>
 {
     let size = device.blocks();
     let count = size.min(4);
-    let mut bytes = [0; FRONT];
+    let mut bytes = [0; SUPERBLOCKS];
     let prefix = &mut bytes[..BLOCK * count as usize];
     read_prefix(device, prefix)?;
     choose_in(prefix, size)

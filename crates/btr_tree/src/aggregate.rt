@@ -1,7 +1,7 @@
 //! The aggregate of all points of a child.
 ghost use Rattle.std.specs.Prelude.{◌≡◌, ◌<◌, ◌≤◌, ◌^◌, ℕ, ℤ, Bool, List};
 ghost use Rattle.btr_base.specs.Agg.{agg};
-ghost use Rattle.btr_base.specs.declared.point.Point.{Point as APoint};
+ghost use Rattle.btr_base.specs.declared.point.Point.{Point as PointSpec};
 ghost use Rattle.btr_tree.specs.History.{Past, bag};
 ghost use Rattle.btr_tree.specs.Nodes.{points_of};
 ghost use Rattle.btr_tree.specs.Shape.{IsChild};
@@ -15,7 +15,7 @@ use btr_base::{Agg, FAN_OUT};
 /// Returns the aggregate of a child's points, by its own points or by its slots.
 pub(crate) fn agg_of_child(child: Child<'_>) -> Agg
     requires { IsCounted (node_of child) }
-    ensures { (height : ℕ) (start : ℤ) (above : List APoint → Bool) (h : Past) → IsChild height start above h (node_of child.entry)
+    ensures { (height : ℕ) (start : ℤ) (above : List PointSpec → Bool) (h : Past) → IsChild height start above h (node_of child.entry)
         → result ≡ agg (points_of height start (bag h)) }
 {
     match child.node {

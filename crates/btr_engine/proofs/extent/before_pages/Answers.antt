@@ -15,7 +15,7 @@ pub returns-clause-bytes : goal.returns-clause-bytes
 returns-clause-bytes g c =
     let head = head_bytes c.args.head.now in
     let content = spelling c.args.entry.now in
-    let before = c.append_front.new.out.items in
+    let before = c.append_before_points.new.out.items in
     let written = c.append.new.self in
     let front_is : c.put_head.new.extent.items ≡ head = c.in_ok-put_head.ensures ∙ ap (λ l. l ++ head) c.new-front.ensures.items in
     let written_is : written ≡ head ++ content = c.in_ok-append.ensures.added ∙ ap (λ l. l ++ c.in_ok-points-2.field-0) c.in_ok-extent.ensures ∙ ap (λ l. before ++ l) c.in_ok-points-2.ensures.bytes ∙ c.in_ok-points.ensures.bytes ∙ ap (λ l. l ++ content) front_is in
