@@ -1,4 +1,4 @@
--- Blocks that are put in pieces: a piece has the blocks of its supply, and the pieces so far have all of them.
+-- Blocks that are put in pieces: a piece has the blocks of its source, and the pieces so far have all of them.
 use Rattle.std.specs.Prelude.{◌≡◌, ℕ, ◌+◌, ◌-◌, ◌*◌, ◌/◌, ◌%◌, ◌<◌, ◌≤◌, List, [], ◌∷◌, Bool, true, false, not, ◌||◌, length, take, drop}
 use Rattle.std.proofs.Common.{get_or, refl, zero, suc, sym, ◌∙◌, ap, subst, arith, ⊎_elim, length-take, length-drop, get_or-take, get_or-drop}
 use Rattle.std.proofs.lemmas.Bool.{cases_lt}

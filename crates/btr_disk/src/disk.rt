@@ -6,7 +6,7 @@ ghost use Rattle.btr_disk.specs.Moments.{Elapses};
 ghost use Rattle.btr_disk.specs.Calls.{ReadsBytes, WritesBytes};
 ghost use Rattle.btr_disk.specs.Causes.{Counted, HasCause};
 
-use crate::{Parts, Supply};
+use crate::{BlockSource, Parts};
 
 /// Bytes in a block.
 pub const BLOCK: usize = 4096;
@@ -18,7 +18,7 @@ pub struct Failed;
 /// A device of blocks of 4096 bytes.
 ///
 /// The caller passes a buffer that is a whole positive number of blocks inside the device. No call
-/// allocates memory, but a supply may start threads. Each call is counted, and so is each failure.
+/// allocates memory, but a source may start threads. Each call is counted, and so is each failure.
 ///
 /// A device whose type is observable promises what a read returns and what a crash may leave. After a
 /// write, whether it succeeds or fails, a crash may leave any bytes in the written blocks. A sync
@@ -72,15 +72,20 @@ pub trait Disk {
         ensures writes { is_observable
             → WritesBytes calls contents images_now images_since (4096 * first) bytes.now self.old self.new result };
 
-    /// Writes `front` and then the blocks of `rest` as [`Disk::write`] does, in one call.
-    fn write_parts<S: Supply>(&mut self, first: u64, front: &Parts, rest: &S) -> Result<(), Failed>
+    /// Writes `prefix` and then the blocks of `rest` as [`Disk::write`] does, in one call.
+    fn write_parts<S: BlockSource>(
+        &mut self,
+        first: u64,
+        prefix: &Parts,
+        rest: &S,
+    ) -> Result<(), Failed>
         requires able { S.can_work }
-        requires range { IsBlockRange (size self.old) first (length (front.now ++ S.bytes rest.now)) }
+        requires range { IsBlockRange (size self.old) first (length (prefix.now ++ S.bytes rest.now)) }
         ensures size { size self.new ≡ size self.old }
         ensures calls { Counted (calls self.old) (calls self.new) }
         ensures cause { HasCause (faults self.old) (faults self.new) result }
         ensures writes { is_observable
-            → WritesBytes calls contents images_now images_since (4096 * first) (front.now ++ S.bytes rest.now) self.old self.new result };
+            → WritesBytes calls contents images_now images_since (4096 * first) (prefix.now ++ S.bytes rest.now) self.old self.new result };
 
     /// After a sync that succeeds a crash leaves what a read returns. A sync that fails changes nothing.
     fn sync(&mut self) -> Result<(), Failed>

@@ -2,7 +2,7 @@
 ghost use Rattle.std.specs.Prelude.{◌≡◌, ◌+◌, ◌<◌, ℕ, length};
 
 use crate::memory::fault;
-use crate::{Disk, Failed, Parts, Supply};
+use crate::{BlockSource, Disk, Failed, Parts};
 
 /// A device that passes a number of calls on to another device, and then fails each call, as at a stop.
 ///
@@ -130,23 +130,28 @@ impl<D: Disk> Disk for FuseDisk<D> {
     }
 
     /// The clauses of the trait, and one more: which calls reach the other device and fail.
-    fn write_parts<S: Supply>(&mut self, first: u64, front: &Parts, rest: &S) -> Result<(), Failed>
+    fn write_parts<S: BlockSource>(
+        &mut self,
+        first: u64,
+        prefix: &Parts,
+        rest: &S,
+    ) -> Result<(), Failed>
         requires able { S.can_work }
-        requires range { IsBlockRange (D.size self.old.disk) first (length (front.now ++ S.bytes rest.now)) }
+        requires range { IsBlockRange (D.size self.old.disk) first (length (prefix.now ++ S.bytes rest.now)) }
         ensures size { D.size self.new.disk ≡ D.size self.old.disk }
         ensures calls { Counted (fuse_calls self.old) (fuse_calls self.new) }
         ensures cause { HasCause (fuse_faults self.old) (fuse_faults self.new) result }
         ensures writes { D.is_observable
-            → WritesBytes fuse_calls fuse_contents fuse_images fuse_since (4096 * first) (front.now ++ S.bytes rest.now)
+            → WritesBytes fuse_calls fuse_contents fuse_images fuse_since (4096 * first) (prefix.now ++ S.bytes rest.now)
             self.old self.new result }
         ensures cut_off { CutsOffIfSpent self.old self.new (IsErr result) }
     {
         if self.left == 0 {
-            let _ = self.disk.write_parts(first, front, rest);
+            let _ = self.disk.write_parts(first, prefix, rest);
             return Err(fault(&mut self.failed));
         }
         self.left -= 1;
-        self.disk.write_parts(first, front, rest)
+        self.disk.write_parts(first, prefix, rest)
     }
 
     /// The clauses of the trait, and one more: which calls are withheld.

@@ -1,10 +1,10 @@
 //! Blocks that are in memory, for tests.
 ghost use Rattle.std.specs.Prelude.{◌≡◌, ◌%◌, length};
 
-use crate::{BLOCK, Blocks, Outlet, Supply, write_alone};
+use crate::{BLOCK, BlockSink, BlockSource, Blocks, write_alone};
 use std::marker::Sync;
 
-/// A supply of blocks that are in memory. The calling thread has them written.
+/// A source of blocks that are in memory. The calling thread has them written.
 #[derive(Drop)]
 pub struct HeldBlocks<'a> {
     bytes: &'a [u8],
@@ -34,12 +34,12 @@ impl Blocks for HeldBlocks<'_> {
     }
 }
 
-impl Supply for HeldBlocks<'_> {
+impl BlockSource for HeldBlocks<'_> {
     ghost use Rattle.std.specs.Prelude.{⊤};
 
     ghost can_work = { ⊤ };
 
-    fn write_to(&self, outlet: &(dyn Outlet + Sync)) -> bool {
-        write_alone(self, outlet)
+    fn write_to(&self, sink: &(dyn BlockSink + Sync)) -> bool {
+        write_alone(self, sink)
     }
 }

@@ -5,6 +5,7 @@
 //! that succeeded may hold any bytes, and each other block holds what a read returns.
 #![tactic(auto)]
 
+mod block_source;
 pub mod bytes;
 mod call_record;
 mod disk;
@@ -16,9 +17,9 @@ pub mod laws;
 mod memory;
 mod parts;
 mod putting;
-mod supply;
 mod torn;
 
+pub use block_source::{BlockSink, BlockSource, Blocks, NoBlocks};
 pub use disk::{BLOCK, Disk, Failed};
 pub use fuse::FuseDisk;
 pub use gate::{GATE_MARK, is_open_gate, open_gate, publish};
@@ -27,4 +28,3 @@ pub use image::Fill;
 pub use memory::{Capacity, MemDisk};
 pub use parts::Parts;
 pub use putting::{write_alone, write_by_threads};
-pub use supply::{Blocks, NoBlocks, Outlet, Supply};

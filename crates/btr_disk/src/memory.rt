@@ -8,7 +8,7 @@ ghost use Rattle.btr_disk.specs.Images.{Only};
 ghost use Rattle.btr_disk.specs.Causes.{Counted};
 
 use crate::call_record::{Call, CallRecord};
-use crate::{BLOCK, Blocks, Disk, Failed, Fill, Parts, Supply};
+use crate::{BLOCK, BlockSource, Blocks, Disk, Failed, Fill, Parts};
 use std::alloc::{AllocError, Global};
 
 /// How much a [`MemDisk`] can remember.
@@ -306,20 +306,25 @@ impl Disk for MemDisk {
     }
 
     /// The clauses of the trait, and one more: which calls fail, and that this list and the capacity stay.
-    fn write_parts<S: Supply>(&mut self, first: u64, front: &Parts, rest: &S) -> Result<(), Failed>
+    fn write_parts<S: BlockSource>(
+        &mut self,
+        first: u64,
+        prefix: &Parts,
+        rest: &S,
+    ) -> Result<(), Failed>
         requires able { S.can_work }
-        requires range { IsBlockRange (length self.old.bytes.items / 4096) first (length (front.now ++ S.bytes rest.now)) }
+        requires range { IsBlockRange (length self.old.bytes.items / 4096) first (length (prefix.now ++ S.bytes rest.now)) }
         ensures size { length self.new.bytes.items / 4096 ≡ length self.old.bytes.items / 4096 }
         ensures calls { Counted (memory_calls self.old) (memory_calls self.new) }
         ensures cause { HasCause self.old.faults self.new.faults result }
-        ensures fails { FailsAsListed (length (front.now ++ S.bytes rest.now)) self.old self.new (IsErr result) }
+        ensures fails { FailsAsListed (length (prefix.now ++ S.bytes rest.now)) self.old self.new (IsErr result) }
         ensures writes { WritesBytes memory_calls memory_contents images_of since_of
-            (4096 * first) (front.now ++ S.bytes rest.now) self.old self.new result }
+            (4096 * first) (prefix.now ++ S.bytes rest.now) self.old self.new result }
     {
         let at = BLOCK * first as usize;
-        self.begin_write(first, front.len() + BLOCK * rest.blocks())?;
-        overwrite_parts(&mut self.bytes, at, front.as_slices());
-        overwrite_blocks(&mut self.bytes, at + front.len(), rest);
+        self.begin_write(first, prefix.len() + BLOCK * rest.blocks())?;
+        overwrite_parts(&mut self.bytes, at, prefix.as_slices());
+        overwrite_blocks(&mut self.bytes, at + prefix.len(), rest);
         Ok(())
     }
 

@@ -12,7 +12,7 @@ use Rattle.btr_pages.specs.Pages.{page_of, pages_of}
 use Rattle.btr_hist.specs.declared.entry.Entry.{Entry}
 use Rattle.btr_entry.specs.Grammar.{spelling}
 use Rattle.btr_engine.specs.Body.{padding, body_of, extent_bytes}
-use Rattle.btr_engine.specs.Late.{late_bytes}
+use Rattle.btr_engine.specs.Streamed.{streamed_bytes}
 
 -- A head and a content, and zeros up to the end of the last block of the content.
 pub filled_up : (written run : List ℕ) (content size filled : ℕ) → length written ≡ 64 + content → size ≡ content_blocks content * 4096 → filled ≡ length written → run ≡ take size written ++ replicate (size - filled) 0 → run ≡ written ++ zeros (padding content)
@@ -36,13 +36,13 @@ unfolding zeros
 zero_block = refl
 
 -- A head, a content and zeros, one after the other.
-pub in_order : (head front written first content padded : List ℕ) → front ≡ [] ++ head → written ≡ front ++ content → first ≡ written ++ padded → first ≡ head ++ (content ++ padded)
-in_order head front written first content padded front_is written_is first_is =
-    first_is ∙ ap (λ l. l ++ padded) (written_is ∙ ap (λ l. l ++ content) front_is) ∙ append_assoc head content padded
+pub in_order : (head prefix written first content padded : List ℕ) → prefix ≡ [] ++ head → written ≡ prefix ++ content → first ≡ written ++ padded → first ≡ head ++ (content ++ padded)
+in_order head prefix written first content padded prefix_is written_is first_is =
+    first_is ∙ ap (λ l. l ++ padded) (written_is ∙ ap (λ l. l ++ content) prefix_is) ∙ append_assoc head content padded
 
--- A head, a content and zeros, and then the blocks that are made late.
-pub late_is : (head : Head) (e : Entry) (stream : ℕ) (nodes : List NewNodeValue) (front : List ℕ) → front ≡ head_bytes head ++ (spelling e ++ zeros (padding (length (spelling e)))) → front ++ late_bytes true stream nodes ≡ extent_bytes head (spelling e) (pages_of stream nodes)
-late_is head e stream nodes front is =
+-- A head, a content and zeros, and then the blocks that are streamed.
+pub streamed_is : (head : Head) (e : Entry) (stream : ℕ) (nodes : List NewNodeValue) (prefix : List ℕ) → prefix ≡ head_bytes head ++ (spelling e ++ zeros (padding (length (spelling e)))) → prefix ++ streamed_bytes true stream nodes ≡ extent_bytes head (spelling e) (pages_of stream nodes)
+streamed_is head e stream nodes prefix is =
     let content = spelling e ++ zeros (padding (length (spelling e))) in
     let bytes = flat_map page_bytes (pages_of stream nodes) in
     ap (λ l. l ++ (bytes ++ zeros 4096)) is

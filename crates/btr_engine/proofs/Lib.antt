@@ -2,7 +2,7 @@ pub mod BodyLemmas
 pub mod NeedLemmas
 pub mod EngineLemmas
 mod ExtentBytes
-mod LateLemmas
+mod StreamedLemmas
 mod FirstNode
 mod Streams
 pub mod HoldsLemmas

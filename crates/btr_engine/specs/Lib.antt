@@ -1,6 +1,6 @@
 -- the bytes of an extent
 pub mod Body
-pub mod Late
+pub mod Streamed
 -- to which nodes roots lead
 pub mod Roots
 -- which history a device holds

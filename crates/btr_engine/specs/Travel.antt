@@ -23,7 +23,7 @@ use Rattle.btr_engine.specs.declared.travel.Ready.{Ready}
 use Rattle.btr_engine.specs.declared.travel.Return.{Return}
 use Rattle.btr_engine.specs.declared.travel.Return.TheVariants.{Untouched, Written, Failed}
 use Rattle.btr_engine.specs.Body.{body_of, first_page}
-use Rattle.btr_engine.specs.Late.{late_bytes}
+use Rattle.btr_engine.specs.Streamed.{streamed_bytes}
 use Rattle.btr_streams.specs.Board.{Kept, IsBoardOf}
 use Rattle.btr_engine.specs.Stored.{AreStored}
 use Rattle.btr_streams.specs.Rolling.{HaveRoots}
@@ -39,9 +39,9 @@ use Rattle.btr_engine.specs.Engine.{log_of, board_of, entries_of, super_of, entr
 abbrev pub written_pages : Staged → List NodePage
 written_pages s = pages_of s.receipt.stream s.nodes.items
 
--- The run that is to be appended: what was made of the extent before it is written, and the blocks that are made late.
+-- The run that is to be appended: what was made of the extent before it is written, and the blocks that are streamed.
 abbrev pub run_of : Ready → List ℕ
-run_of r = r.front ++ late_bytes r.is_late r.staged.receipt.stream r.staged.nodes.items
+run_of r = r.prefix ++ streamed_bytes r.is_streamed r.staged.receipt.stream r.staged.nodes.items
 
 -- The run is the extent of the entry, and one block of zeros. The extent has the number of entries of the board that was staged, and the
 -- root and the pages of what was staged. The receipt says this number.
@@ -50,7 +50,7 @@ pub record IsMade (e : Entry) (r : Ready) : Type 0 where
   pub bytes : run_of r ≡ body_of r.staged.next.entries e r.staged.root (written_pages r.staged) ++ zeros 4096
   pub low : r.staged.root < 2 ^ 64
   pub room : content_blocks (length (spelling e)) + length r.staged.nodes.items < 2 ^ 64
-  pub few : r.is_late ≡ true → length r.staged.nodes.items < 2 ^ 62
+  pub few : r.is_streamed ≡ true → length r.staged.nodes.items < 2 ^ 62
   pub numbered : r.staged.receipt.number ≡ r.staged.next.entries
 
 -- The block is that of the first node of an entry, if the gate before its extent is block `tail`. An entry that makes a stream has no

@@ -9,12 +9,12 @@ ghost use Rattle.btr_pages.specs.Pages.{pages_of};
 ghost use Rattle.btr_entry.specs.Grammar.{spelling, IsSpelled, IsWithinBounds};
 ghost use Rattle.btr_roll.specs.Roll.{IsRollWithinBounds};
 ghost use Rattle.btr_engine.specs.Body.{padding, body_of, extent_bytes};
-ghost use Rattle.btr_engine.specs.Late.{late_bytes};
+ghost use Rattle.btr_engine.specs.Streamed.{streamed_bytes};
 ghost use Rattle.btr_engine.specs.Mark.{body_of_roll};
 ghost use Rattle.btr_engine.specs.Travel.{written_pages};
 
-use crate::late::fill_blocks;
 use crate::maker::Maker;
+use crate::streamed::fill_blocks;
 use btr_disk::{BLOCK, Parts};
 use btr_entry::{append_before_points, append_entry, spelling_length};
 use btr_hist::Entry;
@@ -24,23 +24,23 @@ use btr_streams::Staged;
 use btr_tree::NewNode;
 use std::alloc::{AllocError, Global};
 
-/// The least number of nodes whose pages several threads make late.
+/// The least number of nodes whose pages several threads stream.
 const LEAST_NODES: usize = 512;
 
-/// The least number of nodes whose pages one thread makes late. The memory for fewer is often at hand, left from an extent before.
+/// The least number of nodes whose pages one thread streams. The memory for fewer is often at hand, left from an extent before.
 const LEAST_NODES_ALONE: usize = 4096;
 
-/// The most nodes whose pages are made late: more than a device has blocks.
+/// The most nodes whose pages are streamed: more than a device has blocks.
 const MOST_NODES: usize = 1 << 40;
 
 /// What is made of an extent before it is written.
 #[derive(Drop)]
 pub(crate) struct Extent {
     /// The bytes, up to those that are made while they are written.
-    pub(crate) front: Parts,
+    pub(crate) prefix: Parts,
 
     /// Whether the pages, and the block of zeros after them, are made while they are written.
-    pub(crate) is_late: bool,
+    pub(crate) is_streamed: bool,
 }
 
 /// Returns the body of an entry that was staged, followed by one block of zeros: with the number of its receipt, its root, and the pages of
@@ -55,9 +55,9 @@ pub(crate) fn encode_extent<M: Maker>(
     requires able { M.can_make }
     requires bounds { IsWithinBounds entry.now }
     requires number { 1 ≤ staged.now.receipt.number }
-    ensures bytes { IfOk result (λ x. x.front ++ late_bytes x.is_late staged.now.receipt.stream staged.now.nodes.items
+    ensures bytes { IfOk result (λ x. x.prefix ++ streamed_bytes x.is_streamed staged.now.receipt.stream staged.now.nodes.items
         ≡ body_of staged.now.receipt.number entry.now staged.now.root (written_pages staged.now) ++ zeros 4096) }
-    ensures few { IfOk result (λ x. x.is_late ≡ true → length staged.now.nodes.items < 2 ^ 62) }
+    ensures few { IfOk result (λ x. x.is_streamed ≡ true → length staged.now.nodes.items < 2 ^ 62) }
     ensures spelled { OnOk result (IsSpelled entry.now) }
     ensures low { OnOk result (staged.now.root < 2 ^ 64) }
     ensures room { OnOk result (content_blocks (length (spelling entry.now)) + length staged.now.nodes.items < 2 ^ 64) }
@@ -71,20 +71,20 @@ pub(crate) fn encode_extent<M: Maker>(
         staged.root,
     );
     if nodes.len() < least_nodes(maker) || nodes.len() > MOST_NODES {
-        let front = in_one_part(alloc, &head, entry, receipt.stream, nodes)?;
+        let prefix = in_one_part(alloc, &head, entry, receipt.stream, nodes)?;
         return Ok(Extent {
-            front,
-            is_late: false,
+            prefix,
+            is_streamed: false,
         });
     }
-    let front = before_pages(maker, alloc, &head, entry)?;
+    let prefix = before_pages(maker, alloc, &head, entry)?;
     Ok(Extent {
-        front,
-        is_late: true,
+        prefix,
+        is_streamed: true,
     })
 }
 
-/// The least number of nodes whose pages are made late.
+/// The least number of nodes whose pages are streamed.
 fn least_nodes<M: Maker>(maker: &M) -> usize {
     if maker.threads() < 2 {
         LEAST_NODES_ALONE
@@ -128,10 +128,10 @@ fn before_pages<M: Maker>(
     ensures bytes { IfOk result (λ p. p ≡ head_bytes head.now ++ (spelling entry.now ++ zeros (padding (length (spelling entry.now))))) }
     ensures spelled { OnOk result (IsSpelled entry.now) }
 {
-    let mut front = Vec::new(alloc);
-    put_head(&mut front, head)?;
-    let points = append_before_points(&mut front, entry)?;
-    let mut extent = Parts::of(alloc, front)?;
+    let mut prefix = Vec::new(alloc);
+    put_head(&mut prefix, head)?;
+    let points = append_before_points(&mut prefix, entry)?;
+    let mut extent = Parts::of(alloc, prefix)?;
     extent.append(maker.points(alloc, points)?)?;
     extent.push(zeros_after(alloc, spelling_length(entry))?)?;
     Ok(extent)
@@ -201,7 +201,7 @@ fn zeros_after(alloc: Global, content: u64) -> Result<Vec<u8>, AllocError>
 
 /// Appends the pages of nodes of a stream, one in each block, and one block of zeros. An `Err` is out of memory.
 fn put_pages(extent: &mut Vec<u8>, stream: u32, nodes: &[NewNode]) -> Result<(), AllocError>
-    ensures { OnOk result (extent.new.items ≡ extent.old.items ++ late_bytes true stream nodes.now) }
+    ensures { OnOk result (extent.new.items ≡ extent.old.items ++ streamed_bytes true stream nodes.now) }
 {
     let begin = extent.len();
     let Some(end) = begin.checked_add(bytes_of(nodes.len() as u64)?) else {

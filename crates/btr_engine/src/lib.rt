@@ -12,8 +12,8 @@
 mod extent;
 mod extent_parts;
 mod first_node;
-mod late;
 mod maker;
+mod streamed;
 // the engine
 mod checkpoint;
 mod engine;
@@ -24,8 +24,8 @@ mod travel;
 
 pub use btr_streams::{Alone, Board, Crew, PushFault, Receipt, Snapshot, Staged, TreeMaker};
 pub use engine::Engine;
-pub use late::LatePages;
 pub use maker::Maker;
 pub use remains::Remains;
 pub use step::StepFault;
+pub use streamed::StreamedPages;
 pub use travel::{Ready, Return};

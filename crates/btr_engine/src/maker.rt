@@ -3,12 +3,12 @@ ghost use Rattle.std.specs.Prelude.{◌≡◌, ◌*◌, ◌≤◌, length, IfOk,
 ghost use Rattle.std.specs.List.{flat_map};
 ghost use Rattle.btr_entry.specs.Grammar.{point, ValuesFit};
 ghost use Rattle.btr_disk.specs.Put.{HasBlocks};
-ghost use Rattle.btr_engine.specs.Late.{late_bytes};
+ghost use Rattle.btr_engine.specs.Streamed.{streamed_bytes};
 
 use crate::extent_parts::{points_by, points_in};
-use crate::late::LatePages;
+use crate::streamed::StreamedPages;
 use btr_base::Point;
-use btr_disk::{Outlet, Parts, write_alone, write_by_threads};
+use btr_disk::{BlockSink, Parts, write_alone, write_by_threads};
 use btr_streams::{Alone, Crew, TreeMaker};
 use std::alloc::{AllocError, Global};
 use std::marker::Sync;
@@ -19,15 +19,15 @@ pub trait Maker: TreeMaker {
     /// The greatest number of threads that work at once, the calling one among them.
     fn threads(&self) -> usize;
 
-    /// Has the outlet write its front and each of the blocks. Returns whether all of it was written, and false only if a call of the outlet
+    /// Has the sink write its prefix and each of the blocks. Returns whether all of it was written, and false only if a call of the sink
     /// returned false.
-    fn write_late(&self, blocks: &LatePages<'_>, outlet: &(dyn Outlet + Sync)) -> bool
+    fn write_streamed(&self, blocks: &StreamedPages<'_>, sink: &(dyn BlockSink + Sync)) -> bool
         requires able { Self.can_make }
-        requires room { length (late_bytes blocks.now.is_late blocks.now.stream blocks.now.nodes.now) ≤ 4096 * room outlet.now }
-        ensures front { IsTrue result → has_front outlet.now }
+        requires room { length (streamed_bytes blocks.now.is_streamed blocks.now.stream blocks.now.nodes.now) ≤ 4096 * room sink.now }
+        ensures prefix { IsTrue result → has_prefix sink.now }
         ensures blocks { IsTrue result
-            → HasBlocks (has_block outlet.now) (late_bytes blocks.now.is_late blocks.now.stream blocks.now.nodes.now) }
-        ensures failed { IsFalse result → has_failed outlet.now };
+            → HasBlocks (has_block sink.now) (streamed_bytes blocks.now.is_streamed blocks.now.stream blocks.now.nodes.now) }
+        ensures failed { IsFalse result → has_failed sink.now };
 
     /// Returns the bytes of points as an entry has them. An `Err` is out of memory.
     fn points(&self, alloc: Global, points: &[Point]) -> Result<Parts, AllocError>
@@ -41,8 +41,8 @@ impl Maker for Alone {
         1
     }
 
-    fn write_late(&self, blocks: &LatePages<'_>, outlet: &(dyn Outlet + Sync)) -> bool {
-        write_alone(blocks, outlet)
+    fn write_streamed(&self, blocks: &StreamedPages<'_>, sink: &(dyn BlockSink + Sync)) -> bool {
+        write_alone(blocks, sink)
     }
 
     fn points(&self, alloc: Global, points: &[Point]) -> Result<Parts, AllocError> {
@@ -55,8 +55,8 @@ impl<R: Threads + Sync> Maker for Crew<'_, R> {
         self.threads
     }
 
-    fn write_late(&self, blocks: &LatePages<'_>, outlet: &(dyn Outlet + Sync)) -> bool {
-        write_by_threads(self.rt, blocks, self.threads, outlet)
+    fn write_streamed(&self, blocks: &StreamedPages<'_>, sink: &(dyn BlockSink + Sync)) -> bool {
+        write_by_threads(self.rt, blocks, self.threads, sink)
     }
 
     fn points(&self, alloc: Global, points: &[Point]) -> Result<Parts, AllocError> {

@@ -10,9 +10,9 @@ ghost use Rattle.btr_engine.specs.Travel.{HoldsEntry, LeavesEntry, IsTaken, Sett
 use crate::engine::Engine;
 use crate::extent::{Extent, encode_extent};
 use crate::first_node::first_node;
-use crate::late::{LateBlocks, LatePages};
 use crate::maker::Maker;
 use crate::step::StepFault;
+use crate::streamed::{PageSource, StreamedPages};
 use btr_disk::{BLOCK, Disk, Failed, Parts};
 use btr_hist::Entry;
 use btr_log::Log;
@@ -26,10 +26,10 @@ pub struct Ready {
     pub(crate) staged: Staged,
 
     /// The body of the entry with the pages of its nodes, and one block of zeros, up to those that are made while they are written.
-    pub(crate) front: Parts,
+    pub(crate) prefix: Parts,
 
     /// Whether the pages, and the block of zeros after them, are made while they are written.
-    pub(crate) is_late: bool,
+    pub(crate) is_streamed: bool,
 }
 
 /// How a log comes back to the engine that it was taken out of.
@@ -48,11 +48,11 @@ pub enum Return {
 impl Ready {
     /// The number of blocks of the extent of the entry and of the block of zeros after it.
     fn blocks(&self) -> u64
-        requires { self.now.is_late ≡ true → length self.now.staged.nodes.items < 2 ^ 62 }
+        requires { self.now.is_streamed ≡ true → length self.now.staged.nodes.items < 2 ^ 62 }
         ensures { result ≡ length (run_of self.now) / 4096 }
     {
-        let made = (self.front.len() / BLOCK) as u64;
-        if self.is_late {
+        let made = (self.prefix.len() / BLOCK) as u64;
+        if self.is_streamed {
             return made + self.staged.nodes.len() as u64 + 1;
         }
         made
@@ -75,15 +75,15 @@ impl Ready {
         ensures moments { (e : EntrySpec) → IsReadyFor log e self.now → LeavesEntry log result.0 e self.now }
     {
         let mut log = log;
-        let late = LateBlocks {
+        let source = PageSource {
             maker,
-            pages: LatePages {
+            pages: StreamedPages {
                 stream: self.staged.receipt.stream,
                 nodes: &self.staged.nodes,
-                is_late: self.is_late,
+                is_streamed: self.is_streamed,
             },
         };
-        if let Err(_fault) = log.append(&self.front, &late) {
+        if let Err(_fault) = log.append(&self.prefix, &source) {
             return (log, Err(Failed));
         }
         (log, Ok(()))
@@ -160,11 +160,14 @@ impl<D: Disk> Engine<D> {
     {
         let first = first_node(tail, entry);
         let staged = self.board.stage(maker, alloc, entry, first)?;
-        let Extent { front, is_late } = encode_extent(maker, alloc, entry, &staged)?;
+        let Extent {
+            prefix,
+            is_streamed,
+        } = encode_extent(maker, alloc, entry, &staged)?;
         Ok(Ready {
             staged,
-            front,
-            is_late,
+            prefix,
+            is_streamed,
         })
     }
 

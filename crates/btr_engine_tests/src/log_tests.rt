@@ -102,9 +102,9 @@ fn run_in_two(alloc: Global, head: &Head) -> Result<(Parts, Vec<u8>), AllocError
     ensures run { IfOk result (λ r. IsAppendRun (r.0 ++ r.1.items)) }
     ensures block { IfOk result (λ r. length r.1.items ≡ 4096) }
 {
-    let front = Parts::of(alloc, body_of(alloc, head)?)?;
+    let prefix = Parts::of(alloc, body_of(alloc, head)?)?;
     let zeros = vec![in alloc; 0; BLOCK]?;
-    Ok((front, zeros))
+    Ok((prefix, zeros))
 }
 
 /// The head of an entry with this number and a content of `length` bytes.
@@ -276,7 +276,7 @@ fn the_gate_at_the_tail_is_closed(rt: HostRuntime) -> Result<(), Fail> {
     Ok(())
 }
 
-/// Appends a body of two blocks, with the block of zeros from a supply, to a log of this many blocks. Returns what the append gave, what
+/// Appends a body of two blocks, with the block of zeros from a source, to a log of this many blocks. Returns what the append gave, what
 /// the log says, and the calls of the device.
 fn two_blocks_in(
     alloc: Global,
@@ -285,9 +285,9 @@ fn two_blocks_in(
     requires some { 5 ≤ blocks }
     requires few { blocks ≤ 2 ^ 10 }
 {
-    let (front, zeros) = run_in_two(alloc, &entry(1, 2, 5000))?;
+    let (prefix, zeros) = run_in_two(alloc, &entry(1, 2, 5000))?;
     let mut log = log_of(alloc, blocks, Vec::new(alloc))?;
-    let appended = log.append(&front, &HeldBlocks::new(&zeros));
+    let appended = log.append(&prefix, &HeldBlocks::new(&zeros));
     let state = state_of(&log);
     Ok((appended, state, log.into_disk().calls()))
 }

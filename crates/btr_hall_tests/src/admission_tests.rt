@@ -5,7 +5,7 @@ ghost use Rattle.btr_engine.specs.Engine.{is_home};
 ghost use Rattle.btr_hall.specs.Session.{IsSessionOf, share_of};
 
 use crate::fixture::{Stepped, first_super, wait_for};
-use btr_disk::{Capacity, Disk, Failed, MemDisk, Parts, Supply};
+use btr_disk::{BlockSource, Capacity, Disk, Failed, MemDisk, Parts};
 use btr_engine::{Board, Engine, Receipt};
 use btr_hall::{Hall, Session};
 use btr_hist::Entry;
@@ -79,13 +79,13 @@ impl<'a> Disk for WaitingDisk<'a> {
         self.disk.write(first, bytes)
     }
 
-    fn write_parts<S: Supply>(
+    fn write_parts<S: BlockSource>(
         &mut self,
         first: u64,
-        front: &Parts,
+        prefix: &Parts,
         rest: &S,
     ) -> Result<(), Failed> {
-        self.disk.write_parts(first, front, rest)
+        self.disk.write_parts(first, prefix, rest)
     }
 
     fn sync(&mut self) -> Result<(), Failed> {

@@ -4,11 +4,11 @@ ghost use Rattle.std.specs.Fd.{file_raw_fd};
 ghost use Rattle.btr_disk.specs.Causes.{Counted, HasCause};
 
 use crate::access::Access;
+use crate::block_sink::FileBlockSink;
 use crate::count::raise;
 use crate::opening::{Opened, open_at};
-use crate::outlet::FileOutlet;
 use crate::renewing::renew_gates;
-use btr_disk::{BLOCK, Disk, Failed, Parts, Supply};
+use btr_disk::{BLOCK, BlockSource, Disk, Failed, Parts};
 use std::fs::{File, Files};
 use std::io;
 use std::io::ErrorKind;
@@ -180,20 +180,20 @@ impl Disk for FileDisk {
         self.changed(answer.is_ok())
     }
 
-    fn write_parts<S: Supply>(
+    fn write_parts<S: BlockSource>(
         &mut self,
         first: u64,
-        front: &Parts,
+        prefix: &Parts,
         rest: &S,
     ) -> Result<(), Failed> {
         raise(&mut self.calls);
         let offset = first * BLOCK as u64;
         let room = rest.blocks();
-        self.lengthen(offset + (front.len() + room * BLOCK) as u64);
-        let is_written = rest.write_to(&FileOutlet {
+        self.lengthen(offset + (prefix.len() + room * BLOCK) as u64);
+        let is_written = rest.write_to(&FileBlockSink {
             file: &self.file,
             offset,
-            front,
+            prefix,
             room,
         });
         self.changed(is_written)

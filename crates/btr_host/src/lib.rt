@@ -8,13 +8,13 @@
 #![tactic(auto)]
 
 mod access;
+mod block_sink;
 mod count;
 mod file_disk;
 mod in_use;
 mod log_end;
 mod no_disk;
 mod opening;
-mod outlet;
 mod renewing;
 mod std_sink;
 mod std_source;

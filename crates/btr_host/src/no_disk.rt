@@ -3,7 +3,7 @@ ghost use Rattle.std.specs.Prelude.{◌≡◌, ◌^◌};
 ghost use Rattle.btr_disk.specs.Causes.{Counted};
 
 use crate::count::raise;
-use btr_disk::{Disk, Failed, Parts, Supply};
+use btr_disk::{BlockSource, Disk, Failed, Parts};
 use btr_super::MAX_BLOCKS;
 
 /// A device of `2^32` blocks on which each read, write and sync fails: the device of a run without a path, or whose
@@ -64,10 +64,10 @@ impl Disk for NoDisk {
         Err(self.fail())
     }
 
-    fn write_parts<S: Supply>(
+    fn write_parts<S: BlockSource>(
         &mut self,
         _first: u64,
-        _front: &Parts,
+        _prefix: &Parts,
         _rest: &S,
     ) -> Result<(), Failed> {
         Err(self.fail())

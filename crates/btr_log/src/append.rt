@@ -4,7 +4,7 @@ ghost use Rattle.btr_log.specs.Log.{IsLogAtRest, LogLeaves, KeepsBounds};
 ghost use Rattle.btr_log.specs.Append.{body_in_run, IsAppendRun, IsAppendMoment, RefusesAppend, AppendCause, IsAppended};
 
 use crate::Log;
-use btr_disk::{BLOCK, Disk, Parts, Supply, open_gate, publish};
+use btr_disk::{BLOCK, BlockSource, Disk, Parts, open_gate, publish};
 
 /// Why a body was not appended.
 #[derive(Clone, Copy, PartialEq, Eq)]
@@ -22,7 +22,7 @@ pub enum AppendFault {
 impl<D: Disk> Log<D> {
     /// Appends a body. After `Ok` it is durable, and no crash takes it away.
     ///
-    /// The caller passes a run: the body, which begins with its head, and then one block of zeros. The run is `front`, and then the
+    /// The caller passes a run: the body, which begins with its head, and then one block of zeros. The run is `prefix`, and then the
     /// blocks of `rest`.
     ///
     /// `Stopped` is returned exactly if the log is stopped. `Full` is returned exactly if the log is not
@@ -31,25 +31,25 @@ impl<D: Disk> Log<D> {
     ///
     /// It makes four calls of the device, a write and a sync for the run and then for the gate, or fewer
     /// if one of them fails. It allocates no memory itself.
-    pub fn append<S: Supply>(&mut self, front: &Parts, rest: &S) -> Result<(), AppendFault>
+    pub fn append<S: BlockSource>(&mut self, prefix: &Parts, rest: &S) -> Result<(), AppendFault>
         requires able { S.can_work }
-        requires run { IsAppendRun (front.now ++ S.bytes rest.now) }
-        ensures refused { RefusesAppend self.old (front.now ++ S.bytes rest.now) result }
-        ensures cause { IfErr result (AppendCause self.old self.new (front.now ++ S.bytes rest.now)) }
+        requires run { IsAppendRun (prefix.now ++ S.bytes rest.now) }
+        ensures refused { RefusesAppend self.old (prefix.now ++ S.bytes rest.now) result }
+        ensures cause { IfErr result (AppendCause self.old self.new (prefix.now ++ S.bytes rest.now)) }
         ensures kept { KeepsBounds self.old self.new }
-        ensures appended { OnOk result (IsAppended self.old self.new (front.now ++ S.bytes rest.now)) }
+        ensures appended { OnOk result (IsAppended self.old self.new (prefix.now ++ S.bytes rest.now)) }
         // Given that the log was at rest with these bodies.
         ensures at_rest { D.is_observable → (bodies : List (List ℕ)) → IsLogAtRest self.old bodies
-            → OnOk result (IsLogAtRest self.new (bodies ++ body_in_run (front.now ++ S.bytes rest.now) ∷ [])) }
+            → OnOk result (IsLogAtRest self.new (bodies ++ body_in_run (prefix.now ++ S.bytes rest.now) ∷ [])) }
         ensures moments { D.is_observable → (bodies : List (List ℕ)) → IsLogAtRest self.old bodies
-            → LogLeaves self.old self.new (IsAppendMoment self.old bodies (front.now ++ S.bytes rest.now)) }
+            → LogLeaves self.old self.new (IsAppendMoment self.old bodies (prefix.now ++ S.bytes rest.now)) }
     {
         if self.stopped {
             return Err(AppendFault::Stopped {
                 extents: self.extents,
             });
         }
-        let need = (front.len() / BLOCK) as u64 + rest.blocks() as u64;
+        let need = (prefix.len() / BLOCK) as u64 + rest.blocks() as u64;
         let left = self.room();
         if need > left {
             return Err(AppendFault::Full { need, left });
@@ -57,7 +57,7 @@ impl<D: Disk> Log<D> {
         let written = publish(
             &mut self.disk,
             self.tail + 1,
-            front,
+            prefix,
             rest,
             self.tail,
             &open_gate(),

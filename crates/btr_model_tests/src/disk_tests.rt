@@ -91,9 +91,9 @@ pub(crate) fn counted(alloc: Global, blocks: usize) -> Result<Vec<u8>, AllocErro
     Ok(bytes)
 }
 
-/// Writes two blocks in parts and then three of a supply at block 2. Returns whether that is one call which succeeded, and what the device
+/// Writes two blocks in parts and then three of a source at block 2. Returns whether that is one call which succeeded, and what the device
 /// has then.
-fn written_from_a_supply(alloc: Global) -> Result<(bool, Vec<u8>), AllocError>
+fn written_from_a_source(alloc: Global) -> Result<(bool, Vec<u8>), AllocError>
     ensures { IfOk result (λ r. length r.1.items ≡ 32768) }
 {
     let capacity = Capacity {
@@ -111,9 +111,9 @@ fn written_from_a_supply(alloc: Global) -> Result<(bool, Vec<u8>), AllocError>
 }
 
 #[test]
-fn blocks_of_a_supply_are_written_after_the_front(rt: HostRuntime) -> Result<(), Fail> {
+fn blocks_of_a_source_are_written_after_the_prefix(rt: HostRuntime) -> Result<(), Fail> {
     let alloc = rt.alloc();
-    let (is_written, bytes) = written_from_a_supply(alloc)?;
+    let (is_written, bytes) = written_from_a_source(alloc)?;
     assert!(rt; is_written);
     let ends = (bytes[8191], bytes[8192], bytes[16383], bytes[28672]);
     assert!(rt; ends == (0, 1, 3, 0));
@@ -196,16 +196,16 @@ fn an_unsynced_block_is_old_or_new_or_neither(rt: HostRuntime) -> Result<(), Fai
     Ok(())
 }
 
-/// Publishes a body of two blocks, of which a supply makes the second, at block 1 with its gate at block 0, on a device at which the
+/// Publishes a body of two blocks, of which a source makes the second, at block 1 with its gate at block 0, on a device at which the
 /// calls of the list fail. Returns the first byte of each of the three blocks, and the number of faults.
 fn published(rt: &impl Abort, alloc: Global, failing: Vec<u64>) -> Result<(u8, u8, u8, u64), Fail> {
     let mut disk = disk(alloc, failing)?;
-    let front = Parts::of(alloc, block(alloc, 3)?)?;
+    let prefix = Parts::of(alloc, block(alloc, 3)?)?;
     let rest = block(alloc, 4)?;
     let outcome = publish(
         &mut disk,
         1,
-        &front,
+        &prefix,
         &HeldBlocks::new(&rest),
         0,
         &block(alloc, 2)?,

@@ -158,9 +158,9 @@ fn inner_node_has_its_bytes(rt: HostRuntime) -> Result<(), Fail> {
 #[test]
 fn leaf_has_its_fields(rt: HostRuntime) -> Result<(), Fail> {
     let page = decode(&block(LEAF)?).ok_or("a page")?;
-    let front = page.front();
-    assert!(rt; front.start == FIRST && front.height == 10);
-    assert!(rt; front.stream == 0 && front.version == 1 && front.count == 3);
+    let header = page.header();
+    assert!(rt; header.start == FIRST && header.height == 10);
+    assert!(rt; header.stream == 0 && header.version == 1 && header.count == 3);
     let span = page.span();
     assert!(rt; span.start == FIRST && span.height == 10);
     assert!(rt; page.slots().len() == 0);
@@ -170,9 +170,9 @@ fn leaf_has_its_fields(rt: HostRuntime) -> Result<(), Fail> {
 #[test]
 fn inner_node_has_its_fields(rt: HostRuntime) -> Result<(), Fail> {
     let page = decode(&block(INNER)?).ok_or("a page")?;
-    let front = page.front();
-    assert!(rt; front.start == 0 && front.height == 1);
-    assert!(rt; front.stream == 258 && front.version == 9 && front.count == 253);
+    let header = page.header();
+    assert!(rt; header.start == 0 && header.height == 1);
+    assert!(rt; header.stream == 258 && header.version == 9 && header.count == 253);
     let span = page.span();
     assert!(rt; span.start == 0 && span.height == 1);
     let slots = page.slots();

@@ -1,16 +1,16 @@
-//! Blocks of a supply that several threads have written.
+//! Blocks of a source that several threads have written.
 ghost use Rattle.std.specs.Prelude.{◌≡◌, ◌*◌, ◌<◌, length, IfOk, vec_len};
 ghost use Rattle.std.specs.Thread.{IsSync};
 
 use crate::disk_tests::counted;
-use btr_disk::{BLOCK, Blocks, HeldBlocks, Outlet, Supply, write_by_threads};
+use btr_disk::{BLOCK, BlockSink, BlockSource, Blocks, HeldBlocks, write_by_threads};
 use std::alloc::{AllocError, Global};
 use std::marker::Sync;
 use std::sync::atomic::{AtomicU32, Ordering};
 use std::test::Fail;
 use std::thread::{Threads, yield_now};
 
-/// A supply of blocks in memory, which at most `threads` threads have written.
+/// A source of blocks in memory, which at most `threads` threads have written.
 #[derive(Drop)]
 struct Shared<'a, R> {
     rt: &'a R,
@@ -32,49 +32,49 @@ impl<R> Blocks for Shared<'_, R> {
     }
 }
 
-impl<R: Threads + Sync> Supply for Shared<'_, R> {
+impl<R: Threads + Sync> BlockSource for Shared<'_, R> {
     ghost can_work = { IsSync R.row };
 
-    fn write_to(&self, outlet: &(dyn Outlet + Sync)) -> bool {
-        write_by_threads(self.rt, &self.held, self.threads, outlet)
+    fn write_to(&self, sink: &(dyn BlockSink + Sync)) -> bool {
+        write_by_threads(self.rt, &self.held, self.threads, sink)
     }
 }
 
-/// An outlet that counts. Its front, of `front` bytes, waits until a block is put, and the put of the block `failing` fails.
+/// A sink that counts. Its prefix, of `prefix` bytes, waits until a block is put, and the put of the block `failing` fails.
 #[derive(Drop)]
 struct Counting {
     wanted: Vec<u8>,
     /// How often each block was put with the bytes that are wanted.
     blocks: Vec<AtomicU32>,
-    /// How often the front was put, and how often a block was put while it waited.
-    fronts: AtomicU32,
+    /// How often the prefix was put, and how often a block was put while it waited.
+    prefixes: AtomicU32,
     meetings: AtomicU32,
     /// How many times blocks were put.
     puts: AtomicU32,
-    front: usize,
+    prefix: usize,
     failing: usize,
     ghost each: { vec_len wanted ≡ 4096 * vec_len blocks },
 }
 
-impl Outlet for Counting {
+impl BlockSink for Counting {
     ghost use Rattle.std.specs.Prelude.{⊤, ◌<◌, vec_len};
 
     ghost room = { λ counting. vec_len counting.blocks };
 
-    ghost front_size = { λ counting. counting.front };
+    ghost prefix_size = { λ counting. counting.prefix };
 
-    ghost has_front = { λ _. ⊤ };
+    ghost has_prefix = { λ _. ⊤ };
 
     ghost has_block = { λ _ _ _. ⊤ };
 
     ghost has_failed = { λ counting. counting.failing < vec_len counting.blocks };
 
-    fn front_len(&self) -> usize {
-        self.front
+    fn prefix_len(&self) -> usize {
+        self.prefix
     }
 
-    fn put_front(&self) -> bool {
-        self.fronts.fetch_add(1, Ordering::SeqCst);
+    fn put_prefix(&self) -> bool {
+        self.prefixes.fetch_add(1, Ordering::SeqCst);
         if is_raised(&self.puts) {
             self.meetings.fetch_add(1, Ordering::SeqCst);
         }
@@ -116,26 +116,26 @@ fn zeros(alloc: Global, count: usize) -> Result<Vec<AtomicU32>, AllocError>
     Ok(counts)
 }
 
-/// How blocks are written: at most how many threads write them, how many bytes the front has, and the put of which block fails.
+/// How blocks are written: at most how many threads write them, how many bytes the prefix has, and the put of which block fails.
 #[derive(Clone, Copy)]
 struct Case {
     threads: usize,
-    front: usize,
+    prefix: usize,
     failing: usize,
 }
 
-/// Has these blocks written to the outlet by at most this many threads, or by the calling thread alone if there are none.
-fn is_written<R: Threads + Sync>(rt: &R, bytes: &[u8], threads: usize, outlet: &Counting) -> bool
-    requires { length bytes.now ≡ 4096 * vec_len outlet.now.blocks }
+/// Has these blocks written to the sink by at most this many threads, or by the calling thread alone if there are none.
+fn is_written<R: Threads + Sync>(rt: &R, bytes: &[u8], threads: usize, sink: &Counting) -> bool
+    requires { length bytes.now ≡ 4096 * vec_len sink.now.blocks }
 {
     let held = HeldBlocks::new(bytes);
     if threads == 0 {
-        return held.write_to(outlet);
+        return held.write_to(sink);
     }
-    Shared { rt, held, threads }.write_to(outlet)
+    Shared { rt, held, threads }.write_to(sink)
 }
 
-/// What came of a write: what it returned, how often the front was put, how often beside a block, and how many blocks were put once.
+/// What came of a write: what it returned, how often the prefix was put, how often beside a block, and how many blocks were put once.
 type Came = (bool, u32, u32, usize);
 
 /// Has this many blocks written.
@@ -148,19 +148,19 @@ fn came<R: Threads + Sync>(
     requires { blocks < 1000 }
 {
     let bytes = counted(alloc, blocks)?;
-    let outlet = Counting {
+    let sink = Counting {
         wanted: counted(alloc, blocks)?,
         blocks: zeros(alloc, blocks)?,
-        fronts: AtomicU32::new(0),
+        prefixes: AtomicU32::new(0),
         meetings: AtomicU32::new(0),
         puts: AtomicU32::new(0),
-        front: case.front,
+        prefix: case.prefix,
         failing: case.failing,
     };
-    let is_written = is_written(rt, &bytes, case.threads, &outlet);
-    let fronts = outlet.fronts.load(Ordering::SeqCst);
-    let meetings = outlet.meetings.load(Ordering::SeqCst);
-    Ok((is_written, fronts, meetings, put_once(&outlet.blocks)))
+    let is_written = is_written(rt, &bytes, case.threads, &sink);
+    let prefixes = sink.prefixes.load(Ordering::SeqCst);
+    let meetings = sink.meetings.load(Ordering::SeqCst);
+    Ok((is_written, prefixes, meetings, put_once(&sink.blocks)))
 }
 
 /// How many counts are 1.
@@ -171,16 +171,16 @@ fn put_once(counts: &[AtomicU32]) -> usize {
         .count()
 }
 
-/// The case of this many threads and a front of this many bytes, in which no put fails.
-fn of_threads(threads: usize, front: usize) -> Case {
+/// The case of this many threads and a prefix of this many bytes, in which no put fails.
+fn of_threads(threads: usize, prefix: usize) -> Case {
     Case {
         threads,
-        front,
+        prefix,
         failing: usize::MAX,
     }
 }
 
-/// Threads put each block once, beside the front, whatever their number is.
+/// Threads put each block once, beside the prefix, whatever their number is.
 #[test]
 fn threads_put_each_block_once(rt: HostRuntime) -> Result<(), Fail> {
     let alloc = rt.alloc();
@@ -190,17 +190,17 @@ fn threads_put_each_block_once(rt: HostRuntime) -> Result<(), Fail> {
     Ok(())
 }
 
-/// However long the front is, threads put each block once beside it: the first portion has few blocks, or none, or several have none.
+/// However long the prefix is, threads put each block once beside it: the first portion has few blocks, or none, or several have none.
 #[test]
-fn threads_share_the_work_of_a_front(rt: HostRuntime) -> Result<(), Fail> {
+fn threads_share_the_work_of_a_prefix(rt: HostRuntime) -> Result<(), Fail> {
     let alloc = rt.alloc();
-    for front in [100_000, 1_000_000, 100_000_000, usize::MAX] {
-        assert!(rt; came(&rt, alloc, 150, of_threads(4, front))? == (true, 1, 1, 150));
+    for prefix in [100_000, 1_000_000, 100_000_000, usize::MAX] {
+        assert!(rt; came(&rt, alloc, 150, of_threads(4, prefix))? == (true, 1, 1, 150));
     }
     Ok(())
 }
 
-/// One thread puts the front before the blocks.
+/// One thread puts the prefix before the blocks.
 #[test]
 fn one_thread_puts_each_block_once(rt: HostRuntime) -> Result<(), Fail> {
     let alloc = rt.alloc();
@@ -217,7 +217,7 @@ fn a_put_that_fails_is_not_passed_over(rt: HostRuntime) -> Result<(), Fail> {
     for failing in [0, 77, 149] {
         let case = Case {
             threads: 4,
-            front: 50_000,
+            prefix: 50_000,
             failing,
         };
         assert!(rt; !came(&rt, alloc, 150, case)?.0);
@@ -241,7 +241,7 @@ fn all_is_written_exactly_if_no_put_fails(rt: HostRuntime) -> Result<(), Fail> {
     ] {
         let case = Case {
             threads,
-            front: 0,
+            prefix: 0,
             failing,
         };
         assert!(rt; came(&rt, alloc, 70, case)?.0 == (failing == 70));

@@ -7,9 +7,9 @@ use Rattle.std.proofs.lemmas.List.{append-nil, drop_all, drop-drop, replicate-ap
 use Rattle.std.proofs.lemmas.List.Concat.{flat_map-cons}
 use Rattle.std.proofs.lemmas.Grind.{flat_map-append}
 use Rattle.btr_base.specs.declared.point.Point.{Point}
-use Rattle.btr_node.specs.declared.page.Front.{Front}
+use Rattle.btr_node.specs.declared.page.PageHeader.{PageHeader}
 use Rattle.btr_node.specs.declared.page.NodePage.TheVariants.{Leaf}
-use Rattle.btr_node.specs.Page.{front_bytes, number, page_bytes, places_with, point_bytes, unused_place, zeros}
+use Rattle.btr_node.specs.Page.{header_bytes, number, page_bytes, places_with, point_bytes, unused_place, zeros}
 
 -- Zeros from an index on, up to the end.
 pub zeros-put : (at : ℕ) (old new : List ℕ) (n : ℕ) → at ≤ 4096 → length old ≡ 4096 → new ≡ replicate n 0 → n ≡ 4096 - at → put_mid at (length old - at) old new ≡ take at old ++ zeros (4096 - at)
@@ -36,15 +36,15 @@ places-bytes (suc n) =
     ∙ ap (λ k. replicate k 0) more
 
 -- The mark and the fields, the points, and zeros up to the end make the page of a leaf.
-pub leaf-filled : (f : Front) (points : List Point) (used : ℕ) (t1 t2 t3 t4 : List ℕ) → length points ≤ 252 → used ≡ 64 + 16 * length points → take 8 t1 ≡ codes "BTR-LEAF" → take 64 t2 ≡ take 8 t1 ++ front_bytes f → take (64 + 16 * length points) t3 ≡ take 64 t2 ++ flat_map point_bytes points → t4 ≡ take used t3 ++ zeros (4096 - used) → t4 ≡ page_bytes (Leaf f.start f.height f.stream f.version f.count (places_with points))
+pub leaf-filled : (f : PageHeader) (points : List Point) (used : ℕ) (t1 t2 t3 t4 : List ℕ) → length points ≤ 252 → used ≡ 64 + 16 * length points → take 8 t1 ≡ codes "BTR-LEAF" → take 64 t2 ≡ take 8 t1 ++ header_bytes f → take (64 + 16 * length points) t3 ≡ take 64 t2 ++ flat_map point_bytes points → t4 ≡ take used t3 ++ zeros (4096 - used) → t4 ≡ page_bytes (Leaf f.start f.height f.stream f.version f.count (places_with points))
 unfolding page_bytes
 leaf-filled f points used t1 t2 t3 t4 few used_is e1 e2 e3 e4 =
-    let head : List ℕ = codes "BTR-LEAF" ++ front_bytes f in
+    let head : List ℕ = codes "BTR-LEAF" ++ header_bytes f in
     let bytes : List ℕ = flat_map point_bytes points in
     let rest : ℕ = 252 - length points in
     let left : 4096 - used ≡ 16 * rest = omega arith in
     let places : flat_map point_bytes (places_with points) ≡ bytes ++ zeros (16 * rest) = flat_map-append point_bytes points (replicate rest unused_place) ∙ ap (λ l. bytes ++ l) (places-bytes rest) in
-    let written : take used t3 ≡ head ++ bytes = ap (λ k. take k t3) used_is ∙ e3 ∙ ap (λ l. l ++ bytes) (e2 ∙ ap (λ l. l ++ front_bytes f) e1) in
+    let written : take used t3 ≡ head ++ bytes = ap (λ k. take k t3) used_is ∙ e3 ∙ ap (λ l. l ++ bytes) (e2 ∙ ap (λ l. l ++ header_bytes f) e1) in
     e4
     ∙ ap (λ n. take used t3 ++ zeros n) left
     ∙ ap (λ l. l ++ zeros (16 * rest)) written

@@ -13,8 +13,8 @@ use Rattle.std.proofs.lemmas.List.{length-take, get_or-take, get_or-drop, get_or
 use Rattle.btr_base.specs.Agg.{AggValue, IsSummary, no_points}
 use Rattle.btr_node.specs.declared.page.NodePage.{NodePage}
 use Rattle.btr_node.specs.declared.page.NodePage.TheVariants.{Leaf, Inner}
-use Rattle.btr_node.specs.Page.{Fits, FitsFront, FitsPoint, FitsSlot}
-use Rattle.btr_node.specs.Reading.{u32_in, u64_in, u128_in, front_in, point_in, agg_from, agg_in, slot_in, items_in}
+use Rattle.btr_node.specs.Page.{Fits, FitsHeader, FitsPoint, FitsSlot}
+use Rattle.btr_node.specs.Reading.{u32_in, u64_in, u128_in, header_in, point_in, agg_from, agg_in, slot_in, items_in}
 
 abbrev pub IsBytes : List ℕ → Type 0
 IsBytes bytes = (i : ℕ) → get_or bytes i 0 < 256
@@ -57,9 +57,9 @@ module _ (bytes : List ℕ) (h : IsBytes bytes) where
   i128-fits : (at : ℕ) → FitsSigned w128 (cast_signed w128 (u128_in at bytes))
   i128-fits at = sfits_to_z {w = w128} {n = u128_in at bytes} (record { fits = u128-fits at })
 
-  pub front-fits : FitsFront (front_in bytes)
-  unfolding front_in
-  front-fits = record {
+  pub header-fits : FitsHeader (header_in bytes)
+  unfolding header_in
+  header-fits = record {
     start = i64-fits 8;
     height = u32-fits 16;
     stream = u32-fits 20;
@@ -130,7 +130,7 @@ slot-fits bytes h at =
 -- What the bytes would be, if they are those of a page. The fifth byte tells the kind: `L` of `BTR-LEAF`.
 unfoldable pub page_in : List ℕ → NodePage
 page_in bytes =
-    let f = front_in bytes in
+    let f = header_in bytes in
     if slice_index bytes 4 == 76
     then Leaf f.start f.height f.stream f.version f.count (items_in point_in 16 252 64 bytes)
     else Inner f.start f.height f.stream f.version f.count (items_in slot_in 56 64 64 bytes)
@@ -148,8 +148,8 @@ length-items item w bytes (suc n) at = ap suc (length-items item w bytes n (at +
 pub page-fits : (bytes : List ℕ) → IsBytes bytes → Fits (page_in bytes)
 unfolding page_in
 page-fits bytes h =
-    let f = front_in bytes in
-    let fields = front-fits bytes h in
+    let f = header_in bytes in
+    let fields = header-fits bytes h in
     let points = items_in point_in 16 252 64 bytes in
     let slots = items_in slot_in 56 64 64 bytes in
     let leaf : Fits (Leaf f.start f.height f.stream f.version f.count points) = (fields, length-items point_in 16 bytes 252 64, items-fit point_in FitsPoint 16 bytes (point-fits bytes h) 252 64) in

@@ -13,10 +13,10 @@ use Rattle.std.proofs.lemmas.List.Concat.{flat_map-cons}
 use Rattle.std.proofs.lemmas.Nat.{from_be_bytes-to_be_bytes_4, from_be_bytes-to_be_bytes_8}
 use Rattle.btr_base.specs.declared.point.Point.{Point}
 use Rattle.btr_base.specs.Agg.{EndsFit}
-use Rattle.btr_node.specs.declared.page.Front.{Front}
+use Rattle.btr_node.specs.declared.page.PageHeader.{PageHeader}
 use Rattle.btr_node.specs.declared.page.PageSlot.{PageSlot}
-use Rattle.btr_node.specs.Page.{number, signed, zeros, front_bytes, point_bytes, slot_bytes, ends_or, FitsFront, FitsPoint, FitsSlot}
-use Rattle.btr_node.specs.Reading.{front_in, point_in, agg_from, agg_in, slot_in, items_in, IsExact, IsExactAt, AreExact}
+use Rattle.btr_node.specs.Page.{number, signed, zeros, header_bytes, point_bytes, slot_bytes, ends_or, FitsHeader, FitsPoint, FitsSlot}
+use Rattle.btr_node.specs.Reading.{header_in, point_in, agg_from, agg_in, slot_in, items_in, IsExact, IsExactAt, AreExact}
 
 -- ---- numbers
 
@@ -49,9 +49,9 @@ drop-more m n xs = sym (drop-drop n m xs)
 
 -- ---- the fields of both kinds
 
-pub front-again : (b0 b1 b2 b3 b4 b5 b6 b7 : ℕ) (f : Front) (rest : List ℕ) → FitsFront f → front_in ((b0 ∷ b1 ∷ b2 ∷ b3 ∷ b4 ∷ b5 ∷ b6 ∷ b7 ∷ []) ++ front_bytes f ++ rest) ≡ f
-unfolding front_in front_bytes number zeros
-front-again b0 b1 b2 b3 b4 b5 b6 b7 f rest fits =
+pub header-again : (b0 b1 b2 b3 b4 b5 b6 b7 : ℕ) (f : PageHeader) (rest : List ℕ) → FitsHeader f → header_in ((b0 ∷ b1 ∷ b2 ∷ b3 ∷ b4 ∷ b5 ∷ b6 ∷ b7 ∷ []) ++ header_bytes f ++ rest) ≡ f
+unfolding header_in header_bytes number zeros
+header-again b0 b1 b2 b3 b4 b5 b6 b7 f rest fits =
     let start = signed-again f.start fits.start in
     let height = again32 f.height fits.height in
     let stream = again32 f.stream fits.stream in
@@ -59,9 +59,9 @@ front-again b0 b1 b2 b3 b4 b5 b6 b7 f rest fits =
     let count = again64 f.count fits.count in
     λ i. record { start = start i; height = height i; stream = stream i; version = version i; count = count i }
 
-pub length-front : (f : Front) → length (front_bytes f) ≡ 56
-unfolding front_bytes number zeros
-length-front f = refl
+pub length-header : (f : PageHeader) → length (header_bytes f) ≡ 56
+unfolding header_bytes number zeros
+length-header f = refl
 
 -- ---- a point
 

@@ -10,8 +10,8 @@ use Rattle.std.proofs.lemmas.Int.{of_z-to_z}
 use Rattle.std.proofs.lemmas.List.{take-append-drop, length-take, length-drop, take_all, get_or-take, get_or-drop}
 use Rattle.std.proofs.lemmas.List.Concat.{flat_map-cons}
 use Rattle.std.proofs.lemmas.Nat.{be_bytes_4, be_bytes_8}
-use Rattle.btr_node.specs.Page.{number, signed, zeros, front_bytes, point_bytes, slot_bytes}
-use Rattle.btr_node.specs.Reading.{u32_in, u64_in, u128_in, front_in, point_in, agg_in, slot_in, items_in, IsExactAt, AreExact}
+use Rattle.btr_node.specs.Page.{number, signed, zeros, header_bytes, point_bytes, slot_bytes}
+use Rattle.btr_node.specs.Reading.{u32_in, u64_in, u128_in, header_in, point_in, agg_in, slot_in, items_in, IsExactAt, AreExact}
 use Rattle.btr_node.proofs.FitLemmas.{IsBytes, IsBytes-take, IsBytes-drop, u64-fits, u128-fits, below64}
 use Rattle.btr_node.proofs.Places.{drop-more}
 
@@ -95,8 +95,8 @@ six-places at bytes =
     ∙ ap (λ l. l ++ take 8 (drop (at + 32) bytes)) (next-place 24 8 at bytes
     ∙ ap (λ l. l ++ take 8 (drop (at + 24) bytes)) (next-place 8 16 at bytes))))
 
-front-places : (bytes : List ℕ) → take 56 (drop 8 bytes) ≡ take 8 (drop 8 bytes) ++ take 4 (drop 16 bytes) ++ take 4 (drop 20 bytes) ++ take 8 (drop 24 bytes) ++ take 8 (drop 32 bytes) ++ take 24 (drop 40 bytes)
-front-places bytes =
+header-places : (bytes : List ℕ) → take 56 (drop 8 bytes) ≡ take 8 (drop 8 bytes) ++ take 4 (drop 16 bytes) ++ take 4 (drop 20 bytes) ++ take 8 (drop 24 bytes) ++ take 8 (drop 32 bytes) ++ take 24 (drop 40 bytes)
+header-places bytes =
     next-place 32 24 8 bytes
     ∙ ap (λ l. l ++ take 24 (drop 40 bytes)) (next-place 24 8 8 bytes
     ∙ ap (λ l. l ++ take 8 (drop 32 bytes)) (next-place 16 8 8 bytes
@@ -124,16 +124,16 @@ module _ (bytes : List ℕ) (h : IsBytes bytes) where
       let child = number64 bytes h (at + 48) (omega arith) in
       (λ i. count i ++ total i ++ least i ++ greatest i ++ version i ++ child i) ∙ sym (six-places at bytes)
 
-  front-spelled : 64 ≤ length bytes → take 24 (drop 40 bytes) ≡ zeros 24 → front_bytes (front_in bytes) ≡ take 56 (drop 8 bytes)
-  unfolding front_bytes front_in
-  front-spelled long gap =
+  header-spelled : 64 ≤ length bytes → take 24 (drop 40 bytes) ≡ zeros 24 → header_bytes (header_in bytes) ≡ take 56 (drop 8 bytes)
+  unfolding header_bytes header_in
+  header-spelled long gap =
       let start = signed64 bytes h 8 (omega arith) in
       let height = number32 bytes h 16 (omega arith) in
       let stream = number32 bytes h 20 (omega arith) in
       let version = number64 bytes h 24 (omega arith) in
       let count = number64 bytes h 32 (omega arith) in
       let rest = sym gap in
-      (λ i. start i ++ height i ++ stream i ++ version i ++ count i ++ rest i) ∙ sym (front-places bytes)
+      (λ i. start i ++ height i ++ stream i ++ version i ++ count i ++ rest i) ∙ sym (header-places bytes)
 
 -- ---- items of one width
 
@@ -163,9 +163,9 @@ module _ (bytes : List ℕ) (h : IsBytes bytes) (long : length bytes ≡ 4096) w
   slots-spelled exact =
       items-spelled slot_in slot_bytes 56 bytes 64 64 (λ k lt. slot-spelled bytes h (64 + 56 * k) (omega arith) (exact k lt))
 
-  pub leaf-spelled : take 8 bytes ≡ codes "BTR-LEAF" → take 24 (drop 40 bytes) ≡ zeros 24 → bytes ≡ codes "BTR-LEAF" ++ front_bytes (front_in bytes) ++ flat_map point_bytes (items_in point_in 16 252 64 bytes)
+  pub leaf-spelled : take 8 bytes ≡ codes "BTR-LEAF" → take 24 (drop 40 bytes) ≡ zeros 24 → bytes ≡ codes "BTR-LEAF" ++ header_bytes (header_in bytes) ++ flat_map point_bytes (items_in point_in 16 252 64 bytes)
   leaf-spelled mark gap =
-      let fields = front-spelled bytes h (omega arith) gap in
+      let fields = header-spelled bytes h (omega arith) gap in
       let body = points-spelled in
       let start = sym mark in
       sym (take_all 4096 bytes (omega arith))
@@ -173,9 +173,9 @@ module _ (bytes : List ℕ) (h : IsBytes bytes) (long : length bytes ≡ 4096) w
       ∙ ap (λ l. l ++ take 4032 (drop 64 bytes)) (take-add 8 56 bytes)
       ∙ sym (λ i. start i ++ fields i ++ body i)
 
-  pub inner-spelled : take 8 bytes ≡ codes "BTR-NODE" → take 24 (drop 40 bytes) ≡ zeros 24 → drop 3648 bytes ≡ zeros 448 → AreExact 64 bytes → bytes ≡ codes "BTR-NODE" ++ front_bytes (front_in bytes) ++ flat_map slot_bytes (items_in slot_in 56 64 64 bytes) ++ zeros 448
+  pub inner-spelled : take 8 bytes ≡ codes "BTR-NODE" → take 24 (drop 40 bytes) ≡ zeros 24 → drop 3648 bytes ≡ zeros 448 → AreExact 64 bytes → bytes ≡ codes "BTR-NODE" ++ header_bytes (header_in bytes) ++ flat_map slot_bytes (items_in slot_in 56 64 64 bytes) ++ zeros 448
   inner-spelled mark gap tail exact =
-      let fields = front-spelled bytes h (omega arith) gap in
+      let fields = header-spelled bytes h (omega arith) gap in
       let body = slots-spelled exact in
       let start = sym mark in
       let end = sym tail in

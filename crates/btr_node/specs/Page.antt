@@ -8,7 +8,7 @@ use Rattle.btr_base.specs.declared.point.Point.{Point}
 use Rattle.btr_base.specs.Span.{SpanValue, width, IsSpan}
 use Rattle.btr_base.specs.Bag.{IsInOrder}
 use Rattle.btr_base.specs.Agg.{IsSummary}
-use Rattle.btr_node.specs.declared.page.Front.{Front}
+use Rattle.btr_node.specs.declared.page.PageHeader.{PageHeader}
 use Rattle.btr_node.specs.declared.page.PageSlot.{PageSlot}
 use Rattle.btr_node.specs.declared.page.NodePage.{NodePage}
 use Rattle.btr_node.specs.declared.page.NodePage.TheVariants.{Leaf, Inner}
@@ -28,8 +28,8 @@ unfoldable pub zeros : ℕ → List ℕ
 zeros n = replicate n 0
 
 -- The fields of both kinds, in 32 bytes, and 24 zeros.
-unfoldable pub front_bytes : Front → List ℕ
-front_bytes f =
+unfoldable pub header_bytes : PageHeader → List ℕ
+header_bytes f =
     signed f.start ++ number w32 f.height ++ number w32 f.stream ++ number w64 f.version ++ number w64 f.count ++ zeros 24
 
 -- The time and the value of a point, in 16 bytes.
@@ -52,15 +52,15 @@ slot_bytes s =
     ++ number w64 s.child
 
 -- The fields that both kinds have.
-abbrev pub front : NodePage → Front
-front (Leaf start height stream version count points) =
+abbrev pub header : NodePage → PageHeader
+header (Leaf start height stream version count points) =
     record { start = start; height = height; stream = stream; version = version; count = count }
-front (Inner start height stream version count slots) =
+header (Inner start height stream version count slots) =
     record { start = start; height = height; stream = stream; version = version; count = count }
 
 -- The span that a page is about.
 abbrev pub span_of_page : NodePage → SpanValue
-span_of_page page = record { start = (front page).start; height = (front page).height }
+span_of_page page = record { start = (header page).start; height = (header page).height }
 
 -- The slots of a page: none of a leaf.
 abbrev pub slots_of_page : NodePage → List PageSlot
@@ -71,11 +71,11 @@ slots_of_page (Inner start height stream version count slots) = slots
 unfoldable pub page_bytes : NodePage → List ℕ
 page_bytes (Leaf start height stream version count points) =
     codes "BTR-LEAF"
-    ++ front_bytes (front (Leaf start height stream version count points))
+    ++ header_bytes (header (Leaf start height stream version count points))
     ++ flat_map point_bytes points
 page_bytes (Inner start height stream version count slots) =
     codes "BTR-NODE"
-    ++ front_bytes (front (Inner start height stream version count slots))
+    ++ header_bytes (header (Inner start height stream version count slots))
     ++ flat_map slot_bytes slots
     ++ zeros 448
 
@@ -92,7 +92,7 @@ places_with points = points ++ replicate (252 - length points) unused_place
 -- ---- the table
 
 -- The page is of a span of the tree, and of a version that a stream can have.
-pub record IsFront (f : Front) : Type 0 where
+pub record IsHeader (f : PageHeader) : Type 0 where
   pub span : IsSpan (record { start = f.start; height = f.height })
   pub version_from : 1 ≤ f.version
   pub version_to : f.version ≤ 4294967295
@@ -106,8 +106,8 @@ abbrev pub IsUnused : Point → Type 0
 IsUnused p = (p.time ≡ pos 0) × (p.value ≡ pos 0)
 
 -- A leaf: the first places are its points, in order and in its span, and the others are unused.
-pub record IsLeafPage (f : Front) (points : List Point) : Type 0 where
-  pub fields : IsFront f
+pub record IsLeafPage (f : PageHeader) (points : List Point) : Type 0 where
+  pub fields : IsHeader f
   pub count_from : 1 ≤ f.count
   pub count_to : f.count ≤ 252
   pub in_order : IsInOrder (take f.count points)
@@ -122,8 +122,8 @@ pub record IsSlot (version : ℕ) (s : PageSlot) : Type 0 where
   pub has_child : 1 ≤ s.agg.count → 1 ≤ s.child
 
 -- An inner node: it has more points than a leaf can have, and the counts of its slots add up to its count.
-pub record IsInnerPage (f : Front) (slots : List PageSlot) : Type 0 where
-  pub fields : IsFront f
+pub record IsInnerPage (f : PageHeader) (slots : List PageSlot) : Type 0 where
+  pub fields : IsHeader f
   pub height_from : 1 ≤ f.height
   pub count_from : 253 ≤ f.count
   pub count_to : f.count ≤ 2 ^ 32
@@ -133,9 +133,9 @@ pub record IsInnerPage (f : Front) (slots : List PageSlot) : Type 0 where
 -- The page keeps the table.
 abbrev pub Keeps : NodePage → Type 0
 Keeps (Leaf start height stream version count points) =
-    IsLeafPage (front (Leaf start height stream version count points)) points
+    IsLeafPage (header (Leaf start height stream version count points)) points
 Keeps (Inner start height stream version count slots) =
-    IsInnerPage (front (Inner start height stream version count slots)) slots
+    IsInnerPage (header (Inner start height stream version count slots)) slots
 
 -- The bytes are those of this page, which keeps the table: the grammar of pages.
 pub record Spells (bytes : List ℕ) (page : NodePage) : Type 0 where
@@ -145,7 +145,7 @@ pub record Spells (bytes : List ℕ) (page : NodePage) : Type 0 where
 -- ---- what every value of the types is
 
 -- Each number fits its width.
-pub record FitsFront (f : Front) : Type 0 where
+pub record FitsHeader (f : PageHeader) : Type 0 where
   pub start : FitsSigned w64 f.start
   pub height : f.height < 2 ^ 32
   pub stream : f.stream < 2 ^ 32
@@ -167,6 +167,6 @@ pub record FitsSlot (s : PageSlot) : Type 0 where
 -- A leaf has 252 places, an inner node 64 slots.
 abbrev pub Fits : NodePage → Type 0
 Fits (Leaf start height stream version count points) =
-    FitsFront (front (Leaf start height stream version count points)) × (length points ≡ 252) × AllByRecursion FitsPoint points
+    FitsHeader (header (Leaf start height stream version count points)) × (length points ≡ 252) × AllByRecursion FitsPoint points
 Fits (Inner start height stream version count slots) =
-    FitsFront (front (Inner start height stream version count slots)) × (length slots ≡ 64) × AllByRecursion FitsSlot slots
+    FitsHeader (header (Inner start height stream version count slots)) × (length slots ≡ 64) × AllByRecursion FitsSlot slots

@@ -4,7 +4,7 @@ use Rattle.std.specs.Prelude.{zero, suc, List, [], ◌∷◌, take, drop, Some}
 use Rattle.std.specs.Int.{w32, w64, w128, from_be_bytes, cast_signed}
 use Rattle.btr_base.specs.declared.point.Point.{Point}
 use Rattle.btr_base.specs.Agg.{AggValue, no_points}
-use Rattle.btr_node.specs.declared.page.Front.{Front}
+use Rattle.btr_node.specs.declared.page.PageHeader.{PageHeader}
 use Rattle.btr_node.specs.declared.page.PageSlot.{PageSlot}
 use Rattle.btr_node.specs.Page.{ends_or}
 
@@ -19,8 +19,8 @@ abbrev pub u128_in : ℕ → List ℕ → ℕ
 u128_in at bytes = from_be_bytes w128 (take 16 (drop at bytes))
 
 -- The fields of both kinds, after the mark.
-unfoldable pub front_in : List ℕ → Front
-front_in bytes = record {
+unfoldable pub header_in : List ℕ → PageHeader
+header_in bytes = record {
   start = cast_signed w64 (u64_in 8 bytes);
   height = u32_in 16 bytes;
   stream = u32_in 20 bytes;

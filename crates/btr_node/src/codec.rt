@@ -3,11 +3,11 @@ ghost use Rattle.std.specs.Prelude.{◌≡◌, IfSome, take, codes};
 ghost use Rattle.btr_node.specs.declared.page.NodePage.{NodePage as PageSpec};
 ghost use Rattle.btr_node.specs.Page.{page_bytes, Keeps, Spells, Fits};
 
-use crate::filling::{fill_leaf, put_inner_end, put_inner_front};
+use crate::filling::{fill_leaf, put_inner_end, put_inner_header};
 use crate::inner_table::is_inner;
 use crate::leaf_table::is_leaf;
 use crate::page::{NodePage, PAGE, PageSlot, SLOTS};
-use crate::reading::{read_front, read_points, read_slots};
+use crate::reading::{read_header, read_points, read_slots};
 use crate::writing::put_slots;
 use btr_base::{Agg, LEAF_POINTS, Point};
 
@@ -36,13 +36,13 @@ pub fn encode(page: &NodePage, to: &mut [u8; PAGE])
 pub fn spell(page: &NodePage, to: &mut [u8; PAGE])
     ensures { to.new ≡ page_bytes page.now }
 {
-    let front = page.front();
+    let header = page.header();
     match page {
         NodePage::Leaf { points, .. } => {
-            fill_leaf(to, &front, points);
+            fill_leaf(to, &header, points);
         }
         NodePage::Inner { slots, .. } => {
-            put_inner_front(to, &front);
+            put_inner_header(to, &header);
             put_slots(to, slots);
             put_inner_end(to);
         }
@@ -81,18 +81,18 @@ fn leaf_of(bytes: &[u8; PAGE]) -> Option<NodePage>
     if bytes[40..64] != GAP[..] {
         return None;
     }
-    let front = read_front(bytes);
+    let header = read_header(bytes);
     let mut points = [Point { time: 0, value: 0 }; LEAF_POINTS];
     read_points(bytes, &mut points);
-    if !is_leaf(&front, &points) {
+    if !is_leaf(&header, &points) {
         return None;
     }
     Some(NodePage::Leaf {
-        start: front.start,
-        height: front.height,
-        stream: front.stream,
-        version: front.version,
-        count: front.count,
+        start: header.start,
+        height: header.height,
+        stream: header.stream,
+        version: header.version,
+        count: header.count,
         points,
     })
 }
@@ -110,21 +110,21 @@ fn inner_of(bytes: &[u8; PAGE]) -> Option<NodePage>
     if bytes[40..64] != GAP[..] || bytes[3648..] != TAIL[..] {
         return None;
     }
-    let front = read_front(bytes);
+    let header = read_header(bytes);
     let mut slots = [PageSlot {
         agg: Agg::none(),
         version: 0,
         child: 0,
     }; SLOTS];
-    if !read_slots(bytes, &mut slots) || !is_inner(&front, &slots) {
+    if !read_slots(bytes, &mut slots) || !is_inner(&header, &slots) {
         return None;
     }
     Some(NodePage::Inner {
-        start: front.start,
-        height: front.height,
-        stream: front.stream,
-        version: front.version,
-        count: front.count,
+        start: header.start,
+        height: header.height,
+        stream: header.stream,
+        version: header.version,
+        count: header.count,
         slots,
     })
 }

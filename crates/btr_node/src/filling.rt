@@ -1,33 +1,33 @@
 //! Pages that are filled in place, piece by piece: no page is made as a value.
 ghost use Rattle.std.specs.Prelude.{◌≡◌, ◌≤◌, ◌-◌, ◌++◌, length, take, codes};
-ghost use Rattle.btr_node.specs.Page.{front_bytes, page_bytes, places_with, zeros};
+ghost use Rattle.btr_node.specs.Page.{header_bytes, page_bytes, places_with, zeros};
 ghost use Rattle.btr_node.specs.declared.page.NodePage.TheVariants.{Leaf};
 
 use crate::codec::{LEAF_MARK, NODE_MARK};
 use crate::fields::put;
-use crate::page::{Front, PAGE};
-use crate::writing::{put_front, put_points};
+use crate::page::{PAGE, PageHeader};
+use crate::writing::{put_header, put_points};
 use btr_base::Point;
 
 /// Writes the page of a leaf with these fields and points, and unused places after them. It takes constant time and no memory.
-pub fn fill_leaf(to: &mut [u8; PAGE], front: &Front, points: &[Point])
+pub fn fill_leaf(to: &mut [u8; PAGE], header: &PageHeader, points: &[Point])
     requires few { length points.now ≤ 252 }
     ensures { to.new
-        ≡ page_bytes (Leaf front.now.start front.now.height front.now.stream front.now.version front.now.count (places_with points.now)) }
+        ≡ page_bytes (Leaf header.now.start header.now.height header.now.stream header.now.version header.now.count (places_with points.now)) }
 {
     put(to, 0, &LEAF_MARK);
-    put_front(to, front);
+    put_header(to, header);
     put_points(to, points);
     put_zeros(to, 64 + 16 * points.len());
 }
 
 /// Writes the first 64 bytes of the page of an inner node with these fields: 64 slots follow them, and then its end. It takes
 /// constant time and no memory.
-pub fn put_inner_front(to: &mut [u8; PAGE], front: &Front)
-    ensures { take 64 to.new ≡ codes "BTR-NODE" ++ front_bytes front.now }
+pub fn put_inner_header(to: &mut [u8; PAGE], header: &PageHeader)
+    ensures { take 64 to.new ≡ codes "BTR-NODE" ++ header_bytes header.now }
 {
     put(to, 0, &NODE_MARK);
-    put_front(to, front);
+    put_header(to, header);
 }
 
 /// Writes the zeros that follow the slots of the page of an inner node. It takes constant time and no memory.

@@ -3,20 +3,20 @@ ghost use Rattle.std.specs.Prelude.{◌≡◌, ◌↔◌, IsTrue};
 ghost use Rattle.std.specs.List.{AllByRecursion, sum_by};
 ghost use Rattle.btr_node.specs.Page.{IsInnerPage, IsSlot};
 
-use crate::page::{Front, PageSlot, SLOTS};
+use crate::page::{PageHeader, PageSlot, SLOTS};
 use crate::span_table::kept_span;
 use btr_base::{LEAF_POINTS, MAX_POINTS};
 
 /// Whether an inner node's page keeps the table.
-pub(crate) fn is_inner(front: &Front, slots: &[PageSlot; SLOTS]) -> bool
-    ensures { IsTrue result ↔ IsInnerPage front.now slots.now }
+pub(crate) fn is_inner(header: &PageHeader, slots: &[PageSlot; SLOTS]) -> bool
+    ensures { IsTrue result ↔ IsInnerPage header.now slots.now }
 {
-    kept_span(front).is_some()
-        && 1 <= front.height
-        && LEAF_POINTS as u64 + 1 <= front.count
-        && front.count <= MAX_POINTS
-        && total(slots) == u128::from(front.count)
-        && are_slots(slots, front.version)
+    kept_span(header).is_some()
+        && 1 <= header.height
+        && LEAF_POINTS as u64 + 1 <= header.count
+        && header.count <= MAX_POINTS
+        && total(slots) == u128::from(header.count)
+        && are_slots(slots, header.version)
 }
 
 /// The sum of the counts of all slots.

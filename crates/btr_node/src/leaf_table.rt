@@ -4,21 +4,21 @@ ghost use Rattle.std.specs.List.{AllByRecursion};
 ghost use Rattle.btr_base.specs.Bag.{IsInOrder};
 ghost use Rattle.btr_node.specs.Page.{IsLeafPage, IsInside, IsUnused};
 
-use crate::page::Front;
+use crate::page::PageHeader;
 use crate::span_table::{kept_span, start_of};
 use btr_base::{LEAF_POINTS, Point, Span};
 
 /// Whether a leaf's page keeps the table.
-pub(crate) fn is_leaf(front: &Front, points: &[Point; LEAF_POINTS]) -> bool
-    ensures { IsTrue result ↔ IsLeafPage front.now points.now }
+pub(crate) fn is_leaf(header: &PageHeader, points: &[Point; LEAF_POINTS]) -> bool
+    ensures { IsTrue result ↔ IsLeafPage header.now points.now }
 {
-    let Some(span) = kept_span(front) else {
+    let Some(span) = kept_span(header) else {
         return false;
     };
-    if front.count < 1 || front.count > LEAF_POINTS as u64 {
+    if header.count < 1 || header.count > LEAF_POINTS as u64 {
         return false;
     }
-    let (used, rest) = points.split_at(front.count as usize);
+    let (used, rest) = points.split_at(header.count as usize);
     are_in_order(used) && are_inside(used, &span) && are_unused(rest)
 }
 

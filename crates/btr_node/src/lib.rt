@@ -36,7 +36,7 @@ mod filling;
 mod laws;
 
 pub use codec::{decode, encode, spell};
-pub use filling::{fill_leaf, put_inner_end, put_inner_front};
+pub use filling::{fill_leaf, put_inner_end, put_inner_header};
 pub use laws::no_two_pages_have_the_same_bytes;
-pub use page::{Front, NodePage, PAGE, PageSlot, SLOTS};
+pub use page::{NodePage, PAGE, PageHeader, PageSlot, SLOTS};
 pub use writing::put_slot;

@@ -1,6 +1,6 @@
 //! A node's page: what it says of a span of a stream.
 ghost use Rattle.std.specs.Prelude.{◌≡◌};
-ghost use Rattle.btr_node.specs.Page.{Keeps, front, slots_of_page, span_of_page};
+ghost use Rattle.btr_node.specs.Page.{Keeps, header, slots_of_page, span_of_page};
 
 use btr_base::{Agg, Point, Span};
 
@@ -62,8 +62,8 @@ pub enum NodePage {
 
 impl NodePage {
     /// The fields that both kinds have. It takes constant time.
-    pub fn front(&self) -> Front
-        ensures { result ≡ front self.now }
+    pub fn header(&self) -> PageHeader
+        ensures { result ≡ header self.now }
     {
         match self {
             NodePage::Leaf {
@@ -81,7 +81,7 @@ impl NodePage {
                 version,
                 count,
                 ..
-            } => Front {
+            } => PageHeader {
                 start: *start,
                 height: *height,
                 stream: *stream,
@@ -96,10 +96,10 @@ impl NodePage {
         requires { Keeps self.now }
         ensures { result ≡ span_of_page self.now }
     {
-        let front = self.front();
+        let header = self.header();
         Span {
-            start: front.start,
-            height: front.height as u8,
+            start: header.start,
+            height: header.height as u8,
         }
     }
 
@@ -141,7 +141,7 @@ impl PageSlot {
 
 /// The fields that both kinds of pages have.
 #[derive(Clone, Copy)]
-pub struct Front {
+pub struct PageHeader {
     /// The first time of the span, in nanoseconds.
     pub start: i64,
 

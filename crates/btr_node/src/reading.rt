@@ -1,18 +1,18 @@
 //! What stands at places of a page's bytes, whatever the bytes are.
 ghost use Rattle.std.specs.Prelude.{◌≡◌, ◌↔◌, ◌+◌, ◌≤◌, pos, ◌*ℤ◌, IsTrue, IfSome, IfNone};
 ghost use Rattle.std.specs.Int.{cast_signed, w64, w128};
-ghost use Rattle.btr_node.specs.Reading.{front_in, point_in, agg_from, slot_in, items_in, IsExact, IsExactAt, AreExact};
+ghost use Rattle.btr_node.specs.Reading.{header_in, point_in, agg_from, slot_in, items_in, IsExact, IsExactAt, AreExact};
 
 use crate::fields::{u32_at, u64_at, u128_at};
-use crate::page::{Front, PAGE, PageSlot, SLOTS};
+use crate::page::{PAGE, PageHeader, PageSlot, SLOTS};
 use btr_base::{Agg, LEAF_POINTS, Point};
 
 /// The fields of both kinds.
-#[tactic(auto, unfolding(crate::specs::Reading::front_in))]
-pub(crate) fn read_front(bytes: &[u8; PAGE]) -> Front
-    ensures { result ≡ front_in bytes.now }
+#[tactic(auto, unfolding(crate::specs::Reading::header_in))]
+pub(crate) fn read_header(bytes: &[u8; PAGE]) -> PageHeader
+    ensures { result ≡ header_in bytes.now }
 {
-    Front {
+    PageHeader {
         start: u64_at(bytes, 8).cast_signed(),
         height: u32_at(bytes, 16),
         stream: u32_at(bytes, 20),

@@ -1,34 +1,34 @@
 //! What pages of both kinds keep: a span of the tree and a version.
 ghost use Rattle.std.specs.Prelude.{◌≡◌, IfSome, IfNone};
 ghost use Rattle.btr_base.specs.Span.{IsSpan};
-ghost use Rattle.btr_node.specs.Page.{IsFront};
+ghost use Rattle.btr_node.specs.Page.{IsHeader};
 
-use crate::page::Front;
+use crate::page::PageHeader;
 use btr_base::{END, FIRST, MAX_VERSIONS, ROOT_HEIGHT, Span};
 
 /// The span of a page, if the fields of both kinds keep the table.
-pub(crate) fn kept_span(front: &Front) -> Option<Span>
-    ensures some { IfSome result (λ s. s ≡ record { start = front.now.start; height = front.now.height }) }
-    ensures keeps { IfSome result (λ s. IsFront front.now) }
-    ensures none { IfNone result (IsFront front.now → ⊥) }
+pub(crate) fn kept_span(header: &PageHeader) -> Option<Span>
+    ensures some { IfSome result (λ s. s ≡ record { start = header.now.start; height = header.now.height }) }
+    ensures keeps { IfSome result (λ s. IsHeader header.now) }
+    ensures none { IfNone result (IsHeader header.now → ⊥) }
 {
-    if front.version < 1 || front.version > MAX_VERSIONS as u64 {
+    if header.version < 1 || header.version > MAX_VERSIONS as u64 {
         return None;
     }
-    span_of(front)
+    span_of(header)
 }
 
 /// The span of this start and this height, if the tree has it.
-fn span_of(front: &Front) -> Option<Span>
-    ensures some { IfSome result (λ s. s ≡ record { start = front.now.start; height = front.now.height }) }
+fn span_of(header: &PageHeader) -> Option<Span>
+    ensures some { IfSome result (λ s. s ≡ record { start = header.now.start; height = header.now.height }) }
     ensures span { IfSome result (λ s. IsSpan s) }
-    ensures none { IfNone result (IsSpan (record { start = front.now.start; height = front.now.height }) → ⊥) }
+    ensures none { IfNone result (IsSpan (record { start = header.now.start; height = header.now.height }) → ⊥) }
 {
-    if front.height > u32::from(ROOT_HEIGHT) || front.start < FIRST || front.start >= END {
+    if header.height > u32::from(ROOT_HEIGHT) || header.start < FIRST || header.start >= END {
         return None;
     }
-    let span = Span::of(front.start, front.height as u8);
-    if start_of(&span) != front.start {
+    let span = Span::of(header.start, header.height as u8);
+    if start_of(&span) != header.start {
         return None;
     }
     Some(span)

@@ -2,21 +2,21 @@
 ghost use Rattle.std.specs.Prelude.{◌≡◌, ◌+◌, ◌*◌, ◌<◌, ◌≤◌, ◌++◌, length, take};
 ghost use Rattle.std.specs.Int.{w64, w128, cast_unsigned};
 ghost use Rattle.std.specs.List.{flat_map};
-ghost use Rattle.btr_node.specs.Page.{front_bytes, point_bytes, slot_bytes, ends_or};
+ghost use Rattle.btr_node.specs.Page.{header_bytes, point_bytes, slot_bytes, ends_or};
 
 use crate::fields::{put, put_u32, put_u64, put_u128};
-use crate::page::{Front, PAGE, PageSlot, SLOTS};
+use crate::page::{PAGE, PageHeader, PageSlot, SLOTS};
 use btr_base::{Agg, Point};
 
 /// Writes the fields of both kinds, from the index 8 on, and the zeros after them.
-pub(crate) fn put_front(to: &mut [u8; PAGE], front: &Front)
-    ensures { take 64 to.new ≡ take 8 to.old ++ front_bytes front.now }
+pub(crate) fn put_header(to: &mut [u8; PAGE], header: &PageHeader)
+    ensures { take 64 to.new ≡ take 8 to.old ++ header_bytes header.now }
 {
-    put_u64(to, 8, front.start.cast_unsigned());
-    put_u32(to, 16, front.height);
-    put_u32(to, 20, front.stream);
-    put_u64(to, 24, front.version);
-    put_u64(to, 32, front.count);
+    put_u64(to, 8, header.start.cast_unsigned());
+    put_u32(to, 16, header.height);
+    put_u32(to, 20, header.stream);
+    put_u64(to, 24, header.version);
+    put_u64(to, 32, header.count);
     put(to, 40, &[0; 24]);
 }
 

@@ -6,7 +6,7 @@ use Rattle.std.proofs.lemmas.Option.{slice_get_past}
 use Rattle.btr_disk.specs.declared.disk.Disk.{Ghosts}
 use Rattle.btr_disk.specs.Bytes.{Image}
 use Rattle.btr_base.specs.Span.{SpanValue}
-use Rattle.btr_node.specs.Page.{front, Keeps, slots_of_page}
+use Rattle.btr_node.specs.Page.{header, Keeps, slots_of_page}
 use Rattle.btr_node.specs.declared.page.NodePage.{NodePage}
 use Rattle.btr_node.specs.declared.page.NodePage.TheVariants.{Leaf, Inner}
 use Rattle.btr_node.specs.declared.page.PageSlot.{PageSlot}
@@ -61,10 +61,10 @@ slot-there page slots i slot same lt is =
     subst (λ xs. slice_get xs i ≡ Some slot) same (slot-in slots i slot lt ∙ ap Some (sym is))
 
 -- The height of a child is less than that of its page.
-pub height-falls : (page : NodePage) (i : ℕ) (slot : PageSlot) (child : NodePage) → Keeps page → slice_get (slots_of_page page) i ≡ Some slot → IsChildPage page i slot child → (front child).height < (front page).height
+pub height-falls : (page : NodePage) (i : ℕ) (slot : PageSlot) (child : NodePage) → Keeps page → slice_get (slots_of_page page) i ≡ Some slot → IsChildPage page i slot child → (header child).height < (header page).height
 height-falls (Leaf start height stream version count points) i slot child keeps there fits = absurd (cc)
 height-falls (Inner start height stream version count slots) i slot child keeps there fits =
-    let down : (front child).height ≡ height - 1 = ap (λ (s : SpanValue). s.height) fits.span in
+    let down : (header child).height ≡ height - 1 = ap (λ (s : SpanValue). s.height) fits.span in
     let some = keeps.height_from in
     omega arith
 

@@ -23,7 +23,7 @@ use Rattle.btr_tree.specs.Nodes.{points_of, above_root, is_node}
 use Rattle.btr_tree.proofs.NewNodeLemmas.{last_change-before}
 use Rattle.btr_tree.proofs.RootLemmas.{root-points}
 use Rattle.btr_tree.proofs.VersionLemmas.{points-after}
-use Rattle.btr_node.specs.Page.{front, page_bytes, Keeps, Spells, Fits}
+use Rattle.btr_node.specs.Page.{header, page_bytes, Keeps, Spells, Fits}
 use Rattle.btr_node.specs.declared.page.NodePage.{NodePage}
 use Rattle.btr_node.specs.declared.page.NodePage.TheVariants.{Leaf, Inner}
 use Rattle.btr_node.proofs.PageLemmas.{page-once}
@@ -203,16 +203,16 @@ adds-not-empty added = above-none (length added)
 
 -- ---- the root that leads to the tree of a version
 
-span-height : (page : NodePage) → (front page).height ≡ (node_of_page page).span.height
+span-height : (page : NodePage) → (header page).height ≡ (node_of_page page).span.height
 span-height (Leaf start height stream version count points) = refl
 span-height (Inner start height stream version count slots) = refl
 
-its-version : (page : NodePage) → (front page).version ≡ (node_of_page page).version
+its-version : (page : NodePage) → (header page).version ≡ (node_of_page page).version
 its-version (Leaf start height stream version count points) = refl
 its-version (Inner start height stream version count slots) = refl
 
 -- The page of a node of the root's span, in a past whose versions are before `version + 1`, is that of the root of the version.
-pub root-page : (stream version : ℕ) (page : NodePage) (links : ℕ → ℕ) (h : Past) → (front page).stream ≡ stream → node_of_page page ≡ node_to links 10 FIRST above_root h → IsBefore (version + 1) h → IsRootPage stream version page
+pub root-page : (stream version : ℕ) (page : NodePage) (links : ℕ → ℕ) (h : Past) → (header page).stream ≡ stream → node_of_page page ≡ node_to links 10 FIRST above_root h → IsBefore (version + 1) h → IsRootPage stream version page
 root-page stream version page links h its says old =
     let low = last_change-before (is_node above_root 10 FIRST) 10 FIRST h (version + 1) (omega arith) old in
     let made = its-version page ∙ ap (λ (n : NewNodeValue). n.version) says in

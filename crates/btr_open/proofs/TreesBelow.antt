@@ -7,7 +7,7 @@ use Rattle.std.proofs.lemmas.Bool.Decides.{nat_tests}
 use Rattle.std.proofs.lemmas.Option.{slice_get_past}
 use Rattle.btr_disk.specs.Bytes.{Image}
 use Rattle.btr_base.specs.Span.{SpanValue, slot_of}
-use Rattle.btr_node.specs.Page.{front, slots_of_page, span_of_page}
+use Rattle.btr_node.specs.Page.{header, slots_of_page, span_of_page}
 use Rattle.btr_node.specs.declared.page.NodePage.{NodePage}
 use Rattle.btr_node.specs.declared.page.PageSlot.{PageSlot}
 use Rattle.btr_pages.specs.Pages.{Pages, IsPageAt, IsChildPage, HasChildPage}
@@ -225,13 +225,13 @@ child-or page i slot child =
     ⊎_elim
     (λ count. inl (record { stream = stream; span = span; version = version; count = count }))
     (λ ne. inr (λ is. ne is.count))
-    (cases_eq (front child).count slot.agg.count))
+    (cases_eq (header child).count slot.agg.count))
     (λ ne. inr (λ is. ne is.version))
-    (cases_eq (front child).version slot.version))
+    (cases_eq (header child).version slot.version))
     (λ ne. inr (λ is. ne is.span))
     (span-or (span_of_page child) (slot_of (span_of_page page) i)))
     (λ ne. inr (λ is. ne is.stream))
-    (cases_eq (front child).stream (front page).stream)
+    (cases_eq (header child).stream (header page).stream)
 
 -- The slot of a page with a point, if there is one, has a child that is among the pages.
 abbrev IsRight : Pages → ℕ → NodePage → ℕ → Option PageSlot → Type 0

@@ -387,9 +387,9 @@ fn is_child(page: &NodePage, i: u8, slot: &PageSlot, child: &NodePage) -> bool
     requires child { Keeps child.now }
     ensures { IsTrue result ↔ IsChildPage page.now i slot.now child.now }
 {
-    let front = child.front();
-    front.stream == page.front().stream
+    let header = child.header();
+    header.stream == page.header().stream
         && child.span() == page.span().slot(i)
-        && front.version == slot.version
-        && front.count == slot.count()
+        && header.version == slot.version
+        && header.count == slot.count()
 }

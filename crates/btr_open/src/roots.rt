@@ -118,8 +118,8 @@ fn test(right: bool) -> RootTest
 fn is_root_page(page: &NodePage, stream: u32, version: u64) -> bool
     ensures { IsTrue result ↔ IsRootPage stream version page.now }
 {
-    let front = page.front();
-    front.height == u32::from(ROOT_HEIGHT) && front.stream == stream && front.version <= version
+    let header = page.header();
+    header.height == u32::from(ROOT_HEIGHT) && header.stream == stream && header.version <= version
 }
 
 /// The block of bytes from the index `at` on.

@@ -10,8 +10,8 @@ use Rattle.std.proofs.lemmas.List.Concat.{flat_map-cons}
 use Rattle.std.proofs.lemmas.Option.{slice_get_past}
 use Rattle.btr_base.specs.declared.point.Point.{Point}
 use Rattle.btr_base.proofs.ListLemmas.{each-append, each-weaker}
-use Rattle.btr_node.specs.Page.{front, front_bytes, point_bytes, slot_bytes, page_bytes, number, zeros, Fits}
-use Rattle.btr_node.specs.declared.page.Front.{Front}
+use Rattle.btr_node.specs.Page.{header, header_bytes, point_bytes, slot_bytes, page_bytes, number, zeros, Fits}
+use Rattle.btr_node.specs.declared.page.PageHeader.{PageHeader}
 use Rattle.btr_node.specs.declared.page.NodePage.{NodePage}
 use Rattle.btr_node.specs.declared.page.NodePage.TheVariants.{Leaf, Inner}
 use Rattle.btr_node.specs.declared.page.PageSlot.{PageSlot}
@@ -38,9 +38,9 @@ parts-one (c ∷ a) (d ∷ b) x y size same =
 
 -- ---- the length of a page
 
-length-front : (f : Front) → length (front_bytes f) ≡ 56
-unfolding front_bytes number zeros
-length-front f = refl
+length-header : (f : PageHeader) → length (header_bytes f) ≡ 56
+unfolding header_bytes number zeros
+length-header f = refl
 
 length-point : (p : Point) → length (point_bytes p) ≡ 16
 unfolding point_bytes number
@@ -67,13 +67,13 @@ length-rest = refl
 pub length-page : (p : NodePage) → HasPlaces p → length (page_bytes p) ≡ 4096
 unfolding page_bytes
 length-page (Leaf start height stream version count points) fits =
-    let f : Front = front (Leaf start height stream version count points) in
+    let f : PageHeader = header (Leaf start height stream version count points) in
     let all : length points ≡ 252 = fits in
-    omega (arith, length-append (codes "BTR-LEAF" ++ front_bytes f) (flat_map point_bytes points), length-append (codes "BTR-LEAF") (front_bytes f), length-front f, length-points points)
+    omega (arith, length-append (codes "BTR-LEAF" ++ header_bytes f) (flat_map point_bytes points), length-append (codes "BTR-LEAF") (header_bytes f), length-header f, length-points points)
 length-page (Inner start height stream version count slots) fits =
-    let f : Front = front (Inner start height stream version count slots) in
+    let f : PageHeader = header (Inner start height stream version count slots) in
     let all : length slots ≡ 64 = fits in
-    omega (arith, length-append (codes "BTR-NODE" ++ front_bytes f ++ flat_map slot_bytes slots) (zeros 448), length-append (codes "BTR-NODE" ++ front_bytes f) (flat_map slot_bytes slots), length-append (codes "BTR-NODE") (front_bytes f), length-front f, length-slots slots, length-rest)
+    omega (arith, length-append (codes "BTR-NODE" ++ header_bytes f ++ flat_map slot_bytes slots) (zeros 448), length-append (codes "BTR-NODE" ++ header_bytes f) (flat_map slot_bytes slots), length-append (codes "BTR-NODE") (header_bytes f), length-header f, length-slots slots, length-rest)
 
 -- ---- pages
 

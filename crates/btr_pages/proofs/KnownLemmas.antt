@@ -26,8 +26,8 @@ use Rattle.btr_tree.specs.Slots.{block_of, AreSameSlots}
 use Rattle.btr_tree.specs.Stored.{Store, leaf_node}
 use Rattle.btr_tree.proofs.NodeLemmas.{slot-part}
 use Rattle.btr_tree.proofs.ReadLemmas.{read-along, leaf-read, inner-read, IsSlotOf}
-use Rattle.btr_node.specs.Page.{front, Keeps, Fits, IsSlot, IsLeafPage, IsInnerPage, span_of_page, slots_of_page}
-use Rattle.btr_node.specs.declared.page.Front.{Front}
+use Rattle.btr_node.specs.Page.{header, Keeps, Fits, IsSlot, IsLeafPage, IsInnerPage, span_of_page, slots_of_page}
+use Rattle.btr_node.specs.declared.page.PageHeader.{PageHeader}
 use Rattle.btr_node.specs.declared.page.NodePage.{NodePage}
 use Rattle.btr_node.specs.declared.page.NodePage.TheVariants.{Leaf, Inner}
 use Rattle.btr_node.specs.declared.page.PageSlot.{PageSlot}
@@ -68,7 +68,7 @@ knows-all pages nodes page are i =
 
 -- ---- a page stands rightly exactly if the trees of its children were made
 
-child-right : (pages : Pages) (nodes : NodesValue) (block : ℕ) (page : NodePage) (i : ℕ) (slot : PageSlot) → ArePartOf pages nodes → HasKnownChild nodes block (slot_of (span_of_page page) i) (front page).stream slot → HasChildPage pages block page i slot
+child-right : (pages : Pages) (nodes : NodesValue) (block : ℕ) (page : NodePage) (i : ℕ) (slot : PageSlot) → ArePartOf pages nodes → HasKnownChild nodes block (slot_of (span_of_page page) i) (header page).stream slot → HasChildPage pages block page i slot
 child-right pages nodes block page i slot are has =
     let known = known-at pages nodes slot.child has.known are has.is in
     let at = block-at nodes slot.child has.known has.is in
@@ -84,7 +84,7 @@ child-right pages nodes block page i slot are has =
       };
     }
 
-slot-right : (pages : Pages) (nodes : NodesValue) (block : ℕ) (page : NodePage) (i : ℕ) (o : Option PageSlot) → ArePartOf pages nodes → IfSome o (MayHaveChild nodes block (slot_of (span_of_page page) i) (front page).stream) → IfSome o (λ slot. 0 < slot.agg.count → HasChildPage pages block page i slot)
+slot-right : (pages : Pages) (nodes : NodesValue) (block : ℕ) (page : NodePage) (i : ℕ) (o : Option PageSlot) → ArePartOf pages nodes → IfSome o (MayHaveChild nodes block (slot_of (span_of_page page) i) (header page).stream) → IfSome o (λ slot. 0 < slot.agg.count → HasChildPage pages block page i slot)
 slot-right pages nodes block page i None are may = may
 slot-right pages nodes block page i (Some slot) are may = λ some. child-right pages nodes block page i slot are (may some)
 
@@ -103,7 +103,7 @@ some-known nodes b =
       | Some k ↦ λ e some. (k, e)
     ] refl
 
-child-known : (pages : Pages) (nodes : NodesValue) (block : ℕ) (page : NodePage) (i : ℕ) (slot : PageSlot) → ArePartOf pages nodes → (IsSome (pages slot.child) → IsSome (node_at nodes slot.child)) → HasChildPage pages block page i slot → HasKnownChild nodes block (slot_of (span_of_page page) i) (front page).stream slot
+child-known : (pages : Pages) (nodes : NodesValue) (block : ℕ) (page : NodePage) (i : ℕ) (slot : PageSlot) → ArePartOf pages nodes → (IsSome (pages slot.child) → IsSome (node_at nodes slot.child)) → HasChildPage pages block page i slot → HasKnownChild nodes block (slot_of (span_of_page page) i) (header page).stream slot
 child-known pages nodes block page i slot are knows has =
     let found = some-known nodes slot.child (knows (subst IsSome (sym has.is) refl)) in
     let known = known-at pages nodes slot.child found.0 are found.1 in
@@ -124,7 +124,7 @@ child-known pages nodes block page i slot are knows has =
       };
     }
 
-slot-known : (pages : Pages) (nodes : NodesValue) (block : ℕ) (page : NodePage) (i : ℕ) (o : Option PageSlot) → ArePartOf pages nodes → IfSome o (λ slot. 0 < slot.agg.count → IsSome (pages slot.child) → IsSome (node_at nodes slot.child)) → IfSome o (λ slot. 0 < slot.agg.count → HasChildPage pages block page i slot) → IfSome o (MayHaveChild nodes block (slot_of (span_of_page page) i) (front page).stream)
+slot-known : (pages : Pages) (nodes : NodesValue) (block : ℕ) (page : NodePage) (i : ℕ) (o : Option PageSlot) → ArePartOf pages nodes → IfSome o (λ slot. 0 < slot.agg.count → IsSome (pages slot.child) → IsSome (node_at nodes slot.child)) → IfSome o (λ slot. 0 < slot.agg.count → HasChildPage pages block page i slot) → IfSome o (MayHaveChild nodes block (slot_of (span_of_page page) i) (header page).stream)
 slot-known pages nodes block page i None are knows has = has
 slot-known pages nodes block page i (Some slot) are knows has = λ some.
     child-known pages nodes block page i slot are (knows some) (has some)
@@ -135,9 +135,9 @@ page-known pages nodes block page are knows right i =
 
 -- ---- the node of a page
 
-node-here : (pages : Pages) (block : ℕ) (page : NodePage) (s : ℕ) → pages block ≡ Some page → s ≡ (front page).stream → nodes_in pages s block ≡ Some (node_of_page page)
+node-here : (pages : Pages) (block : ℕ) (page : NodePage) (s : ℕ) → pages block ≡ Some page → s ≡ (header page).stream → nodes_in pages s block ≡ Some (node_of_page page)
 node-here pages block page s here e =
-    let yes : nat_eq (front page).stream s ≡ true = grind (arith, nat_tests) in
+    let yes : nat_eq (header page).stream s ≡ true = grind (arith, nat_tests) in
     ap (option_and_then (node_of_stream s)) here ∙ ap (λ t. cond t (Some (node_of_page page)) None) yes
 
 -- ---- the tree of a page
@@ -205,7 +205,7 @@ part-read_at pages nodes block span below number s version slots parts are high 
 
 -- ---- the tree of the page in a block was made of it
 
-leaf-known : (pages : Pages) (block : ℕ) (page : NodePage) (s version : ℕ) (span : SpanValue) (points : List Point) (t : TreeValue) → pages block ≡ Some page → 1 ≤ block → AreLeafPoints span points → s ≡ (front page).stream → node_of_page page ≡ leaf_node span version points → IsLeafMade block span version points t → IsRead (nodes_in pages s) t.span.height t.span.start t.node
+leaf-known : (pages : Pages) (block : ℕ) (page : NodePage) (s version : ℕ) (span : SpanValue) (points : List Point) (t : TreeValue) → pages block ≡ Some page → 1 ≤ block → AreLeafPoints span points → s ≡ (header page).stream → node_of_page page ≡ leaf_node span version points → IsLeafMade block span version points t → IsRead (nodes_in pages s) t.span.height t.span.start t.node
 leaf-known pages block page s version span points t here some are e node m =
     let f = nodes_in pages s in
     subst (λ (u : SpanValue). IsRead f u.height u.start t.node) (sym m.is.its_span) (leaf-read f span version block points t m.is some are.some are.few (node-here pages block page s here e ∙ ap Some node))
@@ -215,7 +215,7 @@ slot-of_part slots below i start store part lt r =
     let at = at-slot slots i lt in
     subst (λ o. IsSlotOf o (get_or (versions_of slots) i 0) (part_node part)) (sym (slice_get-map slot_of_page slots i ∙ ap (option_map slot_of_page) at)) (sym (version-at slots i (get_or slots i no-slot) at), r.child)
 
-inner-known : (pages : Pages) (nodes : NodesValue) (block : ℕ) (page : NodePage) (s number version : ℕ) (span : SpanValue) (slots : List PageSlot) (t : TreeValue) → ArePartOf pages nodes → pages block ≡ Some page → 1 ≤ block → 1 ≤ span.height → s ≡ (front page).stream → s ≡ number → length slots ≡ 64 → AllByRecursion (IsSlot version) slots → node_of_page page ≡ record { span = span; version = version; points = []; slots = map slot_of_page slots } → IsInnerMade nodes block span number version slots t → IsRead (nodes_in pages s) t.span.height t.span.start t.node
+inner-known : (pages : Pages) (nodes : NodesValue) (block : ℕ) (page : NodePage) (s number version : ℕ) (span : SpanValue) (slots : List PageSlot) (t : TreeValue) → ArePartOf pages nodes → pages block ≡ Some page → 1 ≤ block → 1 ≤ span.height → s ≡ (header page).stream → s ≡ number → length slots ≡ 64 → AllByRecursion (IsSlot version) slots → node_of_page page ≡ record { span = span; version = version; points = []; slots = map slot_of_page slots } → IsInnerMade nodes block span number version slots t → IsRead (nodes_in pages s) t.span.height t.span.start t.node
 inner-known pages nodes block page s number version span slots t are here some high e f full all node m =
     let store = nodes_in pages s in
     let below = span.height - 1 in
@@ -237,7 +237,7 @@ pub made-of_page : (pages : Pages) (nodes : NodesValue) (block : ℕ) (page : No
 made-of_page pages nodes block (Leaf start height stream version count points) k are here some keeps fits m =
     let page = Leaf start height stream version count points in
     let span : SpanValue = record { start = start; height = height } in
-    let points_are = leaf-points (front page) points keeps fits.1 in
+    let points_are = leaf-points (header page) points keeps fits.1 in
     let to = keeps.count_to in
     let full = fits.1 in
     record {
@@ -410,11 +410,11 @@ addition old new block page k some fresh keeps fits m is =
     subst (λ xs. TakesPage old xs block page × HasOnly old xs block) (sym is) (subst (λ b. TakesPage old (old ++ k ∷ []) b page × HasOnly old (old ++ k ∷ []) b) at (here, λ c has. added-only old k c has))
 
 -- The count of a page is that of the tree that was made of it.
-pub leaf-counted : (block version : ℕ) (span : SpanValue) (f : Front) (points : List Point) (t : TreeValue) → IsLeafPage f points → length points ≡ 252 → IsLeafMade block span version (take f.count points) t → IsReadTree f.count t
+pub leaf-counted : (block version : ℕ) (span : SpanValue) (f : PageHeader) (points : List Point) (t : TreeValue) → IsLeafPage f points → length points ≡ 252 → IsLeafMade block span version (take f.count points) t → IsReadTree f.count t
 leaf-counted block version span f points t keeps full m =
     let to = keeps.count_to in
     record { opened = m.opened; is = sym (leaf-count block version span (take f.count points) t m ∙ length-take-le f.count points (omega arith)) }
 
-pub inner-counted : (nodes : NodesValue) (block number version : ℕ) (span : SpanValue) (f : Front) (slots : List PageSlot) (t : TreeValue) → IsInnerPage f slots → length slots ≡ 64 → IsInnerMade nodes block span number version slots t → IsReadTree f.count t
+pub inner-counted : (nodes : NodesValue) (block number version : ℕ) (span : SpanValue) (f : PageHeader) (slots : List PageSlot) (t : TreeValue) → IsInnerPage f slots → length slots ≡ 64 → IsInnerMade nodes block span number version slots t → IsReadTree f.count t
 inner-counted nodes block number version span f slots t keeps full m =
     record { opened = m.opened; is = sym (inner-count nodes block span number version slots t m full ∙ keeps.total) }

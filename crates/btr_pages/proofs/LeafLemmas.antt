@@ -13,7 +13,7 @@ use Rattle.btr_tree.specs.Change.{end_of}
 use Rattle.btr_tree.specs.Opened.{IsLeafTree}
 use Rattle.btr_tree.specs.Root.{TreeValue, WasOpened}
 use Rattle.btr_node.specs.Page.{IsInside, IsLeafPage}
-use Rattle.btr_node.specs.declared.page.Front.{Front}
+use Rattle.btr_node.specs.declared.page.PageHeader.{PageHeader}
 use Rattle.btr_pages.specs.Made.{AreLeafPoints, IsLeafMade}
 
 inside-is : (start : ℤ) (height : ℕ) (p : Point) → IsInside start height p → is_within start (start +ℤ pos (width height)) p ≡ true
@@ -24,7 +24,7 @@ inside-all start height [] all = tt
 inside-all start height (p ∷ ps) all = (inside-is start height p all.0, inside-all start height ps all.1)
 
 -- The used places of a leaf's page have the points of a leaf.
-pub leaf-points : (f : Front) (points : List Point) → IsLeafPage f points → length points ≡ 252 → AreLeafPoints (record { start = f.start; height = f.height }) (take f.count points)
+pub leaf-points : (f : PageHeader) (points : List Point) → IsLeafPage f points → length points ≡ 252 → AreLeafPoints (record { start = f.start; height = f.height }) (take f.count points)
 leaf-points f points keeps full =
     let from = keeps.count_from in
     let to = keeps.count_to in

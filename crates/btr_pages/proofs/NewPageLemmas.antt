@@ -9,8 +9,8 @@ use Rattle.btr_base.specs.declared.point.Point.{Point}
 use Rattle.btr_base.specs.Span.{SpanValue}
 use Rattle.btr_tree.specs.declared.node.Slot.{Slot}
 use Rattle.btr_tree.specs.NewNodes.{NewNodeValue}
-use Rattle.btr_node.specs.declared.page.Front.{Front}
-use Rattle.btr_node.specs.Page.{front_bytes, page_bytes, places_with, slot_bytes, zeros}
+use Rattle.btr_node.specs.declared.page.PageHeader.{PageHeader}
+use Rattle.btr_node.specs.Page.{header_bytes, page_bytes, places_with, slot_bytes, zeros}
 use Rattle.btr_node.specs.declared.page.NodePage.TheVariants.{Leaf, Inner}
 use Rattle.btr_node.specs.declared.page.PageSlot.{PageSlot}
 use Rattle.btr_pages.specs.Pages.{unused, places_of, page_slot, unused_slot, page_slots_of, page_with, page_of}
@@ -78,7 +78,7 @@ few-places ps l is = omega (arith, ap length is, length-take 252 ps)
 -- ---- the page
 
 -- The mark and the fields, the slots and the zeros after them make the page of an inner node.
-pub inner-filled : (f : Front) (slots : List PageSlot) (t1 t2 t3 : List ℕ) → take 64 t1 ≡ codes "BTR-NODE" ++ front_bytes f → take 3648 t2 ≡ take 64 t1 ++ flat_map slot_bytes slots → t3 ≡ take 3648 t2 ++ zeros 448 → t3 ≡ page_bytes (Inner f.start f.height f.stream f.version f.count slots)
+pub inner-filled : (f : PageHeader) (slots : List PageSlot) (t1 t2 t3 : List ℕ) → take 64 t1 ≡ codes "BTR-NODE" ++ header_bytes f → take 3648 t2 ≡ take 64 t1 ++ flat_map slot_bytes slots → t3 ≡ take 3648 t2 ++ zeros 448 → t3 ≡ page_bytes (Inner f.start f.height f.stream f.version f.count slots)
 unfolding page_bytes
 inner-filled f slots t1 t2 t3 e1 e2 e3 =
     e3 ∙ ap (λ l. l ++ zeros 448) (e2 ∙ ap (λ l. l ++ flat_map slot_bytes slots) e1)
@@ -87,9 +87,9 @@ leaf-page : (stream : ℕ) (span : SpanValue) (v : ℕ) (ps : List Point) (ss : 
 leaf-page stream span v ps [] none = refl
 leaf-page stream span v ps (s ∷ ss) none = absurd (omega arith)
 
-pub leaf-is : (stream : ℕ) (n : NewNodeValue) (f : Front) (count : ℕ) (first : List Point) → f ≡ record { start = n.span.start; height = n.span.height; stream = stream; version = n.version; count = count } → count ≡ length n.points → first ≡ take 252 n.points → length n.slots ≡ 0 → Leaf f.start f.height f.stream f.version f.count (places_with first) ≡ page_of stream n
+pub leaf-is : (stream : ℕ) (n : NewNodeValue) (f : PageHeader) (count : ℕ) (first : List Point) → f ≡ record { start = n.span.start; height = n.span.height; stream = stream; version = n.version; count = count } → count ≡ length n.points → first ≡ take 252 n.points → length n.slots ≡ 0 → Leaf f.start f.height f.stream f.version f.count (places_with first) ≡ page_of stream n
 leaf-is stream n f count first e many is none =
-    ap (λ (g : Front). Leaf g.start g.height g.stream g.version g.count (places_with first)) e
+    ap (λ (g : PageHeader). Leaf g.start g.height g.stream g.version g.count (places_with first)) e
     ∙ ap (λ k. Leaf n.span.start n.span.height stream n.version k (places_with first)) many
     ∙ ap (λ l. Leaf n.span.start n.span.height stream n.version (length n.points) l) (ap places_with is ∙ first-places n.points)
     ∙ leaf-page stream n.span n.version n.points n.slots none

@@ -20,7 +20,7 @@ use Rattle.btr_tree.specs.NewNodes.{NewNodeValue}
 use Rattle.btr_tree.specs.Nodes.{points_of}
 use Rattle.btr_tree.specs.Stored.{leaf_node}
 use Rattle.btr_tree.proofs.VersionLemmas.{points-in_order}
-use Rattle.btr_node.specs.Page.{front, IsInside, IsUnused, IsSlot, Keeps, FitsFront, FitsPoint, FitsSlot, Fits, span_of_page}
+use Rattle.btr_node.specs.Page.{header, IsInside, IsUnused, IsSlot, Keeps, FitsHeader, FitsPoint, FitsSlot, Fits, span_of_page}
 use Rattle.btr_node.specs.declared.page.NodePage.{NodePage}
 use Rattle.btr_node.specs.declared.page.NodePage.TheVariants.{Leaf, Inner}
 use Rattle.btr_node.specs.declared.page.PageSlot.{PageSlot}
@@ -109,11 +109,11 @@ inner-again stream s k v ss e =
     ap node_of_page (inner-page_of stream (record { start = s; height = k }) v [] ss e) ∙ node-by _ _ _ _ _ _ _ refl refl (slots-again ss)
 
 -- The page of a node is of the stream.
-with-stream : (stream : ℕ) (span : SpanValue) (v : ℕ) (ps : List Point) (ss : List Slot) → (front (page_with stream span v ps ss)).stream ≡ stream
+with-stream : (stream : ℕ) (span : SpanValue) (v : ℕ) (ps : List Point) (ss : List Slot) → (header (page_with stream span v ps ss)).stream ≡ stream
 with-stream stream span v ps [] = refl
 with-stream stream span v ps (s ∷ ss) = refl
 
-pub page_of-stream : (stream : ℕ) (n : NewNodeValue) → (front (page_of stream n)).stream ≡ stream
+pub page_of-stream : (stream : ℕ) (n : NewNodeValue) → (header (page_of stream n)).stream ≡ stream
 page_of-stream stream n = with-stream stream n.span n.version n.points n.slots
 
 -- A page has all its places.
@@ -138,17 +138,17 @@ pub page-span : (page : NodePage) → span_of_page page ≡ (node_of_page page).
 page-span (Leaf start height stream version count points) = refl
 page-span (Inner start height stream version count slots) = refl
 
-pub page-version : (page : NodePage) → (front page).version ≡ (node_of_page page).version
+pub page-version : (page : NodePage) → (header page).version ≡ (node_of_page page).version
 page-version (Leaf start height stream version count points) = refl
 page-version (Inner start height stream version count slots) = refl
 
 -- A page that keeps the table has a version from 1 on.
-pub page-versioned : (page : NodePage) → Keeps page → 1 ≤ (front page).version
+pub page-versioned : (page : NodePage) → Keeps page → 1 ≤ (header page).version
 page-versioned (Leaf start height stream version count points) keeps = keeps.fields.version_from
 page-versioned (Inner start height stream version count slots) keeps = keeps.fields.version_from
 
 -- The count of a page that says a leaf, and of one that says an inner node.
-pub leaf-count : (page : NodePage) (span : SpanValue) (v : ℕ) (ps : List Point) → Keeps page → HasPlaces page → node_of_page page ≡ leaf_node span v ps → 0 < length ps → (front page).count ≡ length ps
+pub leaf-count : (page : NodePage) (span : SpanValue) (v : ℕ) (ps : List Point) → Keeps page → HasPlaces page → node_of_page page ≡ leaf_node span v ps → 0 < length ps → (header page).count ≡ length ps
 leaf-count (Leaf start height stream version count points) span v ps keeps places says some =
     let few = keeps.count_to in
     let e = ap (λ (n : NewNodeValue). length n.points) says in
@@ -161,7 +161,7 @@ sum-again [] = refl
 sum-again (s ∷ ss) =
     omega (arith, sum_by-cons (λ (x : Slot). x.agg.count) (slot_of_page s) (map slot_of_page ss), sum_by-cons (λ (x : PageSlot). x.agg.count) s ss, sum-again ss)
 
-pub inner-count : (page : NodePage) (span : SpanValue) (v : ℕ) (ss : List Slot) → Keeps page → node_of_page page ≡ record { span = span; version = v; points = []; slots = ss } → 0 < length ss → (front page).count ≡ sum_by (λ (s : Slot). s.agg.count) ss
+pub inner-count : (page : NodePage) (span : SpanValue) (v : ℕ) (ss : List Slot) → Keeps page → node_of_page page ≡ record { span = span; version = v; points = []; slots = ss } → 0 < length ss → (header page).count ≡ sum_by (λ (s : Slot). s.agg.count) ss
 inner-count (Leaf start height stream version count points) span v ss keeps says some =
     let e = ap (λ (n : NewNodeValue). length n.slots) says in absurd (omega arith)
 inner-count (Inner start height stream version count slots) span v ss keeps says some =
@@ -238,8 +238,8 @@ start-fits s k aligned =
     let ends = aligned.1.ends in
     omega (arith, ints)
 
-front-fits : (s : ℤ) (k stream v count : ℕ) → IsSpan (record { start = s; height = k }) → stream < 2 ^ 32 → v ≤ 4294967295 → count < 2 ^ 64 → FitsFront (record { start = s; height = k; stream = stream; version = v; count = count })
-front-fits s k stream v count aligned low high few =
+header-fits : (s : ℤ) (k stream v count : ℕ) → IsSpan (record { start = s; height = k }) → stream < 2 ^ 32 → v ≤ 4294967295 → count < 2 ^ 64 → FitsHeader (record { start = s; height = k; stream = stream; version = v; count = count })
+header-fits s k stream v count aligned low high few =
     let short = aligned.1.height in
     record { start = start-fits s k aligned; height = omega arith; stream = low; version = omega arith; count = few }
 
@@ -261,12 +261,12 @@ leaf-fits stream s k v b aligned low high few values =
     let ps = points_of k s b in
     let fine = each-filter (λ p. IsValue p.value) (is_within s (s +ℤ pos (width k))) b values in
     let points = each-weaker (λ p. IsInside s k p × IsValue p.value) FitsPoint (point-fits s k aligned) ps (each-both (IsInside s k) (λ p. IsValue p.value) ps (points-inside s k b) fine) in
-    (front-fits s k stream v (length ps) aligned low high (omega arith), fill-length 252 ps unused, fill-each FitsPoint 252 ps unused points unused-fits)
+    (header-fits s k stream v (length ps) aligned low high (omega arith), fill-length 252 ps unused, fill-each FitsPoint 252 ps unused points unused-fits)
 
 pub inner-fits : (stream : ℕ) (s : ℤ) (k v : ℕ) (ss : List Slot) → IsSpan (record { start = s; height = k }) → stream < 2 ^ 32 → v ≤ 4294967295 → length ss ≡ 64 → AllByRecursion (λ x. FitsSlot (page_slot x)) ss → Fits (page_of stream (record { span = record { start = s; height = k }; version = v; points = []; slots = ss }))
 inner-fits stream s k v ss aligned low high long each =
     let n = sum_by (λ (x : Slot). x.agg.count) ss in
-    subst Fits (sym (inner-page_of stream (record { start = s; height = k }) v [] ss long)) (front-fits s k stream v (n % 2 ^ 64) aligned low high (omega arith), length-map ss page_slot ∙ long, each-map page_slot FitsSlot ss each)
+    subst Fits (sym (inner-page_of stream (record { start = s; height = k }) v [] ss long)) (header-fits s k stream v (n % 2 ^ 64) aligned low high (omega arith), length-map ss page_slot ∙ long, each-map page_slot FitsSlot ss each)
 
 -- ---- one place of the page that is made
 

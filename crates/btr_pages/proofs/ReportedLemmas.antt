@@ -32,7 +32,7 @@ use Rattle.btr_tree.proofs.LeadsLemmas.{stored-leads}
 use Rattle.btr_tree.proofs.NodeLemmas.{slot-part, prefix-next, prefix-none, prefix-all}
 use Rattle.btr_tree.proofs.RootLemmas.{root-aligned, root-points, tree-room}
 use Rattle.btr_tree.proofs.StoredLemmas.{stored-below}
-use Rattle.btr_node.specs.Page.{front, IsSlot, Keeps, FitsPoint, FitsSlot, Fits, span_of_page, slots_of_page}
+use Rattle.btr_node.specs.Page.{header, IsSlot, Keeps, FitsPoint, FitsSlot, Fits, span_of_page, slots_of_page}
 use Rattle.btr_node.specs.declared.page.NodePage.{NodePage}
 use Rattle.btr_node.specs.declared.page.PageSlot.{PageSlot}
 use Rattle.btr_pages.specs.Pages.{Pages, with_pages, node_of_page, node_of_stream, nodes_in, page_slot, page_of, pages_of, HasChildPage, IsPageAt, ArePages}
@@ -76,16 +76,16 @@ stored-along pages first new stream k s child h =
 pub record IsPageOf (pages : Pages) (stream b : ℕ) (n : NewNodeValue) : Type 0 where
   pub page : NodePage
   pub is : pages b ≡ Some page
-  pub its_stream : (front page).stream ≡ stream
+  pub its_stream : (header page).stream ≡ stream
   pub says : node_of_page page ≡ n
 
 equal-test : (a b : ℕ) → nat_eq a b ≡ true → a ≡ b
 equal-test a b e = grind (arith, nat_tests)
 
-stream-of : (stream : ℕ) (page : NodePage) (n : NewNodeValue) → node_of_stream stream page ≡ Some n → ((front page).stream ≡ stream) × (node_of_page page ≡ n)
+stream-of : (stream : ℕ) (page : NodePage) (n : NewNodeValue) → node_of_stream stream page ≡ Some n → ((header page).stream ≡ stream) × (node_of_page page ≡ n)
 stream-of stream page n at =
-    elim (nat_eq (front page).stream stream) as (λ t. nat_eq (front page).stream stream ≡ t → cond t (Some (node_of_page page)) None ≡ Some n → ((front page).stream ≡ stream) × (node_of_page page ≡ n)) [
-      | true ↦ λ e here. (equal-test (front page).stream stream e, cc)
+    elim (nat_eq (header page).stream stream) as (λ t. nat_eq (header page).stream stream ≡ t → cond t (Some (node_of_page page)) None ≡ Some n → ((header page).stream ≡ stream) × (node_of_page page ≡ n)) [
+      | true ↦ λ e here. (equal-test (header page).stream stream e, cc)
       | false ↦ λ e here. absurd (cc)
     ] refl at
 
@@ -100,7 +100,7 @@ page-in pages stream b n at = some-page pages stream b n (pages b) refl at
 
 says-node : (stream : ℕ) (n : NewNodeValue) → node_of_page (page_of stream n) ≡ n → node_of_stream stream (page_of stream n) ≡ Some n
 says-node stream n says =
-    let same : nat_eq (front (page_of stream n)).stream stream ≡ true = grind (arith, nat_tests, page_of-stream stream n) in
+    let same : nat_eq (header (page_of stream n)).stream stream ≡ true = grind (arith, nat_tests, page_of-stream stream n) in
     ap (λ t. cond t (Some (node_of_page (page_of stream n))) None) same ∙ ap Some says
 
 map-nodes : (stream : ℕ) (o : Option NewNodeValue) → ((n : NewNodeValue) → o ≡ Some n → node_of_page (page_of stream n) ≡ n) → option_and_then (node_of_stream stream) (option_map (page_of stream) o) ≡ o
@@ -294,7 +294,7 @@ reported-keeps pages stream first h c reported w i n at =
 record HasPage (pages : Pages) (stream b : ℕ) (n : NewNodeValue) : Type 0 where
   pub page : NodePage
   pub is : pages b ≡ Some page
-  pub its_stream : (front page).stream ≡ stream
+  pub its_stream : (header page).stream ≡ stream
   pub says : node_of_page page ≡ n
   pub keeps : Keeps page
   pub places : HasPlaces page
@@ -326,7 +326,7 @@ has-page pages stream first h c reported w b n at =
     ]
 
 -- The count of a page of a span.
-page-count : (pages : Pages) (stream first : ℕ) (h : Past) (c : Commit) (reported : List NewNodeValue) → IsWritten pages stream first h c reported → (k : ℕ) (s : ℤ) (above : List Point → Bool) (block : ℕ) (page : NodePage) → IsSpan (record { start = s; height = k }) → 0 < length (points_of k s (bag (c ▷ h))) → (to : LeadsTo (Reported pages stream first c.version reported) k s above (c ▷ h) block) → node_of_page page ≡ node_to to.links k s above (c ▷ h) → Keeps page → HasPlaces page → (front page).count ≡ length (points_of k s (bag (c ▷ h)))
+page-count : (pages : Pages) (stream first : ℕ) (h : Past) (c : Commit) (reported : List NewNodeValue) → IsWritten pages stream first h c reported → (k : ℕ) (s : ℤ) (above : List Point → Bool) (block : ℕ) (page : NodePage) → IsSpan (record { start = s; height = k }) → 0 < length (points_of k s (bag (c ▷ h))) → (to : LeadsTo (Reported pages stream first c.version reported) k s above (c ▷ h) block) → node_of_page page ≡ node_to to.links k s above (c ▷ h) → Keeps page → HasPlaces page → (header page).count ≡ length (points_of k s (bag (c ▷ h)))
 page-count pages stream first h c reported w k s above block page aligned some to says keeps places =
     let H = c ▷ h in
     let v = node_version above k s H in
@@ -340,7 +340,7 @@ page-count pages stream first h c reported w k s above block page aligned some t
     ]
 
 -- The child of a slot that has a point.
-child-page : (pages : Pages) (stream first : ℕ) (h : Past) (c : Commit) (reported : List NewNodeValue) → IsWritten pages stream first h c reported → (block : ℕ) (parent : NodePage) (below : ℕ) (s : ℤ) (link i : ℕ) → (front parent).stream ≡ stream → span_of_page parent ≡ record { start = s; height = suc below } → IsSpan (record { start = s; height = suc below }) → i < 64 → (link < block) × Leads (Reported pages stream first c.version reported) below (slot_start below s i) (is_inner (suc below) s) (c ▷ h) link → 0 < length (points_of below (slot_start below s i) (bag (c ▷ h))) → HasChildPage (with_pages pages first (pages_of stream reported)) block parent i (page_slot (slot_to link (slot_of_points (suc below) s below (slot_start below s i) (c ▷ h))))
+child-page : (pages : Pages) (stream first : ℕ) (h : Past) (c : Commit) (reported : List NewNodeValue) → IsWritten pages stream first h c reported → (block : ℕ) (parent : NodePage) (below : ℕ) (s : ℤ) (link i : ℕ) → (header parent).stream ≡ stream → span_of_page parent ≡ record { start = s; height = suc below } → IsSpan (record { start = s; height = suc below }) → i < 64 → (link < block) × Leads (Reported pages stream first c.version reported) below (slot_start below s i) (is_inner (suc below) s) (c ▷ h) link → 0 < length (points_of below (slot_start below s i) (bag (c ▷ h))) → HasChildPage (with_pages pages first (pages_of stream reported)) block parent i (page_slot (slot_to link (slot_of_points (suc below) s below (slot_start below s i) (c ▷ h))))
 child-page pages stream first h c reported w block parent below s link i of_stream of_span aligned lt next some =
     let H = c ▷ h in
     let t = slot_start below s i in

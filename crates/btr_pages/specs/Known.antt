@@ -4,7 +4,7 @@ use Rattle.btr_base.specs.declared.limits.TheConstants.{FIRST}
 use Rattle.btr_tree.specs.Leads.{IsRead}
 use Rattle.btr_tree.specs.Root.{TreeValue, WasOpened, root_part, version_of}
 use Rattle.btr_tree.specs.Slots.{block_of}
-use Rattle.btr_node.specs.Page.{front, Keeps, span_of_page, slots_of_page}
+use Rattle.btr_node.specs.Page.{header, Keeps, span_of_page, slots_of_page}
 use Rattle.btr_node.specs.declared.page.NodePage.{NodePage}
 use Rattle.btr_pages.specs.Pages.{Pages, with_pages, nodes_in, HasRootPage, IsPageAt}
 
@@ -26,10 +26,10 @@ node_at (known ∷ nodes) block = if nat_eq known.block block then Some known el
 -- What a tree has of the page that it was made of, and that it was read from there with all below it.
 pub record CameFrom (pages : Pages) (page : NodePage) (known : KnownValue) : Type 0 where
   pub keeps : Keeps page
-  pub stream : known.stream ≡ (front page).stream
+  pub stream : known.stream ≡ (header page).stream
   pub span : known.tree.span ≡ span_of_page page
-  pub version : version_of known.tree.node ≡ (front page).version
-  pub count : known.tree.total.count ≡ (front page).count
+  pub version : version_of known.tree.node ≡ (header page).version
+  pub count : known.tree.total.count ≡ (header page).count
   pub opened : WasOpened known.tree
   pub its_block : block_of known.tree.node ≡ known.block
   pub read : IsRead (nodes_in pages known.stream) known.tree.span.height known.tree.span.start known.tree.node

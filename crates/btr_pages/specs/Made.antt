@@ -7,8 +7,8 @@ use Rattle.btr_base.specs.Span.{SpanValue, slot_of}
 use Rattle.btr_base.specs.declared.point.Point.{Point}
 use Rattle.btr_tree.specs.Opened.{part_at, AreParts, IsLeafTree, IsInnerTree}
 use Rattle.btr_tree.specs.Root.{TreeValue, WasOpened, version_of}
-use Rattle.btr_node.specs.Page.{front, Spells, Fits, IsInside, span_of_page, slots_of_page}
-use Rattle.btr_node.specs.declared.page.Front.{Front}
+use Rattle.btr_node.specs.Page.{header, Spells, Fits, IsInside, span_of_page, slots_of_page}
+use Rattle.btr_node.specs.declared.page.PageHeader.{PageHeader}
 use Rattle.btr_node.specs.declared.page.NodePage.{NodePage}
 use Rattle.btr_node.specs.declared.page.NodePage.TheVariants.{Leaf, Inner}
 use Rattle.btr_node.specs.declared.page.PageSlot.{PageSlot}
@@ -66,7 +66,7 @@ HaveKnownChildren nodes block span number slots =
 
 -- The trees of the children of the page in a block were made.
 abbrev pub IsBuildable : NodesValue → ℕ → NodePage → Type 0
-IsBuildable nodes block page = HaveKnownChildren nodes block (span_of_page page) (front page).stream (slots_of_page page)
+IsBuildable nodes block page = HaveKnownChildren nodes block (span_of_page page) (header page).stream (slots_of_page page)
 
 -- The tree of a slot's child, if the slot has a point.
 abbrev pub part_of : NodesValue → Option PageSlot → Option TreeValue
@@ -92,8 +92,8 @@ abbrev pub versions_of : List PageSlot → List ℕ
 versions_of slots = map (λ s. s.version) slots
 
 -- The span of a page with these fields.
-abbrev pub front_span : Front → SpanValue
-front_span f = record { start = f.start; height = f.height }
+abbrev pub header_span : PageHeader → SpanValue
+header_span f = record { start = f.start; height = f.height }
 
 -- The points of a leaf's page: at least one and at most 252, in order and in the span.
 pub record AreLeafPoints (span : SpanValue) (points : List Point) : Type 0 where
@@ -126,7 +126,7 @@ IsTreeOfPage nodes block (Inner start height stream version count slots) t =
 -- The page in a block, its stream and the tree that was made of it.
 pub record IsMadeAt (nodes : NodesValue) (block : ℕ) (page : NodePage) (known : KnownValue) : Type 0 where
   pub its_block : known.block ≡ block
-  pub stream : known.stream ≡ (front page).stream
+  pub stream : known.stream ≡ (header page).stream
   pub tree : IsTreeOfPage nodes block page known.tree
 
 -- ---- the page that a block is

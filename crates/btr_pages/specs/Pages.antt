@@ -9,7 +9,7 @@ use Rattle.btr_base.specs.declared.point.Point.{Point}
 use Rattle.btr_tree.specs.NewNodes.{NewNodeValue}
 use Rattle.btr_tree.specs.Stored.{Store}
 use Rattle.btr_tree.specs.declared.node.Slot.{Slot}
-use Rattle.btr_node.specs.Page.{front, Keeps, span_of_page, slots_of_page}
+use Rattle.btr_node.specs.Page.{header, Keeps, span_of_page, slots_of_page}
 use Rattle.btr_node.specs.declared.page.NodePage.{NodePage}
 use Rattle.btr_node.specs.declared.page.NodePage.TheVariants.{Leaf, Inner}
 use Rattle.btr_node.specs.declared.page.PageSlot.{PageSlot}
@@ -53,7 +53,7 @@ node_of_page (Inner start height stream version count slots) =
 
 -- The node that a page says, if the page is of this stream.
 abbrev pub node_of_stream : ℕ → NodePage → Option NewNodeValue
-node_of_stream stream page = if nat_eq (front page).stream stream then Some (node_of_page page) else None
+node_of_stream stream page = if nat_eq (header page).stream stream then Some (node_of_page page) else None
 
 -- The node of a stream that is in each block, if there is one.
 abbrev pub nodes_in : Pages → ℕ → Store
@@ -107,10 +107,10 @@ pages_of stream nodes = map (page_of stream) nodes
 -- A page is that of the child of slot i of a parent, where the slot has this version and count: of the same stream, of the
 -- slot's span, with its version and its count.
 pub record IsChildPage (parent : NodePage) (i : ℕ) (slot : PageSlot) (child : NodePage) : Type 0 where
-  pub stream : (front child).stream ≡ (front parent).stream
+  pub stream : (header child).stream ≡ (header parent).stream
   pub span : span_of_page child ≡ slot_of (span_of_page parent) i
-  pub version : (front child).version ≡ slot.version
-  pub count : (front child).count ≡ slot.agg.count
+  pub version : (header child).version ≡ slot.version
+  pub count : (header child).count ≡ slot.agg.count
 
 -- The child of slot i of the page in a block: it is in a lower block, and its page is that of the slot.
 pub record HasChildPage (pages : Pages) (block : ℕ) (parent : NodePage) (i : ℕ) (slot : PageSlot) : Type 0 where
@@ -133,9 +133,9 @@ ArePages pages first new =
 
 -- The page of the root of a version of a stream: its height is that of the whole domain, and it is not newer than the version.
 pub record IsRootPage (stream version : ℕ) (page : NodePage) : Type 0 where
-  pub height : (front page).height ≡ 10
-  pub its_stream : (front page).stream ≡ stream
-  pub not_newer : (front page).version ≤ version
+  pub height : (header page).height ≡ 10
+  pub its_stream : (header page).stream ≡ stream
+  pub not_newer : (header page).version ≤ version
 
 -- The block has the page of the root of a version.
 pub record HasRootPage (pages : Pages) (stream version block : ℕ) : Type 0 where

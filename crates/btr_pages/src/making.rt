@@ -2,13 +2,13 @@
 ghost use Rattle.std.specs.Prelude.{◌≡◌, ℕ, IfOk, MatchOption};
 ghost use Rattle.btr_base.specs.Span.{IsSpan};
 ghost use Rattle.btr_node.specs.Page.{Keeps, Fits, IsInnerPage};
-ghost use Rattle.btr_pages.specs.Made.{AreLeafPoints, HaveKnownChildren, IsBuildable, IsInnerMade, IsLeafMade, IsMadeAt, front_span};
+ghost use Rattle.btr_pages.specs.Made.{AreLeafPoints, HaveKnownChildren, IsBuildable, IsInnerMade, IsLeafMade, IsMadeAt, header_span};
 
 use crate::children::{parts_of, versions};
 use crate::known::Known;
 use crate::nodes::Nodes;
 use btr_base::{Bag, Point, Span};
-use btr_node::{Front, NodePage, PageSlot};
+use btr_node::{NodePage, PageHeader, PageSlot};
 use btr_tree::{Steps, Tree};
 use std::alloc::{AllocError, Global};
 
@@ -25,15 +25,15 @@ pub(crate) fn make<L>(
     requires fits { Fits page.now }
     ensures { IfOk result (λ r. MatchOption r (IsBuildable nodes.now block page.now → ⊥) (IsMadeAt nodes.now block page.now)) }
 {
-    let front = page.front();
+    let header = page.header();
     let span = page.span();
     let tree = match page {
         NodePage::Leaf { points, .. } => {
-            let points = &points[..front.count as usize];
-            make_leaf(alloc, block, span, front.version, points, steps)?
+            let points = &points[..header.count as usize];
+            make_leaf(alloc, block, span, header.version, points, steps)?
         }
         NodePage::Inner { slots, .. } => {
-            let Some(tree) = make_inner(alloc, nodes, block, &front, slots, steps)? else {
+            let Some(tree) = make_inner(alloc, nodes, block, &header, slots, steps)? else {
                 return Ok(None);
             };
             tree
@@ -41,8 +41,8 @@ pub(crate) fn make<L>(
     };
     Ok(Some(Known {
         block,
-        stream: front.stream,
-        count: front.count,
+        stream: header.stream,
+        count: header.count,
         tree,
     }))
 }
@@ -69,30 +69,30 @@ fn make_inner<L>(
     alloc: Global,
     nodes: &Nodes,
     block: u64,
-    front: &Front,
+    header: &PageHeader,
     slots: &[PageSlot; 64],
     steps: &mut Steps<L>,
 ) -> Result<Option<Tree>, AllocError>
-    requires keeps { IsInnerPage front.now slots.now }
-    ensures { IfOk result (λ r. MatchOption r (HaveKnownChildren nodes.now block (front_span front.now) front.now.stream slots.now → ⊥)
-        (IsInnerMade nodes.now block (front_span front.now) front.now.stream front.now.version slots.now)) }
+    requires keeps { IsInnerPage header.now slots.now }
+    ensures { IfOk result (λ r. MatchOption r (HaveKnownChildren nodes.now block (header_span header.now) header.now.stream slots.now → ⊥)
+        (IsInnerMade nodes.now block (header_span header.now) header.now.stream header.now.version slots.now)) }
 {
-    let span = span_of(front);
-    let Some(parts) = parts_of(alloc, nodes, block, span, front.stream, slots)? else {
+    let span = span_of(header);
+    let Some(parts) = parts_of(alloc, nodes, block, span, header.stream, slots)? else {
         return Ok(None);
     };
-    let version = front.version;
+    let version = header.version;
     let tree = Tree::inner(alloc, span, version, block, &parts, &versions(slots), steps)?;
     Ok(Some(tree))
 }
 
 /// The span of a page with these fields.
-fn span_of(front: &Front) -> Span
-    requires { IsSpan (front_span front.now) }
-    ensures { result ≡ front_span front.now }
+fn span_of(header: &PageHeader) -> Span
+    requires { IsSpan (header_span header.now) }
+    ensures { result ≡ header_span header.now }
 {
     Span {
-        start: front.start,
-        height: front.height as u8,
+        start: header.start,
+        height: header.height as u8,
     }
 }

@@ -6,7 +6,9 @@ ghost use Rattle.btr_node.specs.declared.page.NodePage.TheVariants.{Inner};
 ghost use Rattle.btr_pages.specs.Pages.{page_of, page_slots_of, page_slot, unused_slot};
 
 use btr_base::{Agg, LEAF_POINTS, Point};
-use btr_node::{Front, PAGE, PageSlot, SLOTS, fill_leaf, put_inner_end, put_inner_front, put_slot};
+use btr_node::{
+    PAGE, PageHeader, PageSlot, SLOTS, fill_leaf, put_inner_end, put_inner_header, put_slot,
+};
 use btr_tree::{NewNode, NewSlots};
 
 /// Writes the page of a node of a stream. It takes constant time and no memory.
@@ -14,16 +16,16 @@ pub fn fill_page(to: &mut [u8; PAGE], node: &NewNode, stream: u32)
     ensures { to.new ≡ page_bytes (page_of stream node.now) }
 {
     if node.slots.len() > 0 {
-        let front = front_of(node, stream, total(&node.slots));
-        return fill_inner(to, &front, &node.slots);
+        let header = header_of(node, stream, total(&node.slots));
+        return fill_inner(to, &header, &node.slots);
     }
     let points = node.points.as_slice();
-    let front = front_of(node, stream, points.len() as u64);
-    fill_leaf(to, &front, first_points(points));
+    let header = header_of(node, stream, points.len() as u64);
+    fill_leaf(to, &header, first_points(points));
 }
 
 /// The fields of the page of a node of a stream, with this count.
-fn front_of(node: &NewNode, stream: u32, count: u64) -> Front
+fn header_of(node: &NewNode, stream: u32, count: u64) -> PageHeader
     ensures { result ≡ record {
       start = node.now.span.start;
       height = node.now.span.height;
@@ -33,7 +35,7 @@ fn front_of(node: &NewNode, stream: u32, count: u64) -> Front
     } }
 {
     let span = node.span;
-    Front {
+    PageHeader {
         start: span.start,
         height: u32::from(span.height),
         stream,
@@ -50,11 +52,11 @@ fn first_points(points: &[Point]) -> &[Point]
 }
 
 /// Writes the page of an inner node with these fields and slots.
-fn fill_inner(to: &mut [u8; PAGE], front: &Front, slots: &NewSlots)
-    ensures { to.new ≡ page_bytes (Inner front.now.start front.now.height front.now.stream front.now.version front.now.count
+fn fill_inner(to: &mut [u8; PAGE], header: &PageHeader, slots: &NewSlots)
+    ensures { to.new ≡ page_bytes (Inner header.now.start header.now.height header.now.stream header.now.version header.now.count
         (page_slots_of slots.now)) }
 {
-    put_inner_front(to, front);
+    put_inner_header(to, header);
     put_slots(to, slots);
     put_inner_end(to);
 }

@@ -3,8 +3,8 @@ ghost use Rattle.std.specs.Prelude.{◌≡◌, ◌+◌, ◌*◌, ◌^◌, ◌<�
 
 use btr_disk::bytes::put;
 use btr_disk::{
-    BLOCK, Blocks, Capacity, Disk, GATE_MARK, HeldBlocks, MemDisk, NoBlocks, Outlet, Parts, Supply,
-    write_by_threads,
+    BLOCK, BlockSink, BlockSource, Blocks, Capacity, Disk, GATE_MARK, HeldBlocks, MemDisk,
+    NoBlocks, Parts, write_by_threads,
 };
 use btr_host::*;
 use btr_io::{ReadAllFault, Sink, Source, read_all, write_all};
@@ -166,18 +166,18 @@ impl<'a, R> Blocks for SharedBlocks<'a, R> {
     }
 }
 
-impl<R: Threads + Sync> Supply for SharedBlocks<'_, R> {
+impl<R: Threads + Sync> BlockSource for SharedBlocks<'_, R> {
     ghost use Rattle.std.specs.Thread.{IsSync};
 
     ghost can_work = { IsSync R.row };
 
-    fn write_to(&self, outlet: &(dyn Outlet + Sync)) -> bool {
-        write_by_threads(self.rt, &self.blocks, self.threads, outlet)
+    fn write_to(&self, sink: &(dyn BlockSink + Sync)) -> bool {
+        write_by_threads(self.rt, &self.blocks, self.threads, sink)
     }
 }
 
-/// Makes a file, writes two blocks in parts and then 37 of a supply to it from block 3 on, by this number of threads, and syncs.
-fn is_written_from_a_supply<T: Threads + Sync>(
+/// Makes a file, writes two blocks in parts and then 37 of a source to it from block 3 on, by this number of threads, and syncs.
+fn is_written_from_a_source<T: Threads + Sync>(
     rt: &HostRuntime,
     by: &T,
     path: &str,
@@ -226,24 +226,24 @@ fn wanted(alloc: Global) -> Result<Vec<u8>, AllocError> {
     Ok(bytes)
 }
 
-/// Writes from a supply by this number of threads, and returns whether the file has the blocks in order.
-fn keeps_a_supply<T: Threads + Sync>(
+/// Writes from a source by this number of threads, and returns whether the file has the blocks in order.
+fn keeps_a_source<T: Threads + Sync>(
     rt: &HostRuntime,
     by: &T,
     threads: usize,
 ) -> Result<bool, Fail> {
-    let path = path_for(rt, "supply")?;
-    let is_written = is_written_from_a_supply(rt, by, &path, threads)?;
+    let path = path_for(rt, "source")?;
+    let is_written = is_written_from_a_source(rt, by, &path, threads)?;
     let is_kept = blocks_from_two(rt, &path)? == wanted(rt.alloc())?;
     fs::remove_file(rt, &path)?;
     Ok(is_written && is_kept)
 }
 
-/// A file keeps the blocks of a supply after the front, in order, also if the last piece is not whole and if several threads write.
+/// A file keeps the blocks of a source after the prefix, in order, also if the last piece is not whole and if several threads write.
 #[test]
-fn a_file_keeps_the_blocks_of_a_supply(rt: HostRuntime) -> Result<(), Fail> {
+fn a_file_keeps_the_blocks_of_a_source(rt: HostRuntime) -> Result<(), Fail> {
     for threads in 1..5 {
-        assert!(rt; keeps_a_supply(&rt, &rt, threads)?);
+        assert!(rt; keeps_a_source(&rt, &rt, threads)?);
     }
     Ok(())
 }

@@ -9,7 +9,7 @@ use Rattle.btr_log.specs.Piece.{PieceValue}
 use Rattle.btr_tree.specs.History.{Past}
 use Rattle.btr_tree.specs.NewNodes.{NewNodeValue}
 use Rattle.btr_tree.specs.Stored.{Store}
-use Rattle.btr_node.specs.Page.{front, span_of_page, slots_of_page}
+use Rattle.btr_node.specs.Page.{header, span_of_page, slots_of_page}
 use Rattle.btr_node.specs.declared.page.NodePage.{NodePage}
 use Rattle.btr_pages.specs.Pages.{Pages, nodes_in, node_of_page, slot_of_page}
 use Rattle.btr_hist.specs.declared.entry.Entry.{Entry}
@@ -33,10 +33,10 @@ goes-on pages h image tail marks block at next page down further =
 
 module _ (pages : Pages) (h : List Entry) (image : Image) (tail : ℕ) (marks : List Mark) (block : ℕ) (page : NodePage) (wrong : IsPageNotRight pages h image tail marks block page) (lt : block < tail) where
   abbrev S : Store
-  S = nodes_in pages (front page).stream
+  S = nodes_in pages (header page).stream
 
   abbrev P : Past
-  P = past_of h (front page).stream
+  P = past_of h (header page).stream
 
   abbrev node : NewNodeValue
   node = node_of_page page
@@ -102,9 +102,9 @@ module _ (pages : Pages) (h : List Entry) (image : Image) (tail : ℕ) (marks : 
             some = first.some;
             next =
                 let c = has.child in
-                let to = subst (λ b. IsFirstWrongOn (nodes_in pages (front c).stream) (past_of h (front c).stream) (span_of_page c) (front c).version b way.0 named) (sym first.its_child) way.1 in
-                let stream = subst (λ s. IsFirstWrongOn (nodes_in pages s) (past_of h s) (span_of_page c) (front c).version first.slot.child way.0 named) has.fits.stream to in
-                let span = subst (λ (x : SpanValue). IsFirstWrongOn S P x (front c).version first.slot.child way.0 named) has.fits.span stream in
+                let to = subst (λ b. IsFirstWrongOn (nodes_in pages (header c).stream) (past_of h (header c).stream) (span_of_page c) (header c).version b way.0 named) (sym first.its_child) way.1 in
+                let stream = subst (λ s. IsFirstWrongOn (nodes_in pages s) (past_of h s) (span_of_page c) (header c).version first.slot.child way.0 named) has.fits.stream to in
+                let span = subst (λ (x : SpanValue). IsFirstWrongOn S P x (header c).version first.slot.child way.0 named) has.fits.span stream in
                 subst (λ v. IsFirstWrongOn S P (slot_of (span_of_page page) first.at) v first.slot.child way.0 named) has.fits.version span;
           },
         );

@@ -11,7 +11,7 @@ use Rattle.btr_tree.specs.declared.node.Slot.{Slot}
 use Rattle.btr_tree.specs.History.{Past}
 use Rattle.btr_tree.specs.NewNodes.{NewNodeValue}
 use Rattle.btr_tree.specs.Stored.{Store}
-use Rattle.btr_node.specs.Page.{front, Keeps, IsSlot, span_of_page, slots_of_page}
+use Rattle.btr_node.specs.Page.{header, Keeps, IsSlot, span_of_page, slots_of_page}
 use Rattle.btr_node.specs.declared.page.NodePage.{NodePage}
 use Rattle.btr_node.specs.declared.page.NodePage.TheVariants.{Leaf, Inner}
 use Rattle.btr_node.specs.declared.page.PageSlot.{PageSlot}
@@ -36,7 +36,7 @@ pub node-span : (page : NodePage) → (node_of_page page).span ≡ span_of_page 
 node-span (Leaf start height stream version count points) = refl
 node-span (Inner start height stream version count slots) = refl
 
-pub node-version : (page : NodePage) → (node_of_page page).version ≡ (front page).version
+pub node-version : (page : NodePage) → (node_of_page page).version ≡ (header page).version
 node-version (Leaf start height stream version count points) = refl
 node-version (Inner start height stream version count slots) = refl
 
@@ -56,7 +56,7 @@ each-at P (x ∷ xs) zero all = all.0
 each-at P (x ∷ xs) (suc i) all = each-at P xs i all.1
 
 -- The slots of a page keep the table.
-slot-keeps : (page : NodePage) → Keeps page → (i : ℕ) → IfSome (slice_get (slots_of_page page) i) (IsSlot (front page).version)
+slot-keeps : (page : NodePage) → Keeps page → (i : ℕ) → IfSome (slice_get (slots_of_page page) i) (IsSlot (header page).version)
 slot-keeps (Leaf start height stream version count points) keeps i = tt
 slot-keeps (Inner start height stream version count slots) keeps i = each-at (IsSlot version) slots i keeps.each
 
@@ -83,13 +83,13 @@ page-placed image pages block page stored =
       some = stored.some;
       aligned = subst IsSpan (sym (node-span page)) (page-aligned page keeps);
       lower = λ i. subst (λ o. IfSome o Low) (sym (slot-as page i)) (if-map slot_of_page (λ slot. 0 < slot.agg.count → HasChildPage pages block page i slot) Low (slice_get (slots_of_page page) i) (λ slot has some. (has some).lower) (stored.stands.children i));
-      none = λ i. subst (λ o. IfSome o Zero) (sym (slot-as page i)) (if-map slot_of_page (IsSlot (front page).version) Zero (slice_get (slots_of_page page) i) (λ slot keeps_it. keeps_it.no_child) (slot-keeps page keeps i));
+      none = λ i. subst (λ o. IfSome o Zero) (sym (slot-as page i)) (if-map slot_of_page (IsSlot (header page).version) Zero (slice_get (slots_of_page page) i) (λ slot keeps_it. keeps_it.no_child) (slot-keeps page keeps i));
     }
 
 -- The node of a stream in the block of a page.
-pub node-here : (pages : Pages) (block : ℕ) (page : NodePage) (s : ℕ) → pages block ≡ Some page → s ≡ (front page).stream → nodes_in pages s block ≡ Some (node_of_page page)
+pub node-here : (pages : Pages) (block : ℕ) (page : NodePage) (s : ℕ) → pages block ≡ Some page → s ≡ (header page).stream → nodes_in pages s block ≡ Some (node_of_page page)
 node-here pages block page s here e =
-    let yes : nat_eq (front page).stream s ≡ true = grind (arith, nat_tests) in
+    let yes : nat_eq (header page).stream s ≡ true = grind (arith, nat_tests) in
     ap (option_and_then (node_of_stream s)) here ∙ ap (λ t. cond t (Some (node_of_page page)) None) yes
 
 -- ---- the mark of a page
@@ -103,7 +103,7 @@ judged-right store h block node Wrong rising aligned judged = (λ right. absurd 
 pub record HasMark (pages : Pages) (h : List Entry) (marks : List Mark) (block : ℕ) (page : NodePage) : Type 0 where
   pub mark : Mark
   pub is : slice_get marks block ≡ Some mark
-  pub judged : IsJudged (nodes_in pages (front page).stream) (past_of h (front page).stream) block (node_of_page page) mark
+  pub judged : IsJudged (nodes_in pages (header page).stream) (past_of h (header page).stream) block (node_of_page page) mark
 
 pub has-mark : (pages : Pages) (h : List Entry) (n : ℕ) (marks : List Mark) (block : ℕ) (page : NodePage) → AreMarked pages h n marks → block < n → pages block ≡ Some page → HasPageVersion h page → HasMark pages h marks block page
 has-mark pages h n marks block page marked lt at has =
@@ -116,18 +116,18 @@ has-mark pages h n marks block page marked lt at has =
     ] refl
 
 -- A page is right exactly if its mark says so.
-pub right-marked : (image : Image) (pages : Pages) (h : List Entry) (n : ℕ) (marks : List Mark) (block : ℕ) (page : NodePage) → AreMarked pages h n marks → block < n → IsStoredAt image pages block page → pages block ≡ Some page → HasPageVersion h page → IsRight (nodes_in pages (front page).stream) (past_of h (front page).stream) block (node_of_page page) ↔ (slice_get marks block ≡ Some Right)
+pub right-marked : (image : Image) (pages : Pages) (h : List Entry) (n : ℕ) (marks : List Mark) (block : ℕ) (page : NodePage) → AreMarked pages h n marks → block < n → IsStoredAt image pages block page → pages block ≡ Some page → HasPageVersion h page → IsRight (nodes_in pages (header page).stream) (past_of h (header page).stream) block (node_of_page page) ↔ (slice_get marks block ≡ Some Right)
 right-marked image pages h n marks block page marked lt stored at has =
     let m = has-mark pages h n marks block page marked lt at has in
     let placed = page-placed image pages block page stored in
-    let r = judged-right (nodes_in pages (front page).stream) (past_of h (front page).stream) block (node_of_page page) m.mark (past-rising h (front page).stream) placed.aligned m.judged in
+    let r = judged-right (nodes_in pages (header page).stream) (past_of h (header page).stream) block (node_of_page page) m.mark (past-rising h (header page).stream) placed.aligned m.judged in
     (λ right. m.is ∙ ap Some (r.0 right), λ e. r.1 (same_Some m.mark Right (sym m.is ∙ e)))
 
 pub one-in : (store : Store) (block : ℕ) (m n : NewNodeValue) → IsIn store block m → IsIn store block n → m ≡ n
 one-in store block m n p q = cc
 
 -- A block with the page of this span and version has a right node of them exactly if the page is right.
-pub page-right : (store : Store) (h : Past) (block : ℕ) (page : NodePage) (span : SpanValue) (version : ℕ) → IsIn store block (node_of_page page) → span_of_page page ≡ span → (front page).version ≡ version → HasRight store h span version block ↔ IsRight store h block (node_of_page page)
+pub page-right : (store : Store) (h : Past) (block : ℕ) (page : NodePage) (span : SpanValue) (version : ℕ) → IsIn store block (node_of_page page) → span_of_page page ≡ span → (header page).version ≡ version → HasRight store h span version block ↔ IsRight store h block (node_of_page page)
 page-right store h block page span version is its_span its_version = (
   λ has. subst (IsRight store h block) (one-in store block has.node (node_of_page page) has.right.stored is) has.right,
   λ right. record { node = node_of_page page; its_span = node-span page ∙ its_span; its_version = node-version page ∙ its_version; right = right },
@@ -137,23 +137,23 @@ page-right store h block page span version is its_span its_version = (
 
 module _ (image : Image) (pages : Pages) (h : List Entry) (n : ℕ) (marks : List Mark) (stored : AreStoredAt image pages) (marked : AreMarked pages h n marks) (block : ℕ) (page : NodePage) (at : pages block ≡ Some page) (low : block ≤ n) (has : HasPageVersion h page) where
   abbrev S : Store
-  S = nodes_in pages (front page).stream
+  S = nodes_in pages (header page).stream
 
   abbrev P : Past
-  P = past_of h (front page).stream
+  P = past_of h (header page).stream
 
   own : IsStoredAt image pages block page
   own = stored-page image pages block page stored at
 
   pub page-in : IsIn S block (node_of_page page)
-  page-in = node-here pages block page (front page).stream at refl
+  page-in = node-here pages block page (header page).stream at refl
 
   -- The child of a slot with a point is of a version of the history too.
   pub child-has : (i : ℕ) (slot : PageSlot) → slice_get (slots_of_page page) i ≡ Some slot → (child : HasChildPage pages block page i slot) → HasPageVersion h child.child
   child-has i slot there child =
-      let keeps = subst (λ o. IfSome o (IsSlot (front page).version)) there (slot-keeps page own.stands.keeps i) in
-      let version : (front child.child).version ≤ (front page).version = omega (arith, child.fits.version, keeps.version_to) in
-      subst (λ s. HasVersion h s (front child.child).version) (sym child.fits.stream) (has.0, omega (arith, version, has.1))
+      let keeps = subst (λ o. IfSome o (IsSlot (header page).version)) there (slot-keeps page own.stands.keeps i) in
+      let version : (header child.child).version ≤ (header page).version = omega (arith, child.fits.version, keeps.version_to) in
+      subst (λ s. HasVersion h s (header child.child).version) (sym child.fits.stream) (has.0, omega (arith, version, has.1))
 
   -- The child of a slot with a point is right exactly if its mark says so.
   pub child-marked : (i : ℕ) (slot : PageSlot) → slice_get (slots_of_page page) i ≡ Some slot → 0 < slot.agg.count → HasRight S P (slot_of (span_of_page page) i) slot.version slot.child ↔ (slice_get marks slot.child ≡ Some Right)
@@ -163,7 +163,7 @@ module _ (image : Image) (pages : Pages) (h : List Entry) (n : ℕ) (marks : Lis
       let lower = child.lower in
       let r = right-marked image pages h n marks slot.child child.child marked (omega arith) its child.is (child-has i slot there child) in
       let q = subst (λ s. IsRight (nodes_in pages s) (past_of h s) slot.child (node_of_page child.child) ↔ (slice_get marks slot.child ≡ Some Right)) child.fits.stream r in
-      let is = node-here pages slot.child child.child (front page).stream child.is (sym child.fits.stream) in
+      let is = node-here pages slot.child child.child (header page).stream child.is (sym child.fits.stream) in
       let p = page-right S P slot.child child.child (slot_of (span_of_page page) i) slot.version is child.fits.span child.fits.version in
       (λ x. q.0 (p.0 x), λ e. p.1 (q.1 e))
 
@@ -181,12 +181,12 @@ module _ (image : Image) (pages : Pages) (h : List Entry) (n : ℕ) (marks : Lis
   -- If its own fields and all its children are right, it is right.
   pub right-here : IsOwn P (node_of_page page) → AreMarkedRight marks (slots_of_page page) → IsRight S P block (node_of_page page)
   right-here own_right all =
-      own-right S P (past-rising h (front page).stream) block (node_of_page page) page-in (page-placed image pages block page own) own_right (all-marked all)
+      own-right S P (past-rising h (header page).stream) block (node_of_page page) page-in (page-placed image pages block page own) own_right (all-marked all)
 
   -- If a child is not right, it is not.
   pub not-right : (child : ℕ) → IsFirstNotRight marks (slots_of_page page) child → IsRight S P block (node_of_page page) → ⊥
   not-right child first right =
-      let below = (right-own S P (past-rising h (front page).stream) block (node_of_page page) (page-placed image pages block page own).aligned right).1 in
+      let below = (right-own S P (past-rising h (header page).stream) block (node_of_page page) (page-placed image pages block page own).aligned right).1 in
       let slot = subst (λ o. IfSome o (IsRightSlot S P (node_of_page page).span first.at)) (slot-there page first.at first.slot first.is) (below first.at) first.some in
       let here = subst (λ s. HasRight S P (slot_of s first.at) first.slot.version first.slot.child) (node-span page) slot in
       first.not_right (subst (λ b. slice_get marks b ≡ Some Right) first.its_child ((child-marked first.at first.slot first.is first.some).0 here))

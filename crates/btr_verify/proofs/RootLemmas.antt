@@ -21,7 +21,7 @@ use Rattle.btr_tree.specs.Shape.{ByKind, IsLeaf, IsInner, IsChild}
 use Rattle.btr_tree.specs.Stored.{Store}
 use Rattle.btr_tree.proofs.RootLemmas.{root-points, span-whole}
 use Rattle.btr_tree.proofs.UntouchedNodeLemmas.{some-has}
-use Rattle.btr_node.specs.Page.{front, Keeps, span_of_page}
+use Rattle.btr_node.specs.Page.{header, Keeps, span_of_page}
 use Rattle.btr_node.specs.declared.page.NodePage.{NodePage}
 use Rattle.btr_node.specs.declared.page.NodePage.TheVariants.{Leaf, Inner}
 use Rattle.btr_pages.specs.Pages.{Pages, nodes_in, node_of_page, HasRootPage}
@@ -72,7 +72,7 @@ child-points k s above h None is some = absurd (omega arith)
 child-points zero s above h (Some n) is some = zero-points s above h (out-NodeData n) is
 child-points (suc k) s above h (Some n) is some = kind-points k s above h _ (out-NodeData n) is
 
-page-from : (page : NodePage) → Keeps page → 1 ≤ (front page).version
+page-from : (page : NodePage) → Keeps page → 1 ≤ (header page).version
 page-from (Leaf start height stream version count points) keeps = keeps.fields.version_from
 page-from (Inner start height stream version count slots) keeps = keeps.fields.version_from
 
@@ -158,7 +158,7 @@ module _ (pages : Pages) (h : List Entry) (made : Made) (is : IsCommitOf pages h
             record { some = any; page = its.page; is = there; same = sym version ∙ same ∙ tree-version any t of.tree },
         λ has.
             let page = same_Some has.page its.page (sym has.is ∙ there) in
-            let same : version_of k.tree.node ≡ version_of t.node = version ∙ sym (ap (λ q. (front q).version) page) ∙ has.same ∙ sym (tree-version has.some t of.tree) in
+            let same : version_of k.tree.node ≡ version_of t.node = version ∙ sym (ap (λ q. (header q).version) page) ∙ has.same ∙ sym (tree-version has.some t of.tree) in
             is-same (version_of k.tree.node) (version_of t.node) same,
       )
     where
@@ -169,14 +169,14 @@ module _ (pages : Pages) (h : List Entry) (made : Made) (is : IsCommitOf pages h
 
   module _ (p : HasRootPage pages made.stream made.version made.root) where
     pub page-version : HasPageVersion h p.page
-    page-version = subst (λ s. HasVersion h s (front p.page).version) (sym p.fits.its_stream) (is.has.0, omega (arith, p.fits.not_newer, is.has.1))
+    page-version = subst (λ s. HasVersion h s (header p.page).version) (sym p.fits.its_stream) (is.has.0, omega (arith, p.fits.not_newer, is.has.1))
 
     root-span : Keeps p.page → span_of_page p.page ≡ root_part
     root-span keeps =
         span-whole (span_of_page p.page) (page-aligned p.page keeps) (subst (λ n. 10 ≤ n) (sym p.fits.height) (omega arith))
 
-    tree-page : HasTreeVersion pages h made → (front p.page).version ≡ version_in root_part G
-    tree-page has = subst (λ q. (front q).version ≡ version_in root_part G) (same_Some has.page p.page (sym has.is ∙ p.is)) has.same
+    tree-page : HasTreeVersion pages h made → (header p.page).version ≡ version_in root_part G
+    tree-page has = subst (λ q. (header q).version ≡ version_in root_part G) (same_Some has.page p.page (sym has.is ∙ p.is)) has.same
 
   -- ---- its mark
 
@@ -207,7 +207,7 @@ module _ (pages : Pages) (h : List Entry) (made : Made) (is : IsCommitOf pages h
                 let any = leads-points some leads in
                 let has = (root-right any).0 leads in
                 let same = one-in S made.root has.node (node_of_page p.page) has.right.stored root-in in
-                let version : (front p.page).version ≡ v = sym (node-version p.page) ∙ sym (ap (λ (n : NewNodeValue). n.version) same) ∙ has.its_version in (
+                let version : (header p.page).version ≡ v = sym (node-version p.page) ∙ sym (ap (λ (n : NewNodeValue). n.version) same) ∙ has.its_version in (
                   record { some = any; page = p.page; is = p.is; same = version },
                   root-marked.0 ((page-right S P made.root p.page root_part v root-in span version).0 has),
                 ),
@@ -226,8 +226,8 @@ module _ (pages : Pages) (h : List Entry) (made : Made) (is : IsCommitOf pages h
       -- From a root's page that has the version of the tree's root, the first wrong node is that of the version.
       pub wrong-below : HasTreeVersion pages h made → (named : ℕ) → IsFirstWrongFrom pages h p.page made.root named → IsFirstWrongIn S P made.version made.root named
       wrong-below has named way =
-          let here = subst (λ s. IsFirstWrong (nodes_in pages s) (past_of h s) (span_of_page p.page) (front p.page).version made.root named) p.fits.its_stream way in
-          let span = subst (λ (s : SpanValue). IsFirstWrong S P s (front p.page).version made.root named) (root-span p root-keeps) here in
+          let here = subst (λ s. IsFirstWrong (nodes_in pages s) (past_of h s) (span_of_page p.page) (header p.page).version made.root named) p.fits.its_stream way in
+          let span = subst (λ (s : SpanValue). IsFirstWrong S P s (header p.page).version made.root named) (root-span p root-keeps) here in
           inr (record {
             points = subst (λ a. is_node a 10 FIRST (bag (up_to made.version P)) ≡ true) (sym root-above) (root-node has.some);
             first = subst (λ g. IsFirstWrong S P root_part (version_in root_part g) made.root named) (sym past-up) (subst (λ v. IsFirstWrong S P root_part v made.root named) (tree-page p has) span);
@@ -252,7 +252,7 @@ module _ (pages : Pages) (h : List Entry) (made : Made) (is : IsCommitOf pages h
           refl,
           λ node own.
               let of = page-in pages made.stream made.root node own.stored in
-              let version : (front of.page).version ≡ version_in root_part G = sym (node-version of.page) ∙ ap (λ (n : NewNodeValue). n.version) of.says ∙ own.its_version ∙ ap (version_in root_part) past-up in
+              let version : (header of.page).version ≡ version_in root_part G = sym (node-version of.page) ∙ ap (λ (n : NewNodeValue). n.version) of.says ∙ own.its_version ∙ ap (version_in root_part) past-up in
               other (record { some = any; page = of.page; is = of.is; same = version }),
         ),
       );

@@ -7,7 +7,7 @@ use Rattle.btr_tree.specs.History.{Past}
 use Rattle.btr_tree.specs.NewNodes.{NewNodeValue}
 use Rattle.btr_tree.specs.Root.{root_part}
 use Rattle.btr_tree.specs.Stored.{Store}
-use Rattle.btr_node.specs.Page.{front, span_of_page}
+use Rattle.btr_node.specs.Page.{header, span_of_page}
 use Rattle.btr_node.specs.declared.page.NodePage.{NodePage}
 use Rattle.btr_node.specs.declared.page.PageSlot.{PageSlot}
 use Rattle.btr_pages.specs.Pages.{Pages, nodes_in, node_of_page}
@@ -51,13 +51,13 @@ IsJudged store h block node Wrong = IsOwn h node → ⊥
 
 -- The history has the version of the page.
 abbrev pub HasPageVersion : List Entry → NodePage → Type 0
-HasPageVersion h page = HasVersion h (front page).stream (front page).version
+HasPageVersion h page = HasVersion h (header page).stream (header page).version
 
 -- If the history has the version of the page in a block, the mark says how the page's node is.
 abbrev pub IsMarkOf : Pages → List Entry → ℕ → Mark → NodePage → Type 0
 IsMarkOf pages h block mark page =
     HasPageVersion h page
-    → IsJudged (nodes_in pages (front page).stream) (past_of h (front page).stream) block (node_of_page page) mark
+    → IsJudged (nodes_in pages (header page).stream) (past_of h (header page).stream) block (node_of_page page) mark
 
 -- Each block below n has a mark, which says how the node of its page is, if it has a page.
 pub record AreMarked (pages : Pages) (h : List Entry) (n : ℕ) (marks : List Mark) : Type 0 where
@@ -114,14 +114,14 @@ pub record HasTreeVersion (pages : Pages) (h : List Entry) (made : Made) : Type 
   pub some : 0 < length (version_points h made.stream made.version)
   pub page : NodePage
   pub is : pages made.root ≡ Some page
-  pub same : (front page).version ≡ version_in root_part (commits_to h made.stream made.version)
+  pub same : (header page).version ≡ version_in root_part (commits_to h made.stream made.version)
 
 -- ---- the way down
 
 -- From the page in a block, the first wrong node is in the block that is named.
 abbrev pub IsFirstWrongFrom : Pages → List Entry → NodePage → ℕ → ℕ → Type 0
 IsFirstWrongFrom pages h page block named =
-    IsFirstWrong (nodes_in pages (front page).stream) (past_of h (front page).stream) (span_of_page page) (front page).version block named
+    IsFirstWrong (nodes_in pages (header page).stream) (past_of h (header page).stream) (span_of_page page) (header page).version block named
 
 -- The block has the page, which is of a version of the history, and is not right. The blocks below the tail have marks.
 pub record IsPageNotRight (pages : Pages) (h : List Entry) (image : Image) (tail : ℕ) (marks : List Mark) (block : ℕ) (page : NodePage)

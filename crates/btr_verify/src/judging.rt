@@ -1,7 +1,7 @@
 //! How a page is judged: by the tree of its own version, and by the marks of its children.
 ghost use Rattle.std.specs.Prelude.{◌≡◌, ◌↔◌, ℕ, List, map, slice_get, Some, IfNone, IfSome, IsTrue};
 ghost use Rattle.btr_disk.specs.Bytes.{Image};
-ghost use Rattle.btr_node.specs.Page.{Keeps, front, slots_of_page};
+ghost use Rattle.btr_node.specs.Page.{Keeps, header, slots_of_page};
 ghost use Rattle.btr_pages.specs.Pages.{Pages, node_of_page, slot_of_page};
 ghost use Rattle.btr_hist.specs.declared.entry.Entry.{Entry as EntrySpec};
 ghost use Rattle.btr_streams.specs.Board.{HasVersion};
@@ -14,7 +14,7 @@ ghost use Rattle.btr_verify.specs.Judging.{AreMarkedRight, CanJudge, HasPageVers
 
 use crate::own::is_own;
 use btr_base::{Agg, Point, Span};
-use btr_node::{Front, NodePage, PageSlot, SLOTS};
+use btr_node::{NodePage, PageHeader, PageSlot, SLOTS};
 use btr_streams::Snapshot;
 use btr_tree::{Label, Slot, Steps};
 
@@ -56,14 +56,14 @@ pub(crate) fn judge(snapshot: &Snapshot, marks: &[Mark], page: &NodePage) -> Mar
 fn is_own_page(snapshot: &Snapshot, page: &NodePage) -> bool
     requires { Keeps page.now }
     ensures { (h : List EntrySpec) → IsSnapshotOf h snapshot.now → HasPageVersion h page.now
-        → IsTrue result ↔ IsOwn (past_of h (front page.now).stream) (node_of_page page.now) }
+        → IsTrue result ↔ IsOwn (past_of h (header page.now).stream) (node_of_page page.now) }
 {
-    let Front {
+    let PageHeader {
         stream,
         version,
         count,
         ..
-    } = page.front();
+    } = page.header();
     let span = page.span();
     match page {
         NodePage::Leaf { points, .. } => {

@@ -76,7 +76,7 @@ returns-in_err-write_parts-clause-publishes g c is_observable =
     record {
       published = search rules;
       synced = search rules;
-      moments = first g.D.Disk d0 (4096 * c.args.first) (c.args.front.now ++ g.S.Blocks.bytes c.args.rest.now) (4096 * c.args.at)
+      moments = first g.D.Disk d0 (4096 * c.args.first) (c.args.prefix.now ++ g.S.Blocks.bytes c.args.rest.now) (4096 * c.args.at)
           c.write_parts.new.self c.write_parts.result (g.met.D.Disk.only_now is_observable d0) c.write_parts.ensures.calls (c.write_parts.ensures.writes is_observable);
     }
 
@@ -86,7 +86,7 @@ returns-in_err-sync-clause-publishes g c is_observable =
     record {
       published = search rules;
       synced = search rules;
-      moments = λ settled. first_unsynced g.D.Disk d0 (4096 * c.args.first) (c.args.front.now ++ g.S.Blocks.bytes c.args.rest.now) (4096 * c.args.at)
+      moments = λ settled. first_unsynced g.D.Disk d0 (4096 * c.args.first) (c.args.prefix.now ++ g.S.Blocks.bytes c.args.rest.now) (4096 * c.args.at)
           c.write_parts.new.self c.write_parts.result (g.met.D.Disk.only_now is_observable d0) c.write_parts.ensures.calls (c.write_parts.ensures.writes is_observable) settled
           c.sync.new.self (record { counted = c.sync.ensures.calls; time = c.sync.ensures.time is_observable }) (c.in_err-sync.ensures.unsynced is_observable);
     }
@@ -98,7 +98,7 @@ returns-in_err-write-clause-publishes g c is_observable =
     let d1 = c.write_parts.new.self in
     let d2 = c.sync.new.self in
     let a = 4096 * c.args.first in
-    let body = c.args.front.now ++ g.S.Blocks.bytes c.args.rest.now in
+    let body = c.args.prefix.now ++ g.S.Blocks.bytes c.args.rest.now in
     let p = 4096 * c.args.at in
     let wrote = c.write_parts.ensures.writes is_observable in
     let gate = c.write.ensures.writes is_observable in
@@ -123,7 +123,7 @@ returns-clause-publishes g c is_observable =
     let d3 = c.write.new.self in
     let d4 = c.sync-2.new.self in
     let a = 4096 * c.args.first in
-    let body = c.args.front.now ++ g.S.Blocks.bytes c.args.rest.now in
+    let body = c.args.prefix.now ++ g.S.Blocks.bytes c.args.rest.now in
     let p = 4096 * c.args.at in
     let apart = c.requires.places.apart in
     let wrote = c.write_parts.ensures.writes is_observable in

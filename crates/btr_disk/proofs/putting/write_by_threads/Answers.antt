@@ -7,7 +7,7 @@ pub returns-clause-blocks : goal.returns-clause-blocks
 returns-clause-blocks g c done i inside =
     let each = c.div_ceil-each.result in
     let blocks = c.blocks-blocks.result in
-    let weight = c.front_len-weight.result / 8192 in
+    let weight = c.prefix_len-weight.result / 8192 in
     let some : 0 < c.clamp-portions.result = omega (arith, c.clamp-portions.ensures) in
     let within : weight + i < weight + blocks = omega (arith, inside, c.blocks-blocks.ensures.whole) in
     let here = portion_of each c.clamp-portions.result (weight + blocks) (weight + i) some c.div_ceil-each.ensures within in

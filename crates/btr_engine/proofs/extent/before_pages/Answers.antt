@@ -17,8 +17,8 @@ returns-clause-bytes g c =
     let content = spelling c.args.entry.now in
     let before = c.append_before_points.new.out.items in
     let written = c.append.new.self in
-    let front_is : c.put_head.new.extent.items ≡ head = c.in_ok-put_head.ensures ∙ ap (λ l. l ++ head) c.new-front.ensures.items in
-    let written_is : written ≡ head ++ content = c.in_ok-append.ensures.added ∙ ap (λ l. l ++ c.in_ok-points-2.field-0) c.in_ok-extent.ensures ∙ ap (λ l. before ++ l) c.in_ok-points-2.ensures.bytes ∙ c.in_ok-points.ensures.bytes ∙ ap (λ l. l ++ content) front_is in
+    let prefix_is : c.put_head.new.extent.items ≡ head = c.in_ok-put_head.ensures ∙ ap (λ l. l ++ head) c.new-prefix.ensures.items in
+    let written_is : written ≡ head ++ content = c.in_ok-append.ensures.added ∙ ap (λ l. l ++ c.in_ok-points-2.field-0) c.in_ok-extent.ensures ∙ ap (λ l. before ++ l) c.in_ok-points-2.ensures.bytes ∙ c.in_ok-points.ensures.bytes ∙ ap (λ l. l ++ content) prefix_is in
     c.in_ok-push.ensures.added
     ∙ ap (λ l. written ++ l) (c.in_ok-zeros_after.ensures ∙ ap (λ n. zeros (padding n)) c.spelling_length.ensures)
     ∙ ap (λ l. l ++ zeros (padding (length content))) written_is

@@ -7,7 +7,7 @@ use Rattle.btr_log.proofs.HeadLemmas.{length-head_bytes}
 use Rattle.btr_entry.specs.Grammar.{spelling}
 use Rattle.btr_entry.proofs.SpellingLemmas.{length-spelling}
 use Rattle.btr_engine.specs.Body.{padding}
-use Rattle.btr_engine.proofs.ExtentBytes.{in_order, late_is}
+use Rattle.btr_engine.proofs.ExtentBytes.{in_order, streamed_is}
 use Rattle.btr_engine.proofs.extent.in_one_part.Goals as goal
 
 pub fill_up-requires-clause-long : goal.fill_up-requires-clause-long
@@ -26,4 +26,4 @@ returns-clause-bytes c =
     let first : c.fill_up.new.extent.items ≡ written ++ zeros (padding (length content)) = c.in_ok-fill_up.ensures ∙ ap (λ n. written ++ zeros (padding n)) c.spelling_length.ensures in
     let start = in_order head c.put_head.new.extent.items written c.fill_up.new.extent.items content (zeros (padding (length content))) (c.in_ok-put_head.ensures ∙ ap (λ l. l ++ head) c.in_ok-extent.ensures.items) c.in_ok-append_entry.ensures.bytes first in
     IfOk-weaker c.of.result _ _ (λ p is.
-    is ∙ c.in_ok-put_pages.ensures ∙ late_is c.args.head.now c.args.entry.now c.args.stream c.args.nodes.now c.fill_up.new.extent.items start) c.of.ensures
+    is ∙ c.in_ok-put_pages.ensures ∙ streamed_is c.args.head.now c.args.entry.now c.args.stream c.args.nodes.now c.fill_up.new.extent.items start) c.of.ensures

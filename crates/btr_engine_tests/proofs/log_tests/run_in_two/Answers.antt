@@ -11,7 +11,7 @@ returns-clause-run c =
     let body = c.in_ok-body_of.field-0.items in
     let last = c.in_ok-zeros.zeros.items in
     let is : IsAppendRun (body ++ zeros 4096) = IsAppendRun-from body c.args.head.now c.in_ok-body_of.ensures in
-    let front : c.in_ok-front.front ≡ body = c.in_ok-front.ensures in
+    let prefix : c.in_ok-prefix.prefix ≡ body = c.in_ok-prefix.ensures in
     let closed : last ≡ zeros 4096 = search rules in
-    let e : c.in_ok-front.front ++ last ≡ body ++ zeros 4096 = ap (λ (l : List ℕ). l ++ last) front ∙ ap (λ (l : List ℕ). body ++ l) closed in
+    let e : c.in_ok-prefix.prefix ++ last ≡ body ++ zeros 4096 = ap (λ (l : List ℕ). l ++ last) prefix ∙ ap (λ (l : List ℕ). body ++ l) closed in
     subst IsAppendRun (sym e) is

@@ -9,7 +9,7 @@ pub inner-requires-clause-parts : goal.inner-requires-clause-parts
 inner-requires-clause-parts g c =
     let keeps = c.requires.keeps in
     let nodes = c.args.nodes.now in
-    let f = c.args.front.now in
+    let f = c.args.header.now in
     let span = c.span_of-span.result in
     let slots = c.args.slots.now in
     let total = keeps.total in
@@ -23,7 +23,7 @@ pub returns : goal.returns
 returns g c =
     let keeps = c.requires.keeps in
     let nodes = c.args.nodes.now in
-    let f = c.args.front.now in
+    let f = c.args.header.now in
     let span = c.span_of-span.result in
     let slots = c.args.slots.now in
     let total = keeps.total in
@@ -43,6 +43,6 @@ returns g c =
 
 pub returns-in_default : goal.returns-in_default
 returns-in_default g c =
-    let f = c.args.front.now in
+    let f = c.args.header.now in
     let none = subst (λ o. MatchOption o (HaveKnownChildren c.args.nodes.now c.args.block c.span_of-span.result f.stream c.args.slots.now → ⊥) (λ parts. ArePartsTo 64 c.args.nodes.now c.args.block c.span_of-span.result f.stream c.args.slots.now parts.items)) c.in_default.is c.in_ok-parts.ensures in
     subst (λ s. HaveKnownChildren c.args.nodes.now c.args.block s f.stream c.args.slots.now → ⊥) c.span_of-span.ensures none

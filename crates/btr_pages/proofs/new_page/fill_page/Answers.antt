@@ -18,4 +18,4 @@ returns c =
     let slots = ap (λ (n : NewNodeValue). length n.slots) c.node.view_is in
     let none : length node.slots ≡ 0 = omega (arith, slots, c.if-len-gt0.false) in
     c.fill_leaf.ensures
-    ∙ ap page_bytes (leaf-is c.args.stream node c.front_of-front-2.result (length c.as_slice-points.result.now) c.first_points.result.now c.front_of-front-2.ensures many (c.first_points.ensures ∙ ap (take 252) same) none)
+    ∙ ap page_bytes (leaf-is c.args.stream node c.header_of-header-2.result (length c.as_slice-points.result.now) c.first_points.result.now c.header_of-header-2.ensures many (c.first_points.ensures ∙ ap (take 252) same) none)

@@ -13,6 +13,6 @@ returns-then-self-eq0-clause-writes g c is_observable =
       elsewhere = done.elsewhere;
       images = done.images;
       time = cut_off_time g.D.Disk old new c.write_parts.ensures.calls done.time c.args.self.now.withheld
-          (4096 * c.args.first) (length (c.args.front.now ++ g.S.Blocks.bytes c.args.rest.now)) (laws.image_bytes is_observable old) done.images.unsynced
+          (4096 * c.args.first) (length (c.args.prefix.now ++ g.S.Blocks.bytes c.args.rest.now)) (laws.image_bytes is_observable old) done.images.unsynced
           (laws.counts_now is_observable new) (laws.only_now is_observable old) (laws.fewer_later is_observable new);
     }

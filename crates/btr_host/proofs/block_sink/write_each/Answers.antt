@@ -1,7 +1,7 @@
 use Rattle.std.specs.Prelude.{ℕ, List}
 use Rattle.std.proofs.Common.{arith, Vec, Global}
 use Rattle.btr_disk.proofs.PartLemmas.{parts_fit}
-use Rattle.btr_host.proofs.outlet.write_each.Goals as goal
+use Rattle.btr_host.proofs.block_sink.write_each.Goals as goal
 
 abbrev items : Vec ℕ Global → List ℕ
 items v = v.items

@@ -1,9 +1,9 @@
 use Rattle.std.specs.Prelude.{◌≡◌, ◌+◌, ◌*◌, ◌≤◌, true, length, take, drop, option_map}
 use Rattle.std.proofs.Common.{refl, arith, sym, ap, ◌∙◌, length-drop}
 use Rattle.std.proofs.lemmas.List.{length-take, take_all}
-use Rattle.btr_engine.specs.Late.{late_bytes, node_block}
-use Rattle.btr_engine.proofs.LateLemmas.{is-there, block-there, put-length, put-begins, one-block-more}
-use Rattle.btr_engine.proofs.late.fill_blocks.Goals as goal
+use Rattle.btr_engine.specs.Streamed.{streamed_bytes, node_block}
+use Rattle.btr_engine.proofs.StreamedLemmas.{is-there, block-there, put-length, put-begins, one-block-more}
+use Rattle.btr_engine.proofs.streamed.fill_blocks.Goals as goal
 
 pub overflow_add-first : goal.overflow_add-first
 overflow_add-first c =
@@ -12,7 +12,7 @@ overflow_add-first c =
 
 pub loop-i-preserved : goal.loop-i-preserved
 loop-i-preserved c =
-    let bytes = late_bytes true c.args.stream c.args.nodes.now in
+    let bytes = streamed_bytes true c.args.stream c.args.nodes.now in
     let at = c.args.first + c.loop-i.i in
     let block = node_block c.args.stream (option_map (λ n. n.now) c.get.result) in
     let inside : 4096 * at + 4096 ≤ length bytes = omega (arith, c.requires.inside, c.loop-i-test.true) in
@@ -26,7 +26,7 @@ loop-i-preserved c =
 pub returns : goal.returns
 returns c =
     let all : length c.args.to.now ≡ 4096 * c.loop-i.i = omega (arith, c.loop-i-test.false, c.loop-i.auto.i-end, c.requires.whole) in
-    let bytes = late_bytes true c.args.stream c.args.nodes.now in
+    let bytes = streamed_bytes true c.args.stream c.args.nodes.now in
     sym (take_all (4096 * c.loop-i.i) c.loop-i.to (omega (arith, c.loop-i.invariant.0, all)))
     ∙ c.loop-i.invariant.1
     ∙ ap (λ n. take n (drop (4096 * c.args.first) bytes)) (sym all)

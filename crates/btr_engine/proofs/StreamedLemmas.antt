@@ -14,7 +14,7 @@ use Rattle.btr_node.specs.Page.{page_bytes}
 use Rattle.btr_pages.specs.Pages.{page_of, pages_of}
 use Rattle.btr_pages.proofs.PageOfLemmas.{page_of-places}
 use Rattle.btr_pages.proofs.BlockLemmas.{length-page, length-pages}
-use Rattle.btr_engine.specs.Late.{late_bytes, node_block}
+use Rattle.btr_engine.specs.Streamed.{streamed_bytes, node_block}
 use Rattle.btr_engine.proofs.Written.{pages-places}
 
 module _ (stream : ℕ) where
@@ -51,21 +51,21 @@ module _ (stream : ℕ) where
   end-there [] end = refl
   end-there (n ∷ nodes) end = later n nodes end (length nodes) ∙ end-there nodes end
 
-  pub length-late : (nodes : List NewNodeValue) → length (late_bytes true stream nodes) ≡ 4096 * (length nodes + 1)
-  length-late nodes =
+  pub length-streamed : (nodes : List NewNodeValue) → length (streamed_bytes true stream nodes) ≡ 4096 * (length nodes + 1)
+  length-streamed nodes =
       omega (arith, length-append (flat_map page_bytes (pages_of stream nodes)) (zeros 4096), length-zeros 4096, length-pages (pages_of stream nodes) (pages-places stream nodes), length-map nodes (page_of stream))
 
-  -- A block that is made late is that of a node, or the one after them.
-  pub is-there : (is_late : Bool) (nodes : List NewNodeValue) (i : ℕ) → 4096 * i + 4096 ≤ length (late_bytes is_late stream nodes) → (is_late ≡ true) × (i ≤ length nodes)
-  is-there true nodes i fits = (refl, omega (arith, length-late nodes))
+  -- A block that is streamed is that of a node, or the one after them.
+  pub is-there : (is_streamed : Bool) (nodes : List NewNodeValue) (i : ℕ) → 4096 * i + 4096 ≤ length (streamed_bytes is_streamed stream nodes) → (is_streamed ≡ true) × (i ≤ length nodes)
+  is-there true nodes i fits = (refl, omega (arith, length-streamed nodes))
   is-there false nodes i fits = absurd (omega (arith, fits))
 
 -- Each block is that of its node, or the one after them.
-pub block-there : {X : Type 0} (now : X → NewNodeValue) (Q : X → Type 0) (o : Option X) (stream : ℕ) (nodes : List NewNodeValue) (i : ℕ) → MatchOption o (length nodes ≤ i) (λ x. (i < length nodes) × Q x) → IfSome o (λ x. now x ≡ get_or nodes i (now x)) → 4096 * i + 4096 ≤ length (late_bytes true stream nodes) → node_block stream (option_map now o) ≡ take 4096 (drop (4096 * i) (late_bytes true stream nodes))
+pub block-there : {X : Type 0} (now : X → NewNodeValue) (Q : X → Type 0) (o : Option X) (stream : ℕ) (nodes : List NewNodeValue) (i : ℕ) → MatchOption o (length nodes ≤ i) (λ x. (i < length nodes) × Q x) → IfSome o (λ x. now x ≡ get_or nodes i (now x)) → 4096 * i + 4096 ≤ length (streamed_bytes true stream nodes) → node_block stream (option_map now o) ≡ take 4096 (drop (4096 * i) (streamed_bytes true stream nodes))
 block-there now Q (Some x) stream nodes i there is fits = sym (page-there stream nodes (zeros 4096) i (now x) there.0 is)
 block-there now Q None stream nodes i past is fits =
     let end : i ≡ length nodes = omega (arith, past, (is-there stream true nodes i fits).1) in
-    sym (ap (λ k. take 4096 (drop (4096 * k) (late_bytes true stream nodes))) end ∙ ap (take 4096) (end-there stream nodes (zeros 4096)) ∙ take_all 4096 (zeros 4096) (omega (arith, length-zeros 4096)))
+    sym (ap (λ k. take 4096 (drop (4096 * k) (streamed_bytes true stream nodes))) end ∙ ap (take 4096) (end-there stream nodes (zeros 4096)) ∙ take_all 4096 (zeros 4096) (omega (arith, length-zeros 4096)))
 
 -- A block that is put where a slice is written, and what is after it.
 module _ (xs block ys : List ℕ) (at : ℕ) (fits : at + 4096 ≤ length xs) (size : length block ≡ 4096) (is : ys ≡ block ++ drop 4096 (take (length xs - at) (drop at xs))) where
@@ -86,16 +86,16 @@ module _ (xs block ys : List ℕ) (at : ℕ) (fits : at + 4096 ≤ length xs) (s
       ap (λ n. take n (put_mid at (length xs - at) xs ys)) here ∙ ap (take (length (take at xs ++ block))) parts ∙ take-append_seam (take at xs ++ block) (after ++ post)
 
 -- Blocks that are all there is, or none.
-pub all-inside : (is_late : Bool) (stream : ℕ) (nodes : List NewNodeValue) (first n : ℕ) → 4096 * first + n ≤ length (late_bytes is_late stream nodes) → 4096 * first + n ≤ length (late_bytes true stream nodes)
+pub all-inside : (is_streamed : Bool) (stream : ℕ) (nodes : List NewNodeValue) (first n : ℕ) → 4096 * first + n ≤ length (streamed_bytes is_streamed stream nodes) → 4096 * first + n ≤ length (streamed_bytes true stream nodes)
 all-inside true stream nodes first n fits = fits
 all-inside false stream nodes first n fits = omega (arith, fits)
 
-pub all-same : (is_late : Bool) (stream : ℕ) (nodes : List NewNodeValue) (first n : ℕ) → 4096 * first + n ≤ length (late_bytes is_late stream nodes) → take n (drop (4096 * first) (late_bytes true stream nodes)) ≡ take n (drop (4096 * first) (late_bytes is_late stream nodes))
+pub all-same : (is_streamed : Bool) (stream : ℕ) (nodes : List NewNodeValue) (first n : ℕ) → 4096 * first + n ≤ length (streamed_bytes is_streamed stream nodes) → take n (drop (4096 * first) (streamed_bytes true stream nodes)) ≡ take n (drop (4096 * first) (streamed_bytes is_streamed stream nodes))
 all-same true stream nodes first n fits = refl
 all-same false stream nodes first n fits =
     let none : n ≡ 0 = omega (arith, fits) in
-    ap (λ k. take k (drop (4096 * first) (late_bytes true stream nodes))) none
-    ∙ sym (ap (λ k. take k (drop (4096 * first) (late_bytes false stream nodes))) none)
+    ap (λ k. take k (drop (4096 * first) (streamed_bytes true stream nodes))) none
+    ∙ sym (ap (λ k. take k (drop (4096 * first) (streamed_bytes false stream nodes))) none)
 
 -- One more block of those from the first one on.
 pub one-block-more : (bytes to new block : List ℕ) (first i at size : ℕ) → at ≡ i * 4096 → size ≡ 4096 → take (4096 * i) to ≡ take (4096 * i) (drop (4096 * first) bytes) → take (at + size) new ≡ take at to ++ block → block ≡ take 4096 (drop (4096 * (first + i)) bytes) → take (4096 * (i + 1)) new ≡ take (4096 * (i + 1)) (drop (4096 * first) bytes)

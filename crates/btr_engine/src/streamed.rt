@@ -1,29 +1,29 @@
 //! The blocks of an extent that are made while they are written.
 ghost use Rattle.std.specs.Prelude.{◌≡◌, ◌+◌, ◌*◌, ◌%◌, ◌<◌, ◌^◌, ◌≤◌, ◌++◌, true, length, take, drop, option_map};
-ghost use Rattle.btr_engine.specs.Late.{node_block, late_bytes};
+ghost use Rattle.btr_engine.specs.Streamed.{node_block, streamed_bytes};
 
 use crate::maker::Maker;
-use btr_disk::{BLOCK, Blocks, Outlet, Supply};
+use btr_disk::{BLOCK, BlockSink, BlockSource, Blocks};
 use btr_pages::fill_page;
 use btr_tree::NewNode;
 use std::marker::Sync;
 
 /// The pages of nodes of a stream, one in each block, and one block of zeros after them; or no blocks, if they were made before.
 #[derive(Drop)]
-pub struct LatePages<'a> {
+pub struct StreamedPages<'a> {
     pub(crate) stream: u32,
     pub(crate) nodes: &'a [NewNode],
-    pub(crate) is_late: bool,
+    pub(crate) is_streamed: bool,
     ghost few: { length nodes.now < 2 ^ 62 },
 }
 
-impl Blocks for LatePages<'_> {
-    ghost use Rattle.btr_engine.specs.Late.{late_bytes};
+impl Blocks for StreamedPages<'_> {
+    ghost use Rattle.btr_engine.specs.Streamed.{streamed_bytes};
 
-    ghost bytes = { λ pages. late_bytes pages.is_late pages.stream pages.nodes.now };
+    ghost bytes = { λ pages. streamed_bytes pages.is_streamed pages.stream pages.nodes.now };
 
     fn blocks(&self) -> usize {
-        if self.is_late {
+        if self.is_streamed {
             self.nodes.len() + 1
         } else {
             0
@@ -39,9 +39,9 @@ impl Blocks for LatePages<'_> {
 /// block of zeros after them.
 pub(crate) fn fill_blocks(to: &mut [u8], nodes: &[NewNode], stream: u32, first: usize)
     requires whole { length to.old % 4096 ≡ 0 }
-    requires inside { 4096 * first + length to.old ≤ length (late_bytes true stream nodes.now) }
+    requires inside { 4096 * first + length to.old ≤ length (streamed_bytes true stream nodes.now) }
     requires few { length nodes.now < 2 ^ 62 }
-    ensures { to.new ≡ take (length to.old) (drop (4096 * first) (late_bytes true stream nodes.now)) }
+    ensures { to.new ≡ take (length to.old) (drop (4096 * first) (streamed_bytes true stream nodes.now)) }
 {
     for i in 0..to.len() / BLOCK {
         fill_first(&mut to[i * BLOCK..], nodes.get(first + i), stream);
@@ -68,17 +68,17 @@ fn fill_block(to: &mut [u8; BLOCK], node: Option<&NewNode>, stream: u32)
     }
 }
 
-/// Late pages, and who makes them.
+/// Streamed pages, and who makes them.
 #[derive(Drop)]
-pub(crate) struct LateBlocks<'m, 'n, M> {
+pub(crate) struct PageSource<'m, 'n, M> {
     pub(crate) maker: &'m M,
-    pub(crate) pages: LatePages<'n>,
+    pub(crate) pages: StreamedPages<'n>,
 }
 
-impl<M: Maker> Blocks for LateBlocks<'_, '_, M> {
-    ghost use Rattle.btr_engine.specs.Late.{late_bytes};
+impl<M: Maker> Blocks for PageSource<'_, '_, M> {
+    ghost use Rattle.btr_engine.specs.Streamed.{streamed_bytes};
 
-    ghost bytes = { λ b. late_bytes b.pages.is_late b.pages.stream b.pages.nodes.now };
+    ghost bytes = { λ b. streamed_bytes b.pages.is_streamed b.pages.stream b.pages.nodes.now };
 
     fn blocks(&self) -> usize {
         self.pages.blocks()
@@ -90,10 +90,10 @@ impl<M: Maker> Blocks for LateBlocks<'_, '_, M> {
 }
 
 /// The threads of the maker make the blocks.
-impl<M: Maker> Supply for LateBlocks<'_, '_, M> {
+impl<M: Maker> BlockSource for PageSource<'_, '_, M> {
     ghost can_work = { M.can_make };
 
-    fn write_to(&self, outlet: &(dyn Outlet + Sync)) -> bool {
-        self.maker.write_late(&self.pages, outlet)
+    fn write_to(&self, sink: &(dyn BlockSink + Sync)) -> bool {
+        self.maker.write_streamed(&self.pages, sink)
     }
 }

@@ -2,56 +2,56 @@
 ghost use Rattle.std.specs.Prelude.{◌≡◌, ◌+◌, ◌*◌, ◌^◌, ◌<◌, length};
 ghost use Rattle.std.specs.List.{flat_map};
 
-use btr_disk::{BLOCK, Outlet, Parts};
+use btr_disk::{BLOCK, BlockSink, Parts};
 use std::fs::File;
 use std::io;
 use std::os::unix::fs::FileExt;
 
-/// Where a write puts its front, and the blocks after it.
+/// Where a write puts its prefix, and the blocks after it.
 #[derive(Drop)]
-pub(crate) struct FileOutlet<'a> {
+pub(crate) struct FileBlockSink<'a> {
     pub(crate) file: &'a File,
 
-    /// The byte of the file at which the front begins.
+    /// The byte of the file at which the prefix begins.
     pub(crate) offset: u64,
 
-    pub(crate) front: &'a Parts,
+    pub(crate) prefix: &'a Parts,
 
-    /// The number of blocks after the front.
+    /// The number of blocks after the prefix.
     pub(crate) room: usize,
-    ghost inside: { offset + length front.now + 4096 * room < 2 ^ 63 },
+    ghost inside: { offset + length prefix.now + 4096 * room < 2 ^ 63 },
 }
 
-impl FileOutlet<'_> {
-    /// The byte of the file at which the block of this number begins, of those after the front.
+impl FileBlockSink<'_> {
+    /// The byte of the file at which the block of this number begins, of those after the prefix.
     fn place_of(&self, block: usize) -> u64
-        requires { self.now.offset + length self.now.front.now + 4096 * block < 2 ^ 63 }
-        ensures { result ≡ self.now.offset + length self.now.front.now + 4096 * block }
+        requires { self.now.offset + length self.now.prefix.now + 4096 * block < 2 ^ 63 }
+        ensures { result ≡ self.now.offset + length self.now.prefix.now + 4096 * block }
     {
-        self.offset + (self.front.len() + block * BLOCK) as u64
+        self.offset + (self.prefix.len() + block * BLOCK) as u64
     }
 }
 
-impl Outlet for FileOutlet<'_> {
+impl BlockSink for FileBlockSink<'_> {
     ghost use Rattle.std.specs.Prelude.{⊤};
 
-    ghost room = { λ outlet. outlet.room };
+    ghost room = { λ sink. sink.room };
 
-    ghost front_size = { λ outlet. length outlet.front.now };
+    ghost prefix_size = { λ sink. length sink.prefix.now };
 
     // No contract says what the file holds, or why a call of the system fails.
-    ghost has_front = { λ _. ⊤ };
+    ghost has_prefix = { λ _. ⊤ };
 
     ghost has_block = { λ _ _ _. ⊤ };
 
     ghost has_failed = { λ _. ⊤ };
 
-    fn front_len(&self) -> usize {
-        self.front.len()
+    fn prefix_len(&self) -> usize {
+        self.prefix.len()
     }
 
-    fn put_front(&self) -> bool {
-        write_each(self.file, self.offset, self.front.as_slices()).is_ok()
+    fn put_prefix(&self) -> bool {
+        write_each(self.file, self.offset, self.prefix.as_slices()).is_ok()
     }
 
     fn put(&self, first: usize, blocks: &[u8]) -> bool {

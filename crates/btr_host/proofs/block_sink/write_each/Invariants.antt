@@ -1,6 +1,6 @@
 use Rattle.std.specs.Prelude.{◌≡◌, ◌+◌, length, take}
 use Rattle.std.specs.List.{flat_map}
-use Rattle.btr_host.proofs.outlet.write_each.Given as goal
+use Rattle.btr_host.proofs.block_sink.write_each.Given as goal
 
 -- The place after the parts so far.
 abbrev pub invariant-loop-part : goal.invariant-loop-part

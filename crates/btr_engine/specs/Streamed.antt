@@ -11,8 +11,8 @@ abbrev pub node_block : ℕ → Option NewNodeValue → List ℕ
 node_block stream None = zeros 4096
 node_block stream (Some node) = page_bytes (page_of stream node)
 
--- The bytes of blocks that are made late: the pages of these nodes of a stream, and one block of zeros. There are none if they were made
+-- The bytes of blocks that are streamed: the pages of these nodes of a stream, and one block of zeros. There are none if they were made
 -- before.
-abbrev pub late_bytes : Bool → ℕ → List NewNodeValue → List ℕ
-late_bytes false stream nodes = []
-late_bytes true stream nodes = flat_map page_bytes (pages_of stream nodes) ++ zeros 4096
+abbrev pub streamed_bytes : Bool → ℕ → List NewNodeValue → List ℕ
+streamed_bytes false stream nodes = []
+streamed_bytes true stream nodes = flat_map page_bytes (pages_of stream nodes) ++ zeros 4096

@@ -1,14 +1,14 @@
 use Rattle.std.proofs.Common.{◌≡◌, ◌++◌, take, ap, ◌∙◌, rules, FitsSigned}
 use Rattle.std.specs.Int.{w32, w64, cast_unsigned}
 use Rattle.std.proofs.lemmas.Int.{to_z-of_z}
-use Rattle.btr_node.specs.Page.{number, signed, zeros, front_bytes}
+use Rattle.btr_node.specs.Page.{number, signed, zeros, header_bytes}
 use Rattle.btr_node.proofs.Pieces.{six-pieces}
-use Rattle.btr_node.proofs.writing.put_front.Goals as goal
+use Rattle.btr_node.proofs.writing.put_header.Goals as goal
 
 pub returns : goal.returns
-unfolding front_bytes zeros
+unfolding header_bytes zeros
 returns c =
-    let f = c.args.front.now in
+    let f = c.args.header.now in
     let to = c.args.to.now in
     let fits : FitsSigned w64 f.start = search rules in
     let start : c.cast_unsigned.result ≡ cast_unsigned w64 f.start = c.cast_unsigned.ensures ∙ ap (cast_unsigned w64) (to_z-of_z w64 f.start fits) in

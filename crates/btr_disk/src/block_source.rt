@@ -4,30 +4,30 @@ ghost use Rattle.btr_disk.specs.Put.{HasBlocks, HasBlocksFrom};
 
 use std::marker::Sync;
 
-/// Where a supply has its blocks written, after a front that the outlet has itself. Several threads may call it at once.
-pub trait Outlet {
-    /// The number of blocks that it has room for after its front.
+/// Where a source has its blocks written, after a prefix that the sink has itself. Several threads may call it at once.
+pub trait BlockSink {
+    /// The number of blocks that it has room for after its prefix.
     ghost room: { Self → ℕ };
 
-    /// The length of its front in bytes.
-    ghost front_size: { Self → ℕ };
+    /// The length of its prefix in bytes.
+    ghost prefix_size: { Self → ℕ };
 
-    /// What has come about once its front is written.
-    ghost has_front: { Self → Type 0 };
+    /// What has come about once its prefix is written.
+    ghost has_prefix: { Self → Type 0 };
 
-    /// What has come about once the block of this number, of those after the front, is written with these bytes.
+    /// What has come about once the block of this number, of those after the prefix, is written with these bytes.
     ghost has_block: { Self → ℕ → List ℕ → Type 0 };
 
     /// What has come about once a call of it has returned false.
     ghost has_failed: { Self → Type 0 };
 
-    /// The length of the front in bytes, in constant time. Threads that share the work go by it.
-    fn front_len(&self) -> usize
-        ensures { result ≡ front_size self.now };
+    /// The length of the prefix in bytes, in constant time. Threads that share the work go by it.
+    fn prefix_len(&self) -> usize
+        ensures { result ≡ prefix_size self.now };
 
-    /// Writes the front, and returns whether it was written.
-    fn put_front(&self) -> bool
-        ensures written { IsTrue result → has_front self.now }
+    /// Writes the prefix, and returns whether it was written.
+    fn put_prefix(&self) -> bool
+        ensures written { IsTrue result → has_prefix self.now }
         ensures failed { IsFalse result → has_failed self.now };
 
     /// Writes whole blocks, the first of which has the number `first`, and returns whether they were written. It takes no memory.
@@ -56,21 +56,21 @@ pub trait Blocks {
 }
 
 /// Blocks, and who has them written: the calling thread, or several threads.
-pub trait Supply: Blocks {
+pub trait BlockSource: Blocks {
     /// What its threads need.
     ghost can_work: { Type 0 };
 
-    /// Has the outlet write its front and each of the blocks, and returns whether all of it was written. It returns false only if a call
-    /// of the outlet did.
-    fn write_to(&self, outlet: &(dyn Outlet + Sync)) -> bool
+    /// Has the sink write its prefix and each of the blocks, and returns whether all of it was written. It returns false only if a call
+    /// of the sink did.
+    fn write_to(&self, sink: &(dyn BlockSink + Sync)) -> bool
         requires able { can_work }
-        requires room { length (Self.bytes self.now) ≤ 4096 * room outlet.now }
-        ensures front { IsTrue result → has_front outlet.now }
-        ensures blocks { IsTrue result → HasBlocks (has_block outlet.now) (Self.bytes self.now) }
-        ensures failed { IsFalse result → has_failed outlet.now };
+        requires room { length (Self.bytes self.now) ≤ 4096 * room sink.now }
+        ensures prefix { IsTrue result → has_prefix sink.now }
+        ensures blocks { IsTrue result → HasBlocks (has_block sink.now) (Self.bytes self.now) }
+        ensures failed { IsFalse result → has_failed sink.now };
 }
 
-/// A supply of no blocks. The calling thread has the front written.
+/// A source of no blocks. The calling thread has the prefix written.
 #[derive(Drop)]
 pub struct NoBlocks;
 
@@ -86,12 +86,12 @@ impl Blocks for NoBlocks {
     fn fill(&self, _first: usize, _to: &mut [u8]) {}
 }
 
-impl Supply for NoBlocks {
+impl BlockSource for NoBlocks {
     ghost use Rattle.std.specs.Prelude.{⊤};
 
     ghost can_work = { ⊤ };
 
-    fn write_to(&self, outlet: &(dyn Outlet + Sync)) -> bool {
-        outlet.put_front()
+    fn write_to(&self, sink: &(dyn BlockSink + Sync)) -> bool {
+        sink.put_prefix()
     }
 }

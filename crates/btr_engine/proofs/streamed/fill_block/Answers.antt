@@ -1,8 +1,8 @@
 use Rattle.std.specs.Prelude.{option_map}
 use Rattle.std.proofs.Common.{sym, ap, ◌∙◌}
 use Rattle.btr_disk.specs.Gate.{zeros}
-use Rattle.btr_engine.specs.Late.{node_block}
-use Rattle.btr_engine.proofs.late.fill_block.Goals as goal
+use Rattle.btr_engine.specs.Streamed.{node_block}
+use Rattle.btr_engine.proofs.streamed.fill_block.Goals as goal
 
 pub returns-in-None : goal.returns-in-None
 unfolding zeros
