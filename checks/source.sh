@@ -68,7 +68,7 @@ crates/btr_diff/src/comparing.rt pub fn changes_with_lead
 crates/btr_scan/src/nearest_walk.rt pub fn nearest
 crates/btr_window/src/range_aggregate.rt pub fn aggregate'
 walks='crates/btr_diff/src/comparing.rt crates/btr_diff/src/comparison.rt crates/btr_diff/src/gathering.rt crates/btr_diff/src/leaf_walk.rt
-crates/btr_diff/src/points.rt crates/btr_diff/src/tree_walk.rt
+crates/btr_diff/src/newer_slot.rt crates/btr_diff/src/points.rt crates/btr_diff/src/tree_walk.rt
 crates/btr_scan/src/backward.rt crates/btr_scan/src/forward.rt crates/btr_scan/src/nearest_walk.rt
 crates/btr_window/src/inside.rt crates/btr_window/src/range_aggregate.rt crates/btr_verify/src/finding.rt crates/btr_verify/src/own.rt'
 # shellcheck disable=SC2086
@@ -84,6 +84,7 @@ crate::forward
 crate::gathering
 crate::inside
 crate::leaf_walk
+crate::newer_slot
 crate::points
 crate::tree_walk'
 expect 'who builds a part visits no node' \
