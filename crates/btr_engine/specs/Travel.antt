@@ -39,6 +39,11 @@ use Rattle.btr_engine.specs.Engine.{log_of, board_of, entries_of, super_of, entr
 abbrev pub written_pages : Staged → List NodePage
 written_pages s = pages_of s.receipt.stream s.nodes.items
 
+-- What is made of an extent before it is written, and what is streamed, are the body of the staged entry and one block of zeros.
+abbrev pub MakesExtent : Staged → Entry → List ℕ → Bool → Type 0
+MakesExtent s e prefix is_streamed =
+    prefix ++ streamed_bytes is_streamed s.receipt.stream s.nodes.items ≡ body_of s.receipt.number e s.root (written_pages s) ++ zeros 4096
+
 -- The run that is to be appended: what was made of the extent before it is written, and the blocks that are streamed.
 abbrev pub run_of : Ready → List ℕ
 run_of r = r.prefix ++ streamed_bytes r.is_streamed r.staged.receipt.stream r.staged.nodes.items

@@ -8,10 +8,10 @@ ghost use Rattle.btr_node.specs.Page.{page_bytes};
 ghost use Rattle.btr_pages.specs.Pages.{pages_of};
 ghost use Rattle.btr_entry.specs.Grammar.{spelling, IsSpelled, IsWithinBounds};
 ghost use Rattle.btr_roll.specs.Roll.{IsRollWithinBounds};
-ghost use Rattle.btr_engine.specs.Body.{padding, body_of, extent_bytes};
+ghost use Rattle.btr_engine.specs.Body.{padding, extent_bytes};
 ghost use Rattle.btr_engine.specs.Streamed.{streamed_bytes};
 ghost use Rattle.btr_engine.specs.Mark.{body_of_roll};
-ghost use Rattle.btr_engine.specs.Travel.{written_pages};
+ghost use Rattle.btr_engine.specs.Travel.{MakesExtent};
 
 use crate::maker::Maker;
 use crate::streamed::fill_blocks;
@@ -55,8 +55,7 @@ pub(crate) fn encode_extent<M: Maker>(
     requires able { M.can_make }
     requires bounds { IsWithinBounds entry.now }
     requires number { 1 ≤ staged.now.receipt.number }
-    ensures bytes { IfOk result (λ x. x.prefix ++ streamed_bytes x.is_streamed staged.now.receipt.stream staged.now.nodes.items
-        ≡ body_of staged.now.receipt.number entry.now staged.now.root (written_pages staged.now) ++ zeros 4096) }
+    ensures bytes { IfOk result (λ x. MakesExtent staged.now entry.now x.prefix x.is_streamed) }
     ensures few { IfOk result (λ x. x.is_streamed ≡ true → length staged.now.nodes.items < 2 ^ 62) }
     ensures spelled { OnOk result (IsSpelled entry.now) }
     ensures low { OnOk result (staged.now.root < 2 ^ 64) }

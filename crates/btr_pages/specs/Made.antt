@@ -1,6 +1,6 @@
 -- What the private functions promise of the trees that are made of pages, and of the table that finds them.
 use Rattle.std.specs.Prelude.{◌≡◌, ◌⊎◌, ℕ, zero, suc, ◌<◌, ◌≤◌, nat_eq, List, length, take, map, get_or, slice_get}
-use Rattle.std.specs.Prelude.{Option, Some, None, IfSome, if◌then◌else◌, option_map}
+use Rattle.std.specs.Prelude.{Option, Some, None, IfSome, MatchOption, if◌then◌else◌, option_map}
 use Rattle.std.specs.List.{AllByRecursion}
 use Rattle.btr_base.specs.Bag.{IsInOrder}
 use Rattle.btr_base.specs.Span.{SpanValue, slot_of}
@@ -115,6 +115,12 @@ pub record IsInnerMade (nodes : NodesValue) (block : ℕ) (span : SpanValue) (nu
   pub fit : AreParts span version parts (versions_of slots)
   pub is : IsInnerTree span version block parts (versions_of slots) t
   pub opened : WasOpened t
+
+-- Of an inner node's page in a block, with this header and these slots, a tree was made, or the trees of its children were not all made.
+abbrev pub IsInnerMadeOf : NodesValue → ℕ → PageHeader → List PageSlot → Option TreeValue → Type 0
+IsInnerMadeOf nodes block f slots made =
+    MatchOption made (HaveKnownChildren nodes block (header_span f) f.stream slots → ⊥)
+    (IsInnerMade nodes block (header_span f) f.stream f.version slots)
 
 -- The tree was made of a page.
 abbrev pub IsTreeOfPage : NodesValue → ℕ → NodePage → TreeValue → Type 0

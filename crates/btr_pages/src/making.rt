@@ -2,7 +2,7 @@
 ghost use Rattle.std.specs.Prelude.{◌≡◌, ℕ, IfOk, MatchOption};
 ghost use Rattle.btr_base.specs.Span.{IsSpan};
 ghost use Rattle.btr_node.specs.Page.{Keeps, Fits, IsInnerPage};
-ghost use Rattle.btr_pages.specs.Made.{AreLeafPoints, HaveKnownChildren, IsBuildable, IsInnerMade, IsLeafMade, IsMadeAt, header_span};
+ghost use Rattle.btr_pages.specs.Made.{AreLeafPoints, IsBuildable, IsInnerMadeOf, IsLeafMade, IsMadeAt, header_span};
 
 use crate::children::{parts_of, versions};
 use crate::known::Known;
@@ -74,8 +74,7 @@ fn make_inner<L>(
     steps: &mut Steps<L>,
 ) -> Result<Option<Tree>, AllocError>
     requires keeps { IsInnerPage header.now slots.now }
-    ensures { IfOk result (λ r. MatchOption r (HaveKnownChildren nodes.now block (header_span header.now) header.now.stream slots.now → ⊥)
-        (IsInnerMade nodes.now block (header_span header.now) header.now.stream header.now.version slots.now)) }
+    ensures { IfOk result (λ r. IsInnerMadeOf nodes.now block header.now slots.now r) }
 {
     let span = span_of(header);
     let Some(parts) = parts_of(alloc, nodes, block, span, header.stream, slots)? else {
