@@ -19,19 +19,27 @@ spans() {
         for (n = split($0, piece, "`"); n > 1; n--) if (n % 2 == 0) print piece[n] }' "$1"
 }
 
-# Prints those of the names on standard input that do not exist.
+# Prints those of the names on standard input that do not exist. A file is named by the end of its path.
 missing() {
-    while IFS= read -r name; do
-        case $name in
-        *[!A-Za-z0-9_.:/-]* | .* | *..* | *NAME*) ;;
-        crates/*) [ -e "$top/$name" ] || [ "${name#*/out/}" != "$name" ] || echo "$name" ;;
-        *.rt | *.antt | *.sh | *.edit | *.md) grep -q "/$name\$" files || echo "$name" ;;
-        [a-z]*.[a-z]*) grep -qxF "$name" clauses || echo "$name" ;;
-        [A-Z]*::* | [A-Z]*.* | [A-Z]*[a-z]*) printf '%s\n' "$name" | tr -s ':.' '\n' | grep -vxF -f words >/dev/null && echo "$name" ;;
-        btr_*) [ -d "$top/crates/$name" ] || grep -qxF "$name" words || echo "$name" ;;
-        [a-z]*_[a-z]*) grep -qxF "$name" words || echo "$name" ;;
-        esac
-    done
+    awk '
+        FILENAME == "words" { words[$0]; next }
+        FILENAME == "clauses" { clauses[$0]; next }
+        FILENAME == "files" {
+            path = substr($0, 2); paths[path]
+            for (rest = path; sub(/\/[^\/]*$/, "", rest);) paths[rest]
+            for (rest = path; rest != "";) { ends[rest]; if (!sub(/^[^\/]*\//, "", rest)) rest = "" }
+            next
+        }
+        /[^A-Za-z0-9_.:\/-]/ || /^\./ || /\.\./ || /NAME/ || /^$/ { next }
+        /^crates\// { if (!($0 in paths) && !/\/out\//) print; next }
+        /\.(rt|antt|sh|edit|md)$/ { if (!($0 in ends)) print; next }
+        /^[a-z].*\.[a-z]/ { if (!($0 in clauses)) print; next }
+        /^[A-Z].*::/ || /^[A-Z].*\./ || /^[A-Z].*[a-z]/ {
+            for (n = split($0, part, /[:.]+/); n > 0; n--) if (part[n] != "" && !(part[n] in words)) { print; break }
+            next
+        }
+        /^btr_/ { if (!(("crates/" $0) in paths) && !($0 in words)) print; next }
+        /^[a-z].*_[a-z]/ { if (!($0 in words)) print }' words clauses files -
 }
 
 # What is written for the reader and is no name of the repository: a pattern, and a call of the standard library.
