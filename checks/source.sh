@@ -39,7 +39,7 @@ crates/btr_window/src/window_walk.rt'
 # make one, and those that build a part of a tree, which hand out its fork.
 expect 'counters are made in these lines alone' "$(lines_with '\b(Steps|Fork)\b.*\bnew\b|\buncounted::<')" \
     'crates/btr_distil/src/changed.rt let mut steps = Steps::<InputWalk>::new();
-crates/btr_distil/src/changed.rt old.uncounted::<InputWalk>(),
+crates/btr_distil/src/changed.rt let older = old.uncounted::<InputWalk>();
 crates/btr_distil/src/split_times.rt let mut steps = Steps::<CountWalk>::new();
 crates/btr_distil/src/split_times.rt let mut steps = Steps::<CountWalk>::new();
 crates/btr_open/src/loading.rt steps: Steps::new(),

@@ -8,6 +8,7 @@ use Rattle.std.proofs.lemmas.Bool.{cases_lt}
 use Rattle.std.proofs.lemmas.List.{take_at, drop-take, length-take-le, length-drop}
 use Rattle.btr_disk.specs.Bytes.{Image}
 use Rattle.btr_disk.specs.Gate.{IsOpen}
+use Rattle.btr_log.specs.declared.head.Head.{Head}
 use Rattle.btr_log.specs.Extents.{need}
 use Rattle.btr_log.specs.Found.{IsDamagedExtent}
 use Rattle.btr_super.specs.declared.superblock.Super.{Super}
@@ -19,7 +20,7 @@ use Rattle.btr_pages.specs.Blocks.{block_of_bytes, IsNoPage}
 use Rattle.btr_pages.proofs.BlockLemmas.{length-pages, each-places}
 use Rattle.btr_pages.proofs.PagesLemmas.{right-next}
 use Rattle.btr_hist.specs.declared.entry.Entry.{Entry}
-use Rattle.btr_hist.specs.declared.entry.Entry.TheVariants.{Create, Define, Commit, Distillate}
+use Rattle.btr_hist.specs.declared.entry.Entry.TheVariants.{Create, Define, Commit, Distillate, Retire}
 use Rattle.btr_engine.specs.Body.{first_page}
 use Rattle.btr_open.specs.Content.{HasContent}
 use Rattle.btr_open.specs.Reached.{Reached}
@@ -31,7 +32,7 @@ use Rattle.btr_open.proofs.BelowLemmas.{pages_joined-is}
 use Rattle.btr_open.proofs.ContentLemmas.{content-one}
 use Rattle.btr_open.proofs.RootLemmas.{may-lead-in, pages-keep}
 use Rattle.btr_open.proofs.UniqueLemmas.{next-content, marks-apart}
-use Rattle.btr_open.proofs.UnbrokenLemmas.{split, one-body, extent-unbroken}
+use Rattle.btr_open.proofs.UnbrokenLemmas.{split, one-body, head-of-body, extent-unbroken}
 use Rattle.btr_open.specs.Seen.{first_reading}
 
 -- ---- the first bytes of the first bytes
@@ -145,6 +146,7 @@ module _ (May : Entry → ℕ → Type 0) (image : Image) (log : Reached) (body 
   one-root : (gate : ℕ) (e : Entry) (first : ℕ) (blocks : List ℕ) (root a b : ℕ) → IsNamedRoot gate e first blocks root a → IsNamedRoot gate e first blocks root b → a ≡ b
   one-root gate (Create id) first blocks root a b x y = x ∙ sym y
   one-root gate (Define id spec) first blocks root a b x y = x ∙ sym y
+  one-root gate (Retire stream least) first blocks root a b x y = x ∙ sym y
   one-root gate (Commit stream cut added) first blocks root a b x y = one-named gate first blocks root a b x y
   one-root gate (Distillate stream cut added reads) first blocks root a b x y = one-named gate first blocks root a b x y
 
@@ -251,7 +253,23 @@ module _ (May : Entry → ℕ → Type 0) (image : Image) (s : Super) (log : Rea
   one-next a b (inr x) (inl y) = absurd (extent-unbroken image log.gate x.body x.head x.extent s.blocks b x.inside y)
   one-next a b (inr x) (inr y) =
       let same = one-body image log.gate x.body x.head x.extent y.body y.head y.extent in
-      one-break May image log x.body few a b x.breaks (subst (λ c. BreaksBodyBy May image 0 log c b) same y.breaks)
+      let heads = ap (λ (h : Head). h.format) (head-of-body image log.gate x.body x.head x.extent y.body y.head y.extent) in
+      elim x.breaks [
+        | inl p ↦ elim y.breaks [
+          | inl q ↦ p.1 ∙ sym q.1
+          | inr q ↦
+              let more = p.0 in
+              let under = q.0 in
+              absurd (omega (arith, more, under, heads))
+        ]
+        | inr p ↦ elim y.breaks [
+          | inl q ↦
+              let more = q.0 in
+              let under = p.0 in
+              absurd (omega (arith, more, under, heads))
+          | inr q ↦ one-break May image log x.body few a b p.1 (subst (λ c. BreaksBodyBy May image 0 log c b) same q.1)
+        ]
+      ]
 
 -- The gate of an extent that breaks the format is open, and inside the store.
 pub damaged-open : (May : Entry → ℕ → Type 0) (image : Image) (s : Super) (log : Reached) (block : ℕ) → IsDamagedNextBy May image (first_reading s) log block → IsOpen image log.gate × (log.gate < s.blocks)

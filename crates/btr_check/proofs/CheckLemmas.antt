@@ -13,9 +13,10 @@ use Rattle.btr_super.specs.Choose.{HasNoSuper, IsChosen, IsDamagedSuper}
 use Rattle.btr_open.specs.declared.judged.WholeLog.{WholeLog}
 use Rattle.btr_open.specs.declared.opening.OpenCause.{OpenCause}
 use Rattle.btr_open.specs.declared.opening.OpenCause.TheVariants as cause
-use Rattle.btr_open.specs.Reads.{OnlyReads, PartCause}
+use Rattle.btr_log.specs.Reads.{OnlyReads}
+use Rattle.btr_open.specs.Reads.{PartCause}
 use Rattle.btr_open.specs.Seen.{IsJudgedLog, IsDamagedLogBy, first_reading}
-use Rattle.btr_open.proofs.OnlyReading.{same-bytes}
+use Rattle.btr_log.proofs.OnlyReading.{same-bytes}
 use Rattle.btr_verify.specs.declared.verifying.VerifyFault.{VerifyFault}
 use Rattle.btr_verify.specs.declared.verifying.VerifyFault.TheVariants as verify
 use Rattle.btr_verify.specs.Trees.{VerifyCause}

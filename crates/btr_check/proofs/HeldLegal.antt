@@ -12,10 +12,10 @@ use Rattle.btr_node.specs.declared.page.NodePage.{NodePage}
 use Rattle.btr_pages.specs.Pages.{Pages}
 use Rattle.btr_pages.proofs.KnownLemmas.{pages-below}
 use Rattle.btr_hist.specs.declared.entry.Entry.{Entry}
-use Rattle.btr_hist.specs.declared.entry.Entry.TheVariants.{Create, Define, Commit, Distillate}
+use Rattle.btr_hist.specs.declared.entry.Entry.TheVariants.{Create, Define, Commit, Distillate, Retire}
 use Rattle.btr_hist.specs.Legal.{Legal}
 use Rattle.btr_hist.proofs.HistoryLemmas.{legal-prefix, legal-last, legal-follows}
-use Rattle.btr_engine.specs.Body.{Prefix, prefix_to, no_extents, first_page, pages_after, with_extent, with_checkpoint, LeadTo}
+use Rattle.btr_engine.specs.Body.{Prefix, prefix_to, no_extents, first_page, pages_after, with_extent, with_checkpoint, needed_format, LeadTo}
 use Rattle.btr_engine.specs.Roots.{IsRootOf}
 use Rattle.btr_engine.specs.Holds.{IsMarked, HoldsHistoryTo}
 use Rattle.btr_engine.proofs.BodyLemmas.{LeadTo-roots}
@@ -23,7 +23,7 @@ use Rattle.btr_open.specs.Reached.{beginning}
 use Rattle.btr_open.proofs.ListLemmas.{push-at}
 use Rattle.btr_open.proofs.HeldPages.{AreBelow, below-extent, if-each, if-at}
 use Rattle.btr_open.proofs.HeldRoots.{LeadTo-on}
-use Rattle.btr_open.proofs.HeldLemmas.{reached_of, roll-body, reached-next, body-next, on-log, on}
+use Rattle.btr_open.proofs.HeldLemmas.{reached_of, reached-all, body-next, mark-body, on-log, on}
 use Rattle.btr_open.proofs.WalkLemmas.{lead-plain, lead-append}
 use Rattle.btr_open.specs.Seen.{Mark, Seen, LeadOnBy}
 use Rattle.btr_check.specs.Rule.{MayStand}
@@ -62,8 +62,8 @@ keeps-on p marks (body ∷ bodies) q counted leads legal = elim leads [
       let here : Legal (p.entries ++ e ∷ []) = legal-before next bodies q x.5 legal in
       let follows = legal-follows (p.entries ++ e ∷ []) here in
       let rest = keeps-on next marks bodies q (omega (arith, counted, length-append p.entries (e ∷ []), length-append p.roots (root ∷ []))) x.5 legal in
-      let same = reached-next p e root pages body follows counted in
-      let is = body-next p e root pages body follows x.3 x.4 in
+      let same = reached-all p e root pages body follows counted in
+      let is = body-next p e root pages body follows (needed_format p.entries) x.3 x.4 in
       let may : MayStand p.entries e root = record {
         allowed = legal-last p.entries e here;
         fits_points = root-fits (pages_after p e pages) p.entries e root pages follows x.4;
@@ -78,7 +78,7 @@ keeps-on p marks (body ∷ bodies) q counted leads legal = elim leads [
       let rest = keeps-on (with_checkpoint p body) (marks ++ here ∷ []) bodies q counted x.1 legal in
       record {
         more = rest.more;
-        leads = inr (record { room = x.0.room; bytes = x.0.bytes ∙ roll-body p.entries p.roots }, rest.leads);
+        leads = inr (mark-body p body (needed_format p.entries) (omega arith) x.0, rest.leads);
         kept = λ k m at. rest.kept k m (get-append marks (here ∷ []) k m at);
       }
 ]
@@ -88,6 +88,7 @@ keeps-on p marks (body ∷ bodies) q counted leads legal = elim leads [
 any-pages : (known : Pages) (before : List Entry) (e : Entry) (root : ℕ) (new more : List NodePage) → IsRootOf known before e root new → IsRootOf known before e root more
 any-pages known before (Create id) root new more is = is
 any-pages known before (Define id spec) root new more is = is
+any-pages known before (Retire stream least) root new more is = is
 any-pages known before (Commit stream cut added) root new more is = is
 any-pages known before (Distillate stream cut added reads) root new more is = is
 
@@ -154,7 +155,7 @@ module _ (size : ℕ) (image : Image) (blocks tail : ℕ) (h : List Entry) (hold
         let marks = first.more ++ here ∷ [] in
         let counted = LeadTo-roots IsRootOf no_extents m.before m.log m.leads refl in
         let rest = keeps-on (with_checkpoint m.log m.body) marks m.after final counted (on size image blocks tail h holds m) legal in
-        let body : LeadOnBy MayStand (reached_of m.log) (seen_of m.log first.more) (m.body ∷ m.after) (reached_of final) (seen_of final rest.more) = inr (record { room = m.is.room; bytes = m.is.bytes ∙ roll-body m.log.entries m.log.roots }, rest.leads) in
+        let body : LeadOnBy MayStand (reached_of m.log) (seen_of m.log first.more) (m.body ∷ m.after) (reached_of final) (seen_of final rest.more) = inr (mark-body m.log m.body (needed_format m.log.entries) (omega arith) m.is, rest.leads) in
         let all = lead-append MayStand (reached_of no_extents) (seen_of no_extents []) m.before (reached_of m.log) (seen_of m.log first.more) (m.body ∷ m.after) (reached_of final) (seen_of final rest.more) first.leads body in
         let place = length first.more in
         let gate : m.log.gate ≡ holds.super.checkpoint = sym m.gate in
@@ -183,6 +184,7 @@ module _ (size : ℕ) (image : Image) (blocks tail : ℕ) (h : List Entry) (hold
             bodies = holds.bodies;
             extents = holds.extents;
             leads = lead-plain MayStand beginning (seen_of no_extents []) holds.bodies log all w.leads;
+            formats = holds.formats;
           };
           seen = all;
           keeps = w.leads;

@@ -17,7 +17,7 @@ use Rattle.btr_tree.proofs.RootLemmas.{root-points}
 use Rattle.btr_node.specs.declared.page.NodePage.{NodePage}
 use Rattle.btr_pages.specs.Pages.{Pages, node_of_stream, nodes_in, MayBeRoot, Stand}
 use Rattle.btr_hist.specs.declared.entry.Entry.{Entry}
-use Rattle.btr_hist.specs.declared.entry.Entry.TheVariants.{Create, Define, Commit, Distillate}
+use Rattle.btr_hist.specs.declared.entry.Entry.TheVariants.{Create, Define, Commit, Distillate, Retire}
 use Rattle.btr_hist.specs.History.{change_of, commits, latest, bag}
 use Rattle.btr_hist.specs.Legal.{Follows}
 use Rattle.btr_hist.proofs.HistoryLemmas.{take_commits-append, latest-append}
@@ -54,6 +54,7 @@ latest-along pages others limit h stream root same low leads =
 pub root-along : (pages others : Pages) (limit : ℕ) (before : List Entry) (e : Entry) (root : ℕ) (new more : List NodePage) → AreSameBelow limit pages others → root < limit → IsRootOf pages before e root new → IsRootOf others before e root more
 root-along pages others limit before (Create id) root new more same low is = is
 root-along pages others limit before (Define id spec) root new more same low is = is
+root-along pages others limit before (Retire stream least) root new more same low is = is
 root-along pages others limit before (Commit stream cut added) root new more same low is =
     latest-along pages others limit (before ++ Commit stream cut added ∷ []) stream root same low is
 root-along pages others limit before (Distillate stream cut added reads) root new more same low is =
@@ -65,6 +66,7 @@ root-along pages others limit before (Distillate stream cut added reads) root ne
 pub root-low : (gate : ℕ) (pages : Pages) (before : List Entry) (e : Entry) (root : ℕ) (new : List NodePage) → 1 ≤ gate → AreBelow gate pages → IsRootOf pages before e root new → root < gate
 root-low gate pages before (Create id) root new some below is = omega (arith, is)
 root-low gate pages before (Define id spec) root new some below is = omega (arith, is)
+root-low gate pages before (Retire stream least) root new some below is = omega (arith, is)
 root-low gate pages before (Commit stream cut added) root new some below is =
     let h = before ++ Commit stream cut added ∷ [] in leads-low pages h stream (latest h stream) root is gate some below
 root-low gate pages before (Distillate stream cut added reads) root new some below is =
@@ -78,6 +80,7 @@ page-root gate pages stream version root adds some below (inr has) = page-low ga
 pub may-low : (gate : ℕ) (pages : Pages) (roll : List RollStreamValue) (e : Entry) (root : ℕ) → 1 ≤ gate → AreBelow gate pages → MayLead pages roll e root → root < gate
 may-low gate pages roll (Create id) root some below may = omega (arith, may)
 may-low gate pages roll (Define id spec) root some below may = omega (arith, may)
+may-low gate pages roll (Retire stream least) root some below may = omega (arith, may)
 may-low gate pages roll (Commit stream cut added) root some below may =
     page-root gate pages stream (next_version roll stream) root (adds added) some below may
 may-low gate pages roll (Distillate stream cut added reads) root some below may =
@@ -102,6 +105,7 @@ zero-if-empty pages h stream root follows leads =
 pub root-fits : (pages : Pages) (before : List Entry) (e : Entry) (root : ℕ) (new : List NodePage) → Follows (before ++ e ∷ []) → IsRootOf pages before e root new → FitsPoints before e root
 root-fits pages before (Create id) root new follows is = tt
 root-fits pages before (Define id spec) root new follows is = tt
+root-fits pages before (Retire stream least) root new follows is = tt
 root-fits pages before (Commit stream cut added) root new follows is =
     zero-if-empty pages (before ++ Commit stream cut added ∷ []) stream root follows is
 root-fits pages before (Distillate stream cut added reads) root new follows is =
@@ -150,6 +154,7 @@ module _ (pages : Pages) (before : List Entry) (e : Entry) (more : List Entry) (
 not-wrong : (pages : Pages) (before : List Entry) (e : Entry) (more : List Entry) (root block : ℕ) (new : List NodePage) → IsRootOf pages before e root new → IsFirstWrongOf pages ((before ++ e ∷ []) ++ more) before e root block → ⊥
 not-wrong pages before (Create id) more root block new is wrong = wrong
 not-wrong pages before (Define id spec) more root block new is wrong = wrong
+not-wrong pages before (Retire stream least) more root block new is wrong = wrong
 not-wrong pages before (Commit stream cut added) more root block new is wrong =
     commit-not-wrong pages before (Commit stream cut added) more stream (change cut added) (its-change stream (change cut added)) root block is wrong
 not-wrong pages before (Distillate stream cut added reads) more root block new is wrong =
@@ -159,6 +164,7 @@ not-wrong pages before (Distillate stream cut added reads) more root block new i
 one-wrong : (pages : Pages) (before : List Entry) (e : Entry) (more : List Entry) (root a b : ℕ) → IsFirstWrongOf pages ((before ++ e ∷ []) ++ more) before e root a → IsFirstWrongOf pages ((before ++ e ∷ []) ++ more) before e root b → a ≡ b
 one-wrong pages before (Create id) more root a b x y = absurd x
 one-wrong pages before (Define id spec) more root a b x y = absurd x
+one-wrong pages before (Retire stream least) more root a b x y = absurd x
 one-wrong pages before (Commit stream cut added) more root a b x y =
     commit-one-wrong pages before (Commit stream cut added) more stream (change cut added) (its-change stream (change cut added)) root a b x y
 one-wrong pages before (Distillate stream cut added reads) more root a b x y =

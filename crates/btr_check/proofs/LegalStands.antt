@@ -13,12 +13,12 @@ use Rattle.btr_hist.specs.declared.entry.Entry.{Entry}
 use Rattle.btr_hist.specs.Legal.{Legal}
 use Rattle.btr_hist.proofs.HistoryLemmas.{legal-none, legal-push, legal-follows}
 use Rattle.btr_roll.specs.Roll.{RollStreamValue, roll_bytes}
-use Rattle.btr_engine.specs.Body.{Prefix, prefix_to, no_extents, with_extent, body_of, IsBodyOf, IsCheckpointOf, LeadTo}
+use Rattle.btr_engine.specs.Body.{Prefix, prefix_to, no_extents, with_extent, body_of, IsBodyOf, needed_format, IsCheckpointOf, LeadTo}
 use Rattle.btr_engine.specs.Mark.{body_of_roll}
 use Rattle.btr_streams.specs.Rolling.{roll_of}
 use Rattle.btr_engine.specs.Roots.{IsRootOf}
 use Rattle.btr_engine.specs.Holds.{IsMarked}
-use Rattle.btr_engine.proofs.BodyLemmas.{LeadTo-split, LeadTo-gate}
+use Rattle.btr_engine.proofs.BodyLemmas.{needed-push, LeadTo-split, LeadTo-gate}
 use Rattle.btr_open.specs.Reached.{Reached, beginning, next_roll, with_entry, pages_with, passed}
 use Rattle.btr_open.specs.Walk.{IsNextBody, IsCheckpointBody}
 use Rattle.btr_open.proofs.ContentLemmas.{body-content, contents-apart}
@@ -43,6 +43,7 @@ pub record Agrees (log : Reached) (seen : Seen) : Type 0 where
   pub counted : log.entries ≡ length seen.entries
   pub rooted : length seen.roots ≡ length seen.entries
   pub roll : log.roll ≡ roll_of seen.entries seen.roots
+  pub least : log.least ≡ needed_format seen.entries
   pub legal : Legal seen.entries
   pub some : 1 ≤ log.gate
   pub below : AreBelow log.gate log.pages
@@ -56,6 +57,7 @@ module _ (log : Reached) (seen : Seen) (agrees : Agrees log seen) where
     fits = is.fits;
     rightly = is.rightly;
     low = is.low;
+    may_have = is.may_have;
     bytes = is.bytes ∙ ap (λ n. body_of (n + 1) e root pages) agrees.counted;
   }
 
@@ -64,8 +66,11 @@ module _ (log : Reached) (seen : Seen) (agrees : Agrees log seen) where
       let counted = agrees.counted in
       let roll = agrees.roll in
       record {
-        room = subst (λ (r : List RollStreamValue). content_blocks (length (roll_bytes r)) < 2 ^ 64) roll is.room;
-        bytes = is.bytes ∙ (λ i. body_of_roll (counted i) (roll i)) ∙ sym (roll-body seen.entries seen.roots);
+        format = is.format;
+        least = omega (arith, is.from.1, agrees.least);
+        most = is.most;
+        room = subst (λ (r : List RollStreamValue). content_blocks (length (roll_bytes is.format r)) < 2 ^ 64) roll is.room;
+        bytes = is.bytes ∙ (λ i. body_of_roll is.format (counted i) (roll i)) ∙ sym (roll-body is.format seen.entries seen.roots);
       }
 
   pub next-agrees : (e : Entry) (root : ℕ) (pages : List NodePage) (body : List ℕ) → IsNextBody log e root pages body → MayStand seen.entries e root → Agrees (with_entry log e root pages body) (with_seen seen e root)
@@ -77,6 +82,7 @@ module _ (log : Reached) (seen : Seen) (agrees : Agrees log seen) where
         counted = omega (arith, counted, length-append seen.entries (e ∷ []));
         rooted = omega (arith, agrees.rooted, length-append seen.entries (e ∷ []), length-append seen.roots (root ∷ []));
         roll = (λ i. next_roll (roll i) e (counted i + 1) root) ∙ sym (roll-next seen.entries seen.roots e root (legal-follows (seen.entries ++ e ∷ []) legal) agrees.rooted);
+        least = omega (arith, agrees.least, needed-push seen.entries e);
         legal = legal;
         some = omega (arith, agrees.some);
         below = below-extent (prefix_of log seen) e root pages body (next-body e root pages body is);
@@ -87,6 +93,7 @@ module _ (log : Reached) (seen : Seen) (agrees : Agrees log seen) where
     counted = agrees.counted;
     rooted = agrees.rooted;
     roll = agrees.roll;
+    least = agrees.least;
     legal = agrees.legal;
     some = omega (arith, agrees.some);
     below = λ block high. agrees.below block (omega (arith, high));
@@ -155,7 +162,7 @@ marked bodies final checkpoint tail leads short m =
     elim split.2 [
       | inl x ↦
           let far : mid.gate + need m.body < 2 ^ 64 = omega (arith, short, LeadTo-gate IsRootOf (with_extent mid x.0 x.1 x.2 m.body) m.after final x.5) in
-          absurd (contents-apart (length mid.entries + 1) m.number x.0 x.1 (flat_map page_bytes x.2) m.content m.body (body-content mid x.0 x.1 x.2 m.body far x.3) m.has)
+          absurd (contents-apart (length mid.entries + 1) m.least m.number x.0 x.1 (flat_map page_bytes x.2) m.contents m.body (body-content mid x.0 x.1 x.2 m.body far x.3) m.has)
       | inr x ↦ record {
         before = m.before;
         body = m.body;
@@ -176,6 +183,7 @@ begins = record {
   counted = refl;
   rooted = refl;
   roll = refl;
+  least = refl;
   legal = legal-none;
   some = omega arith;
   below = λ block high. refl;
@@ -200,6 +208,7 @@ legal-stands size image s chosen whole named right =
           bodies = walk.bodies;
           extents = walk.extents;
           leads = record { roots = seen.roots; pages = log.pages; lead = leads };
+          formats = walk.formats;
           starts = elim named [
             | inl first ↦ inl first
             | inr m ↦

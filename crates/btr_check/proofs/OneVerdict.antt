@@ -26,15 +26,15 @@ use Rattle.btr_check.proofs.HeldLegal.{IsRightStore, held-right}
 module _ (image : Image) (s : Super) (limit : s.blocks ≤ 2 ^ 32) where
   -- A walk of the whole log that ends inside the store, and what was seen.
   record IsEnded (log : Reached) (seen : Seen) : Type 0 where
-    walk : IsWholeWalk MayStand image log seen
+    walk : IsWholeWalk MayStand image s.format log seen
     inside : log.gate < s.blocks
-    ends : IsEnd MayStand image s.blocks log seen
+    ends : IsEnd MayStand image s.blocks s.format log seen
 
   legal-ended : (l : IsLegalLog image s) → IsEnded l.log l.seen
   legal-ended l = record {
     walk = whole-walk MayStand image s l.log l.seen l.walk l.keeps;
     inside = l.inside;
-    ends = closed-ends MayStand image s.blocks l.log l.seen l.closed;
+    ends = closed-ends MayStand image s.blocks s.format l.log l.seen l.closed;
   }
 
   abbrev IsDamaged : ℕ → Type 0
@@ -45,7 +45,7 @@ module _ (image : Image) (s : Super) (limit : s.blocks ≤ 2 ^ 32) where
 
   few : (block : ℕ) (d : IsDamaged block) → d.log.entries + 1 < 2 ^ 64
   few block d =
-      few-next MayStand image s.blocks d.log d.seen limit (whole-walk MayStand image s d.log d.seen d.walk d.keeps) (open-inside block d).1
+      few-next MayStand image s.blocks s.format d.log d.seen limit (whole-walk MayStand image s d.log d.seen d.walk d.keeps) (open-inside block d).1
 
   damaged-ended : (block : ℕ) (d : IsDamaged block) → IsEnded d.log d.seen
   damaged-ended block d = record {
@@ -57,7 +57,7 @@ module _ (image : Image) (s : Super) (limit : s.blocks ≤ 2 ^ 32) where
   -- Two such walks are one.
   same-end : (log other : Reached) (seen seen_too : Seen) → IsEnded log seen → IsEnded other seen_too → (log ≡ other) × (seen ≡ seen_too)
   same-end log other seen seen_too x y =
-      one-walk MayStand image s.blocks log other seen seen_too limit x.walk x.inside x.ends y.walk y.inside y.ends
+      one-walk MayStand image s.blocks s.format log other seen seen_too limit x.walk x.inside x.ends y.walk y.inside y.ends
 
   -- A legal log is not damaged.
   not-damaged : (l : IsLegalLog image s) (block : ℕ) → IsDamaged block → ⊥

@@ -12,7 +12,7 @@ use Rattle.btr_node.specs.declared.page.NodePage.{NodePage}
 use Rattle.btr_pages.specs.Pages.{Pages, HasRootPage, IsPageAt}
 use Rattle.btr_pages.proofs.KnownLemmas.{pages-below}
 use Rattle.btr_hist.specs.declared.entry.Entry.{Entry}
-use Rattle.btr_hist.specs.declared.entry.Entry.TheVariants.{Create, Define, Commit, Distillate}
+use Rattle.btr_hist.specs.declared.entry.Entry.TheVariants.{Create, Define, Commit, Distillate, Retire}
 use Rattle.btr_hist.specs.History.{latest}
 use Rattle.btr_hist.specs.Legal.{Follows}
 use Rattle.btr_hist.proofs.HistoryLemmas.{legal-follows}
@@ -34,10 +34,11 @@ use Rattle.btr_check.proofs.MeetLemmas.{whole-walk}
 
 -- ---- the root of an entry
 
--- The root of an entry that makes a version is 0, or has the page of a root of the version. An entry that makes a stream has root 0.
+-- The root of an entry that makes a version is 0, or has the page of a root of the version. An entry that makes no version has root 0.
 abbrev pub HasOwnRoot : Pages → List Entry → Entry → ℕ → Type 0
 HasOwnRoot pages before (Create id) root = root ≡ 0
 HasOwnRoot pages before (Define id spec) root = root ≡ 0
+HasOwnRoot pages before (Retire stream least) root = root ≡ 0
 HasOwnRoot pages before (Commit stream cut added) root = 0 < root → HasRootPage pages stream (latest before stream + 1) root
 HasOwnRoot pages before (Distillate stream cut added reads) root = 0 < root → HasRootPage pages stream (latest before stream + 1) root
 
@@ -45,6 +46,7 @@ HasOwnRoot pages before (Distillate stream cut added reads) root = 0 < root → 
 own-root : (pages : Pages) (before : List Entry) (roots : List ℕ) (e : Entry) (root : ℕ) → Follows before → MayLead pages (roll_of before roots) e root → HasOwnRoot pages before e root
 own-root pages before roots (Create id) root follows may = may
 own-root pages before roots (Define id spec) root follows may = may
+own-root pages before roots (Retire stream least) root follows may = may
 own-root pages before roots (Commit stream cut added) root follows may = λ some. elim may [
   | inl none ↦ absurd (omega (arith, none.0, some))
   | inr has ↦ subst (λ v. HasRootPage pages stream v root) (next-version before roots follows stream) has
@@ -62,6 +64,7 @@ root-page-more pages others stream version root more has =
 own-root-more : (pages others : Pages) (before : List Entry) (e : Entry) (root : ℕ) → HaveMore pages others → HasOwnRoot pages before e root → HasOwnRoot others before e root
 own-root-more pages others before (Create id) root more own = own
 own-root-more pages others before (Define id spec) root more own = own
+own-root-more pages others before (Retire stream least) root more own = own
 own-root-more pages others before (Commit stream cut added) root more own = λ some.
     root-page-more pages others stream (latest before stream + 1) root more (own some)
 own-root-more pages others before (Distillate stream cut added reads) root more own = λ some.

@@ -57,9 +57,10 @@ pub record IsMarkIn (gate : ℕ) (bodies : List (List ℕ)) (m : Mark) : Type 0 
   pub parts : bodies ≡ before ++ body ∷ after
   pub at : m.gate ≡ gate_after gate before
   pub next : m.next ≡ m.gate + need body
+  pub least : ℕ
   pub number : ℕ
-  pub content : List ℕ
-  pub has : HasCheckpoint number content body
+  pub contents : ℕ → List ℕ
+  pub has : HasCheckpoint least number contents body
 
 in-rest : (gate : ℕ) (body : List ℕ) (bodies : List (List ℕ)) (m : Mark) → IsMarkIn (gate + need body) bodies m → IsMarkIn gate (body ∷ bodies) m
 in-rest gate body bodies m is = record {
@@ -69,8 +70,9 @@ in-rest gate body bodies m is = record {
   parts = ap (λ l. body ∷ l) is.parts;
   at = is.at;
   next = is.next;
+  least = is.least;
   number = is.number;
-  content = is.content;
+  contents = is.contents;
   has = is.has;
 }
 
@@ -96,8 +98,9 @@ mark-in May log seen (body ∷ bodies) after all leads k m at = elim leads [
             parts = refl;
             at = ap (λ (n : Mark). n.gate) (sym last.1);
             next = subst (λ (n : Mark). n.next ≡ n.gate + need body) last.1 refl;
+            least = log.least;
             number = log.entries;
-            content = roll_bytes log.roll;
+            contents = λ format. roll_bytes format log.roll;
             has = has-checkpoint log body x.0;
           })
         ]

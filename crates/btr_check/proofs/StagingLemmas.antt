@@ -12,15 +12,17 @@ use Rattle.btr_base.specs.Range.{RangeValue}
 use Rattle.btr_base.specs.Commit.{Change}
 use Rattle.btr_base.proofs.ListLemmas.{get-append, get_last}
 use Rattle.btr_hist.specs.declared.entry.Entry.{Entry}
-use Rattle.btr_hist.specs.declared.entry.Entry.TheVariants.{Create, Define, Commit, Distillate}
+use Rattle.btr_hist.specs.declared.entry.Entry.TheVariants.{Create, Define, Commit, Distillate, Retire}
 use Rattle.btr_hist.specs.declared.kernel.Reads.{Reads}
 use Rattle.btr_hist.specs.History.{change_of, latest, bag}
 use Rattle.btr_hist.specs.Legal.{Follows}
 use Rattle.btr_hist.specs.Machine.{receipt}
 use Rattle.btr_hist.proofs.AcceptedLemmas.{change-accepted}
 use Rattle.btr_hist.proofs.HistoryLemmas.{follows-last, streams-append, latest-append}
+use Rattle.btr_hist.proofs.RetireLemmas.{first-accepted}
 use Rattle.btr_hist.proofs.VersionLemmas.{latest-push}
 use Rattle.btr_streams.specs.Board.{HasVersion}
+use Rattle.btr_streams.proofs.BoardStreamLemmas.{retire-retires}
 use Rattle.btr_open.proofs.ListLemmas.{is-there}
 use Rattle.btr_open.proofs.RootLemmas.{its-change}
 use Rattle.btr_verify.specs.declared.verifying.Made.{Made}
@@ -57,6 +59,9 @@ commit-has h e stream c follows makes =
 pub made-has : (h : List Entry) (e : Entry) → Follows (h ++ e ∷ []) → HasVersion (h ++ e ∷ []) (receipt h e).stream (receipt h e).version
 made-has h (Create id) follows = (omega (arith, streams-append h (Create id ∷ [])), omega arith)
 made-has h (Define id spec) follows = (omega (arith, streams-append h (Define id spec ∷ [])), omega arith)
+made-has h (Retire stream least) follows =
+    let known = (first-accepted h (Retire stream least) stream least (follows-last h (Retire stream least) follows) (retire-retires stream least).leaves).known in
+    (omega (arith, known, streams-append h (Retire stream least ∷ [])), omega arith)
 made-has h (Commit stream cut added) follows =
     let c : Change = record { cut = cut; added = added } in commit-has h (Commit stream cut added) stream c follows (its-change stream c)
 made-has h (Distillate stream cut added reads) follows =

@@ -12,7 +12,7 @@ use Rattle.btr_tree.specs.Nodes.{above_root}
 use Rattle.btr_pages.specs.Pages.{Pages, nodes_in, HasRootPage, Stand}
 use Rattle.btr_pages.specs.Known.{NodesValue, AreKnown}
 use Rattle.btr_hist.specs.declared.entry.Entry.{Entry}
-use Rattle.btr_hist.specs.declared.entry.Entry.TheVariants.{Create, Define, Commit, Distillate}
+use Rattle.btr_hist.specs.declared.entry.Entry.TheVariants.{Create, Define, Commit, Distillate, Retire}
 use Rattle.btr_hist.specs.History.{change_of, latest}
 use Rattle.btr_hist.specs.Legal.{Follows}
 use Rattle.btr_hist.specs.Machine.{receipt}
@@ -52,6 +52,7 @@ IsFirstWrongNodeOf pages h m block = IsFirstWrongIn (nodes_in pages m.stream) (p
 own-page : (pages : Pages) (before : List Entry) (e : Entry) (root : ℕ) → HasOwnRoot pages before e root → 0 < root → HasRootPage pages (receipt before e).stream (receipt before e).version root
 own-page pages before (Create id) root own some = absurd (omega (arith, own, some))
 own-page pages before (Define id spec) root own some = absurd (omega (arith, own, some))
+own-page pages before (Retire stream least) root own some = absurd (omega (arith, own, some))
 own-page pages before (Commit stream cut added) root own some = own some
 own-page pages before (Distillate stream cut added reads) root own some = own some
 
@@ -73,6 +74,7 @@ module _ (pages : Pages) (before : List Entry) (more : List Entry) where
   root-rightly : (e : Entry) (root : ℕ) → HasOwnRoot pages before e root → LeadsToTree pages ((before ++ e ∷ []) ++ more) (made_by before e root) → IsRootOf pages before e root []
   root-rightly (Create id) root own leads = own
   root-rightly (Define id spec) root own leads = own
+  root-rightly (Retire stream least) root own leads = own
   root-rightly (Commit stream cut added) root own leads =
       let c : Change = record { cut = cut; added = added } in
       commit-leads (Commit stream cut added) stream c root (its-change stream c) leads
@@ -88,6 +90,7 @@ first-leads pages h stream root zero = inl (record { none = refl; is = zero })
 wrong-of : (pages : Pages) (h before : List Entry) (e : Entry) (root block : ℕ) → HasOwnRoot pages before e root → (LeadsToTree pages h (made_by before e root) → ⊥) → IsFirstWrongNodeOf pages h (made_by before e root) block → IsFirstWrongOf pages h before e root block
 wrong-of pages h before (Create id) root block own fails wrong = fails (first-leads pages h (receipt before (Create id)).stream root own)
 wrong-of pages h before (Define id spec) root block own fails wrong = fails (first-leads pages h (receipt before (Define id spec)).stream root own)
+wrong-of pages h before (Retire stream least) root block own fails wrong = fails (first-leads pages h (receipt before (Retire stream least)).stream root own)
 wrong-of pages h before (Commit stream cut added) root block own fails wrong = wrong
 wrong-of pages h before (Distillate stream cut added reads) root block own fails wrong = wrong
 

@@ -7,7 +7,7 @@ use Rattle.btr_log.specs.Extents.{first_gate}
 use Rattle.btr_super.specs.declared.superblock.Super.{Super}
 use Rattle.btr_pages.specs.Pages.{Pages, nodes_in}
 use Rattle.btr_hist.specs.declared.entry.Entry.{Entry}
-use Rattle.btr_hist.specs.declared.entry.Entry.TheVariants.{Create, Define, Commit, Distillate}
+use Rattle.btr_hist.specs.declared.entry.Entry.TheVariants.{Create, Define, Commit, Distillate, Retire}
 use Rattle.btr_hist.specs.History.{latest}
 use Rattle.btr_streams.specs.Past.{commits_to}
 use Rattle.btr_engine.specs.Roots.{IsRootOf}
@@ -51,10 +51,11 @@ abbrev pub LeadAll : Pages → List Entry → List ℕ → Type 0
 LeadAll pages h roots = (n : ℕ) → LeadsRightly pages h roots n
 
 -- The first wrong node of the version that an entry makes after the entries `before` is in this block. The entry is one of the history h.
--- An entry that makes a stream has no node.
+-- An entry that makes no version has no node.
 abbrev pub IsFirstWrongOf : Pages → List Entry → List Entry → Entry → ℕ → ℕ → Type 0
 IsFirstWrongOf pages h before (Create id) root block = ⊥
 IsFirstWrongOf pages h before (Define id spec) root block = ⊥
+IsFirstWrongOf pages h before (Retire stream least) root block = ⊥
 IsFirstWrongOf pages h before (Commit stream cut added) root block =
     IsFirstWrongIn (nodes_in pages stream) (commits_to h stream (latest h stream)) (latest before stream + 1) root block
 IsFirstWrongOf pages h before (Distillate stream cut added reads) root block =

@@ -3,7 +3,7 @@ ghost use Rattle.std.specs.Prelude.{◌≡◌, ◌^◌, ◌≤◌, IfErr, IfOk};
 ghost use Rattle.btr_super.specs.declared.superblock.Super.{Super as SuperSpec};
 ghost use Rattle.btr_super.specs.Super.{IsSuper};
 ghost use Rattle.btr_super.specs.Choose.{IsChosen};
-ghost use Rattle.btr_open.specs.Reads.{OnlyReads};
+ghost use Rattle.btr_log.specs.Reads.{OnlyReads};
 ghost use Rattle.btr_open.specs.Seen.{EndsInside};
 ghost use Rattle.btr_verify.specs.Trees.{VerifyCause};
 ghost use Rattle.btr_check.specs.declared.verdict.Verdict.{Verdict as VerdictSpec};

@@ -51,13 +51,13 @@ fn stage(alloc: Global, board: &Board, entry: &Entry) -> Result<Option<Staged>, 
 }
 
 /// Whether the root of an entry is 0 exactly if the version that the entry makes has no point. The board has the entry, and this is its
-/// receipt. Nothing is said of an entry that makes a stream.
+/// receipt. Nothing is said of an entry that makes no version.
 pub(crate) fn fits_points(board: &Board, entry: &Entry, receipt: &Receipt, root: u64) -> bool
     ensures { (h : List EntrySpec) → IsBoardOf (h ++ entry.now ∷ []) board.now → IsReceipt h entry.now receipt.now
         → IsTrue result ↔ FitsPoints h entry.now root }
 {
     match entry {
-        Entry::Create { .. } | Entry::Define { .. } => true,
+        Entry::Create { .. } | Entry::Define { .. } | Entry::Retire { .. } => true,
         Entry::Commit { .. } | Entry::Distillate { .. } => {
             (root == 0) == is_empty(board, receipt.stream, receipt.version)
         }

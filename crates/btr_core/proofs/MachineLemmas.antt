@@ -1,10 +1,11 @@
 -- What each event does to a machine of the model and to one that is it.
-use Rattle.std.specs.Prelude.{◌≡◌, ℕ, ◌==◌, true, false, Bool, List, cond, Option, Some, None}
+use Rattle.std.specs.Prelude.{◌≡◌, ℕ, ◌==◌, true, false, Bool, List, [], cond, Option, Some, None}
 use Rattle.std.specs.Ordering.{nat_cmp, is_eq}
 use Rattle.std.specs.BTreeMap.{BTreeMap, get, is_at, Updates}
 use Rattle.std.specs.Map.{lookup}
 use Rattle.std.proofs.Common.{refl, sym, ap, arith, subst}
 use Rattle.std.proofs.lemmas.Bool.{eqb-true}
+use Rattle.std.proofs.lemmas.List.{append-nil}
 use Rattle.std.proofs.lemmas.Bool.Decides.{nat_tests}
 use Rattle.btr_base.specs.declared.point.Point.{Point}
 use Rattle.btr_base.specs.Range.{RangeValue}
@@ -20,6 +21,7 @@ use Rattle.btr_hist.specs.Machine.{Event as events}
 use Rattle.btr_hist.proofs.HistoryLemmas.{legal-push, legal-follows, allowed-of_offered}
 use Rattle.btr_hist.proofs.LandingLemmas.{IsFront, StandsFor, Stands, front-trans, legal-front, committed-front, landing-legal, landing-front}
 use Rattle.btr_streams.specs.declared.snapshot.Snapshot.{Snapshot}
+use Rattle.btr_streams.specs.Snapshot.{IsSnapshotOf}
 use Rattle.btr_streams.specs.Board.{IsBoardOf}
 use Rattle.btr_distil.specs.Plan.{PlanValue}
 use Rattle.btr_plan.specs.Plan.{IsPlanOf, landing_of}
@@ -89,6 +91,7 @@ offered-rejection h (entries.Create id) not = refl
 offered-rejection h (entries.Define id spec) not = refl
 offered-rejection h (entries.Commit stream cut added) not = refl
 offered-rejection h (entries.Distillate stream cut added new) not = absurd (not stream cut added new refl)
+offered-rejection h (entries.Retire stream first) not = refl
 
 pub committed-legal : (h : List Entry) (e : Entry) → Legal h → Legal (committed h e (offered h e))
 committed-legal h e legal =
@@ -102,6 +105,18 @@ after-commit m actor e s t is board admitted plans =
     let h = m.history in
     let next = committed h e (offered h e) in
     grown m next s t is (committed-front h e (offered h e)) (committed-legal h e is.legal) board admitted plans
+
+-- ---- an admission
+
+pub after-admit : (m : model.Machine) (actor : ℕ) (seen : Snapshot) (s t : Machine) → IsMachineOf m s → IsSnapshotOf m.history seen → t.board ≡ s.board → t.plans.entries ≡ s.plans.entries → Updates nat_cmp s.admitted t.admitted actor (Some seen) → IsMachineOf (model.next m actor events.Admit) t
+after-admit m actor seen s t is of board plans admitted =
+    let h = m.history in
+    record {
+      board = subst (IsBoardOf h) (sym board) is.board;
+      legal = is.legal;
+      admitted = each-actor (IsAdmitted h) m.admitted s.admitted t.admitted actor h (Some seen) admitted is.admitted (([], append-nil h), of);
+      plans = λ other. subst (λ es. IsPlan h (m.plan other) (lookup (is_at (nat_cmp other)) es)) (sym plans) (is.plans other);
+    }
 
 -- ---- a plan
 

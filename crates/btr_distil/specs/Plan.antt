@@ -5,9 +5,9 @@ use Rattle.btr_base.specs.declared.point.Point.{Point}
 use Rattle.btr_base.specs.Range.{RangeValue, covered}
 use Rattle.btr_base.specs.Commit.{Change}
 use Rattle.btr_hist.specs.declared.entry.Entry.{Entry}
-use Rattle.btr_hist.specs.declared.entry.Entry.TheVariants.{Create, Commit, Define, Distillate}
+use Rattle.btr_hist.specs.declared.entry.Entry.TheVariants.{Create, Commit, Define, Distillate, Retire}
 use Rattle.btr_hist.specs.declared.kernel.Reads.{Reads}
-use Rattle.btr_hist.specs.Kernel.{anchors}
+use Rattle.btr_hist.specs.Kernel.{anchors, window_kernel}
 use Rattle.btr_hist.specs.Distil.{Inputs, value_of, points_from, distillate}
 use Rattle.btr_distil.specs.Sight.{SightValue, IsSightOf}
 
@@ -29,6 +29,7 @@ IsDistillateEntry (Create id) = ⊥
 IsDistillateEntry (Commit stream cut added) = ⊥
 IsDistillateEntry (Define id spec) = ⊥
 IsDistillateEntry (Distillate stream cut added reads) = Unit {0}
+IsDistillateEntry (Retire stream first) = ⊥
 
 -- A commit of nothing.
 abbrev no_commit : ℕ → PlanValue
@@ -42,6 +43,7 @@ plan_with base (Commit stream cut added) = no_commit base
 plan_with base (Define id spec) = no_commit base
 plan_with base (Distillate stream cut added reads) =
     record { stream = stream; base = base; reads = reads; cut = cut; added = added }
+plan_with base (Retire stream first) = no_commit base
 
 -- What the commit does to the points of the output.
 abbrev pub change : PlanValue → Change
@@ -57,8 +59,9 @@ pub record IsPlanFor (s : SightValue) (p : PlanValue) : Type 0 where
 abbrev pub IsDistillateOf : SightValue → PlanValue → Type 0
 IsDistillateOf s p = (old new : Inputs) → IsSightOf s old new → change p ≡ distillate s.spec old new
 
--- The plan adds, in order, the points that the kernel has over the new inputs at those of its anchors that the cut covers.
+-- If the kernel gives values at anchors, the plan adds, in order, the points that it has over the new inputs at those of its anchors
+-- that the cut covers.
 abbrev pub IsMapped : SightValue → PlanValue → Type 0
 IsMapped s p =
-    (old new : Inputs) → IsSightOf s old new
+    window_kernel s.spec.kernel ≡ None → (old new : Inputs) → IsSightOf s old new
     → p.added ≡ points_from (value_of s.spec new) (filter (covered p.cut) (anchors new.first))

@@ -1,13 +1,14 @@
 //! The times at which an output may differ after its inputs have changed.
-ghost use Rattle.std.specs.Prelude.{◌≡◌, ◌≤◌, List, IfOk};
+ghost use Rattle.std.specs.Prelude.{◌≡◌, true, List, IfOk};
 ghost use Rattle.btr_base.specs.declared.point.Point.{Point};
+ghost use Rattle.btr_hist.specs.Kernel.{is_good};
 ghost use Rattle.btr_hist.specs.Distil.{Inputs, affected as affected_of};
 ghost use Rattle.btr_distil.specs.Sight.{IsInput, SeesSecond, IsSightOf, widened_changes};
 
 use crate::sight::Sight;
 use btr_base::Ranges;
-use btr_diff::changes_with_lead;
-use btr_hist::Spec;
+use btr_diff::{changes, changes_with_lead};
+use btr_hist::{Kernel, Spec};
 use btr_tree::{Label, Steps, Tree};
 use std::alloc::{AllocError, Global};
 
@@ -39,8 +40,9 @@ fn changed_second(alloc: Global, sight: &Sight<'_>) -> Result<Ranges, AllocError
     }
 }
 
-/// The slots of `2^grain` ns in which an input differs, and the times after each for as long as the kernel looks back. It visits
-/// the parts of the new tree that are newer than `since`.
+/// The slots of `2^grain` ns in which an input differs, widened: with the times after each for as long as the kernel looks back, or
+/// the aligned windows that they meet, if the kernel is one of windows. It visits the parts of the new tree that are newer than
+/// `since`.
 fn changed(
     alloc: Global,
     old: &Tree,
@@ -48,20 +50,19 @@ fn changed(
     since: u64,
     spec: &Spec,
 ) -> Result<Ranges, AllocError>
-    requires { spec.now.grain ≤ 62 }
+    requires { is_good spec.now ≡ true }
     ensures { IfOk result (λ r. (before after : List Point) → IsInput since old.now new.now before after
         → r ≡ widened_changes spec.now before after) }
 {
     let mut steps = Steps::<InputWalk>::new();
-    let lead = spec.lead;
-    let slots = changes_with_lead(
-        alloc,
-        old.uncounted::<InputWalk>(),
-        new,
-        since,
-        spec.grain,
-        lead,
-        &mut steps,
-    )?;
-    Ok(slots)
+    let older = old.uncounted::<InputWalk>();
+    let grain = spec.grain;
+    match spec.kernel {
+        // the changed slots of the greater of both widths are the windows that the changed slots meet
+        Kernel::Cell { p, .. } => changes(alloc, older, new, since, grain.max(p), &mut steps),
+        _ => {
+            let lead = spec.lead;
+            changes_with_lead(alloc, older, new, since, grain, lead, &mut steps)
+        }
+    }
 }

@@ -2,8 +2,9 @@
 //! DISTIL (Andersen et al., SmartGridComm 2015).
 //!
 //! [`plan`] compares the versions of the inputs that the output has read with those that it is to read (BTrDB's ComputeDiff),
-//! lengthens each changed range by how far the kernel looks back, and computes the output anew there and nowhere else. The rule
-//! is this store's own; that it gives the kernel over all time is proved in btr_hist. [`plan_shared`] makes the same plan, and
+//! widens each changed range by how far the kernel looks back, or to whole windows if the kernel is one of aligned windows, and
+//! computes the output anew there and nowhere else. The rule is this store's own; that it gives the output over all time is proved
+//! in btr_hist. [`plan_shared`] makes the same plan, and
 //! computes the output in several threads. [`plan_anew`] makes the plan also if no version has changed.
 #![tactic(auto)]
 
@@ -11,6 +12,7 @@
 mod commit;
 mod sight;
 // how it is made
+mod cells;
 mod changed;
 mod parts;
 mod planning;

@@ -5,12 +5,13 @@ ghost use Rattle.btr_hist.specs.Distil.{output_points};
 ghost use Rattle.btr_kernel.specs.Sources.{AtEachInputs};
 ghost use Rattle.btr_distil.specs.Plan.{IsPlanFor, IsDistillateOf, IsMapped};
 
+use crate::cells::cells_over;
 use crate::changed::affected;
 use crate::commit::Plan;
 use crate::shared::output_shared;
 use crate::sight::Sight;
-use btr_base::{Bag, Ranges};
-use btr_hist::Entry;
+use btr_base::{Bag, Point, Ranges};
+use btr_hist::{Entry, Kernel};
 use btr_kernel::run_over;
 use std::alloc::{AllocError, Global};
 use std::marker::Sync;
@@ -21,8 +22,9 @@ use std::thread::Threads;
 ///
 /// The cost follows the change. It visits the nodes of the new trees that are newer than what was read, and the parts of the old
 /// trees in their spans. Then it reads the points of the new inputs at the times that may differ, and for as long before each of
-/// those ranges as the kernel looks back, and computes the points there. It takes memory for these points and ranges. An `Err`
-/// means out of memory.
+/// those ranges as the kernel looks back, and computes the points there. It takes memory for these points and ranges. If the kernel is
+/// one of aligned windows, it does not read the points of whole windows: that step costs the windows in those ranges, and of the new
+/// tree the nodes in which one of them starts or ends. An `Err` means out of memory.
 pub fn plan(alloc: Global, sight: &Sight<'_>) -> Result<Option<Plan>, AllocError>
     ensures none { IfOk result (λ p. IsNone p ↔ (sight.now.old_reads ≡ sight.now.new_reads)) }
     ensures made { IfOk result (λ p. IfSome p (IsPlanFor sight.now)) }
@@ -54,7 +56,9 @@ pub fn plan_anew(alloc: Global, sight: &Sight<'_>) -> Result<Plan, AllocError>
 /// has about the same number of points. The cost is that of `plan`, and for each part that of reading once more the points for as
 /// long before it as the kernel looks back. Before that it counts points, in time logarithmic in the points of the input for each
 /// range of the cut, and for each part some sixty times this at most. After that the calling thread appends the points of the parts,
-/// in time linear in their number. It takes memory for the added points twice. An `Err` means out of memory, in any of the threads.
+/// in time linear in their number. It takes memory for the added points twice. A kernel of aligned windows is treated alike, also if
+/// its windows are few: its points are parted by the starts of their windows, and a part may end inside a window, which is then read
+/// by each of the two parts. An `Err` means out of memory, in any of the threads.
 pub fn plan_shared<R: Threads + Sync>(
     rt: &R,
     alloc: Global,
@@ -102,7 +106,7 @@ fn planned(sight: &Sight<'_>, cut: Ranges, added: Bag) -> Plan
     }
 }
 
-/// The points of the output over the new inputs at the times of the ranges, computed by the calling thread.
+/// The points of the output over the new inputs at the times of the ranges as a bag, computed by the calling thread.
 pub(crate) fn output_over(
     alloc: Global,
     sight: &Sight<'_>,
@@ -111,12 +115,23 @@ pub(crate) fn output_over(
     ensures { IfOk result (λ b. AtEachInputs sight.now.new_first sight.now.new_second (λ i.
         b ≡ filter (λ p. covered ranges.now p.time) (output_points sight.now.spec i))) }
 {
-    let points = run_over(
-        alloc,
-        &sight.spec,
-        sight.new_first,
-        sight.new_second,
-        ranges,
-    )?;
+    let points = points_over(alloc, sight, ranges)?;
     Ok(Bag::from_points(points))
+}
+
+/// The points of the output over the new inputs at the times of the ranges, by the kind of its kernel. An `Err` means out of memory.
+fn points_over(alloc: Global, sight: &Sight<'_>, ranges: &Ranges) -> Result<Vec<Point>, AllocError>
+    ensures { IfOk result (λ v. AtEachInputs sight.now.new_first sight.now.new_second (λ i.
+        v.items ≡ filter (λ p. covered ranges.now p.time) (output_points sight.now.spec i))) }
+{
+    match sight.spec.kernel {
+        Kernel::Cell { which, p } => cells_over(alloc, which, p, sight.new_first, ranges),
+        _ => run_over(
+            alloc,
+            &sight.spec,
+            sight.new_first,
+            sight.new_second,
+            ranges,
+        ),
+    }
 }

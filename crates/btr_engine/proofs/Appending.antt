@@ -14,6 +14,7 @@ use Rattle.btr_log.specs.Log as log
 use Rattle.btr_hist.specs.declared.entry.Entry.{Entry}
 use Rattle.btr_hist.specs.Legal.{rejection}
 use Rattle.btr_entry.specs.Grammar.{IsSpelled}
+use Rattle.btr_entry.specs.Format.{format_of}
 use Rattle.btr_super.specs.declared.superblock.Super.{Super}
 use Rattle.btr_node.specs.Page.{Fits}
 use Rattle.btr_node.specs.declared.page.NodePage.{NodePage}
@@ -26,7 +27,7 @@ use Rattle.btr_engine.specs.Stored.{AreStored}
 use Rattle.btr_streams.specs.Rolling.{HaveRoots}
 use Rattle.btr_engine.specs.Travel.{HoldsNow}
 use Rattle.btr_engine.specs.Step.{IsBeforeOrAfter}
-use Rattle.btr_engine.proofs.BodyLemmas.{need-body_of}
+use Rattle.btr_engine.proofs.BodyLemmas.{need-body_of, may-have}
 use Rattle.btr_engine.proofs.HoldsLemmas.{HoldsTrees, holds_trees, before_or_after}
 use Rattle.btr_engine.proofs.Stepping.{brings}
 
@@ -54,6 +55,7 @@ module _ {D : Type 0} {disk : Ghosts D} (h : List Entry) (l : Log D disk) (e : E
     fits = stand.fit;
     rightly = stand.rightly;
     low = is.low;
+    may_have = may-have (commits_before h e) e pages is.nodes;
     bytes = brings (length h + 1) e root pages run is.bytes;
   }
 
@@ -62,10 +64,13 @@ module _ {D : Type 0} {disk : Ghosts D} (h : List Entry) (l : Log D disk) (e : E
       let same : need (append.body_in_run run) ≡ need (body_of (length h + 1) e root pages) = ap need (brings (length h + 1) e root pages run is.bytes) in
       omega (arith, same, need-body_of (length h + 1) e root pages is.places, is.nodes)
 
-  module _ (b : Kept) (s : Super) (now : HoldsNow h b s l) (fits : need (append.body_in_run run) ≤ log.log_room l) where
+  module _ (b : Kept) (s : Super) (now : HoldsNow h b s l) (fits : need (append.body_in_run run) ≤ log.log_room l) (may : format_of e ≤ s.format) where
     -- What is before the tail.
     abbrev pub before_tail : Prefix
     before_tail = prefix_to (log.log_tail l) h now.holds.leads.roots now.holds.leads.pages
+
+    may_stand : format_of e ≤ now.holds.super.format
+    may_stand = subst (λ (x : Super). format_of e ≤ x.format) (sym now.under) may
 
     -- A block is left after it for the next gate.
     inside : log.log_tail l + need_of h e < log.log_blocks l
@@ -79,7 +84,7 @@ module _ {D : Type 0} {disk : Ghosts D} (h : List Entry) (l : Log D disk) (e : E
       moments leaves =
           let contents = disk.contents (log.log_device l) in
           weakens disk.calls disk.images_since (log.log_device l) (log.log_device after) (append.IsMoment contents (log.log_tail l) now.holds.bodies (append.body_in_run run)) (IsBeforeOrAfter (disk.size (log.log_device l)) h e)
-          (before_or_after (disk.size (log.log_device l)) contents (log.log_blocks l) (log.log_tail l) h now.holds e root pages (append.body_in_run run) (its_body (log.log_tail l) now.holds.leads.roots now.holds.leads.pages stand) stand.keeps is.allowed needed inside)
+          (before_or_after (disk.size (log.log_device l)) contents (log.log_blocks l) (log.log_tail l) h now.holds e root pages (append.body_in_run run) (its_body (log.log_tail l) now.holds.leads.roots now.holds.leads.pages stand) stand.keeps is.allowed needed inside may_stand)
           leaves
 
       -- After it the log holds the history with the entry, with the trees of the next board.
@@ -93,7 +98,7 @@ module _ {D : Type 0} {disk : Ghosts D} (h : List Entry) (l : Log D disk) (e : E
           let tail_after : log.log_tail after ≡ tail + need_of h e = appended.tail ∙ ap (λ n. tail + n) needed in
           let below : (k : ℕ) → k < 4096 * tail → image k ≡ disk.contents (log.log_device l) k = λ k lt. written.elsewhere k (λ le. absurd (omega (arith, le, lt))) (λ le. absurd (omega (arith, le, lt))) in
           let its_log = AtRest-IsLog image (disk.images_now (log.log_device after)) (log.log_tail after) (now.holds.bodies ++ append.body_in_run run ∷ []) log_rests in
-          let holds : HoldsTrees size image blocks (tail + need_of h e) (h ++ e ∷ []) s streams = holds_trees size (disk.contents (log.log_device l)) blocks tail h now.holds e root pages (append.body_in_run run) (its_body tail now.holds.leads.roots now.holds.leads.pages stand) stand.keeps is.allowed needed inside image below its_log s now.under streams stored have in
+          let holds : HoldsTrees size image blocks (tail + need_of h e) (h ++ e ∷ []) s streams = holds_trees size (disk.contents (log.log_device l)) blocks tail h now.holds e root pages (append.body_in_run run) (its_body tail now.holds.leads.roots now.holds.leads.pages stand) stand.keeps is.allowed needed inside may_stand image below its_log s now.under streams stored have in
           let sized = subst (λ n. HoldsTrees n image blocks (tail + need_of h e) (h ++ e ∷ []) s streams) (sym kept.device_kept.same_size) holds in
           let blocked = subst (λ n. HoldsTrees (disk.size (log.log_device after)) image n (tail + need_of h e) (h ++ e ∷ []) s streams) (sym kept.blocks) sized in
           let tailed = subst (λ n. HoldsTrees (disk.size (log.log_device after)) image (log.log_blocks after) n (h ++ e ∷ []) s streams) (sym tail_after) blocked in

@@ -1,6 +1,7 @@
 -- Lemmas on bodies: their lengths, that they are bodies, which entry a body is of, that none is an entry's and a checkpoint's, one more
 -- after others, and which history bodies lead to.
-use Rattle.std.specs.Prelude.{◌≡◌, ℕ, ◌+◌, ◌*◌, ◌<◌, ◌≤◌, ◌^◌, List, [], ◌∷◌, ◌++◌, length, take}
+use Rattle.std.specs.Prelude.{◌≡◌, ℕ, ◌+◌, ◌*◌, ◌<◌, ◌≤◌, ◌^◌, max, List, [], ◌∷◌, ◌++◌, length, take}
+use Rattle.btr_base.specs.Commit.{Change}
 use Rattle.std.specs.List.{flat_map, AllByRecursion}
 use Rattle.std.proofs.Common.{refl, sym, ◌∙◌, ap, subst, inl, inr, arith, length-append}
 use Rattle.std.proofs.lemmas.List.{take_at}
@@ -10,19 +11,22 @@ use Rattle.btr_disk.specs.Numbers.{u32_at}
 use Rattle.btr_disk.proofs.GateLemmas.{length-zeros}
 use Rattle.btr_log.specs.declared.head.Head.{Head}
 use Rattle.btr_log.specs.Head.{content_blocks, head_bytes, IsHead, entry_head, checkpoint_head}
-use Rattle.btr_log.proofs.HeadLemmas.{length-head_bytes, head_bytes-one, IsHead-entry_head}
+use Rattle.btr_log.proofs.HeadLemmas.{length-head_bytes, head_bytes-one, IsHead-entry_head, format-spells}
 use Rattle.btr_log.specs.Extents.{IsBody, need}
 use Rattle.btr_node.specs.Page.{page_bytes, Fits}
 use Rattle.btr_node.specs.declared.page.NodePage.{NodePage}
 use Rattle.btr_pages.proofs.PageOfLemmas.{HasPlaces}
 use Rattle.btr_pages.proofs.BlockLemmas.{parts-one, each-places, length-pages, pages-one}
 use Rattle.btr_hist.specs.declared.entry.Entry.{Entry}
+use Rattle.btr_hist.specs.declared.entry.Entry.TheVariants.{Create, Define, Commit, Distillate, Retire}
 use Rattle.btr_entry.specs.Grammar.{spelling, IsSpelled}
+use Rattle.btr_entry.specs.Format.{format_of}
+use Rattle.btr_entry.proofs.FormatLemmas.{format-from, format-to}
 use Rattle.btr_roll.specs.Roll.{roll_bytes}
 use Rattle.btr_entry.proofs.SpellingLemmas.{length-spelling, same_entry}
 use Rattle.btr_streams.specs.Rolling.{roll_of}
-use Rattle.btr_engine.specs.Body.{padding, body_of, Prefix, pages_after, with_extent, IsBodyOf}
-use Rattle.btr_engine.specs.Body.{checkpoint_body, IsCheckpointOf, with_checkpoint, RootRule, LeadTo}
+use Rattle.btr_engine.specs.Body.{padding, body_of, format_in, MayStandUnder, Prefix, pages_after, with_extent, MayHavePages, IsBodyOf, nodes_of}
+use Rattle.btr_engine.specs.Body.{needed_format, checkpoint_body, IsCheckpointOf, with_checkpoint, RootRule, LeadTo}
 
 -- ---- the length of a body, and that it is a body
 
@@ -32,7 +36,7 @@ filled e = spelling e ++ zeros (padding (length (spelling e)))
 
 -- The head of the body of an entry.
 abbrev pub head_of : ℕ → Entry → ℕ → List NodePage → Head
-head_of number e root pages = entry_head number (length (spelling e)) (length pages) root
+head_of number e root pages = entry_head (format_of e) number (length (spelling e)) (length pages) root
 
 pub length-body_of : (number : ℕ) (e : Entry) (root : ℕ) (pages : List NodePage) → AllByRecursion HasPlaces pages → length (body_of number e root pages) ≡ 4096 * (content_blocks (length (spelling e)) + length pages)
 unfolding body_of
@@ -53,7 +57,7 @@ module _ (number : ℕ) (e : Entry) (root : ℕ) (pages : List NodePage) where
   -- The head of a body keeps the grammar.
   pub IsHead-head_of : FitsBody number e root pages → IsHead (head_of number e root pages)
   IsHead-head_of is =
-      IsHead-entry_head number (length (spelling e)) (length pages) root is.some is.few (omega (arith, length-spelling e is.spelled)) is.room is.low
+      IsHead-entry_head (format_of e) number (length (spelling e)) (length pages) root (format-from e) (format-to e) is.some is.few (omega (arith, length-spelling e is.spelled)) is.room is.low
 
   take-head : take 64 (body_of number e root pages) ≡ head_bytes (head_of number e root pages)
   unfolding body_of
@@ -66,6 +70,11 @@ module _ (number : ℕ) (e : Entry) (root : ℕ) (pages : List NodePage) where
     spells = record { is_head = IsHead-head_of is; spelling = take-head };
     whole = length-body_of number e root pages is.places;
   }
+
+  -- The format in the body is the entry's.
+  pub format-body_of : format_in (body_of number e root pages) ≡ format_of e
+  unfolding body_of head_bytes
+  format-body_of = from_be_bytes-to_be_bytes_4 (format_of e) (omega (arith, (format-to e)))
 
   -- The blocks of a body and of the gate after it.
   pub need-body_of : AllByRecursion HasPlaces pages → need (body_of number e root pages) ≡ content_blocks (length (spelling e)) + length pages + 1
@@ -89,6 +98,15 @@ module _ (before : Prefix) (e : Entry) (root : ℕ) (pages : List NodePage) (bod
     places = each-places pages is.fits;
     room = omega (arith, short, needed);
   }
+
+-- An entry with as many pages as it has nodes may have them.
+pub may-have : (past : List Change) (e : Entry) (pages : List NodePage) → length pages ≡ nodes_of past e → MayHavePages e pages
+may-have past (Create id) pages of = tt
+may-have past (Commit stream cut added) pages of = tt
+may-have past (Define id spec) pages of = tt
+may-have past (Distillate stream cut added reads) pages of = tt
+may-have past (Retire stream first) [] of = refl
+may-have past (Retire stream first) (page ∷ pages) of = absurd (omega (arith, of))
 
 -- ---- the entry of a body
 
@@ -121,53 +139,68 @@ IsBodyOf-one before e f root other pages others body few short is is_too =
 
 -- ---- the body of a checkpoint
 
--- The content of a checkpoint: the streams with all their versions.
-abbrev pub content_of : List Entry → List ℕ → List ℕ
-content_of h roots = roll_bytes (roll_of h roots)
+-- The content of a checkpoint of this format: the streams with all their versions.
+abbrev pub content_of : ℕ → List Entry → List ℕ → List ℕ
+content_of format h roots = roll_bytes format (roll_of h roots)
 
-module _ (h : List Entry) (roots : List ℕ) where
+-- The least format of a checkpoint is 1, and after one entry more it is the greater of what it was and the entry's.
+pub some-needed : (h : List Entry) → 1 ≤ needed_format h
+some-needed [] = omega arith
+some-needed (e ∷ h) = omega (arith, some-needed h)
+
+pub needed-push : (h : List Entry) (e : Entry) → needed_format (h ++ e ∷ []) ≡ max (needed_format h) (format_of e)
+needed-push [] e = omega (arith, (format-from e))
+needed-push (f ∷ h) e = omega (arith, needed-push h e)
+
+module _ (format : ℕ) (h : List Entry) (roots : List ℕ) where
   -- The content, and zeros up to the end of its last block.
   abbrev filled_content : List ℕ
-  filled_content = content_of h roots ++ zeros (padding (length (content_of h roots)))
+  filled_content = content_of format h roots ++ zeros (padding (length (content_of format h roots)))
 
   -- The head of the body.
   abbrev pub head_of_checkpoint : Head
-  head_of_checkpoint = checkpoint_head (length h) (length (content_of h roots))
+  head_of_checkpoint = checkpoint_head format (length h) (length (content_of format h roots))
 
-  pub length-checkpoint_body : length (checkpoint_body h roots) ≡ 4096 * content_blocks (length (content_of h roots))
+  pub length-checkpoint_body : length (checkpoint_body format h roots) ≡ 4096 * content_blocks (length (content_of format h roots))
   unfolding checkpoint_body
   length-checkpoint_body =
-      let size = length (content_of h roots) in
-      omega (arith, length-append (head_bytes head_of_checkpoint) filled_content, length-append (content_of h roots) (zeros (padding size)), length-head_bytes head_of_checkpoint, length-zeros (padding size))
+      let size = length (content_of format h roots) in
+      omega (arith, length-append (head_bytes head_of_checkpoint) filled_content, length-append (content_of format h roots) (zeros (padding size)), length-head_bytes head_of_checkpoint, length-zeros (padding size))
 
   -- The head of a checkpoint keeps the grammar, if its numbers fit.
-  pub IsHead-checkpoint : length h < 2 ^ 64 → length (content_of h roots) < 2 ^ 64 → IsHead head_of_checkpoint
-  IsHead-checkpoint few short = record {
+  pub IsHead-checkpoint : 1 ≤ format → format ≤ 3 → length h < 2 ^ 64 → length (content_of format h roots) < 2 ^ 64 → IsHead head_of_checkpoint
+  IsHead-checkpoint some known few short = record {
     kind = inr (refl, refl, refl);
-    format = refl;
+    format = (some, known);
     blocks = omega arith;
     fits = record { number = few; n = omega (arith, short); length = short; nodes = omega arith; root = omega arith };
   }
 
-  pub IsBody-checkpoint_body : length h < 2 ^ 64 → length (content_of h roots) < 2 ^ 64 → IsBody (checkpoint_body h roots) head_of_checkpoint
+  pub IsBody-checkpoint_body : 1 ≤ format → format ≤ 3 → length h < 2 ^ 64 → length (content_of format h roots) < 2 ^ 64 → IsBody (checkpoint_body format h roots) head_of_checkpoint
   unfolding checkpoint_body
-  IsBody-checkpoint_body few short = record {
+  IsBody-checkpoint_body some known few short = record {
     spells = record {
-      is_head = IsHead-checkpoint few short;
+      is_head = IsHead-checkpoint some known few short;
       spelling = take_at (head_bytes head_of_checkpoint) filled_content 64 (length-head_bytes head_of_checkpoint);
     };
     whole = length-checkpoint_body;
   }
 
   -- The blocks of the body and of the gate after it.
-  pub need-checkpoint_body : need (checkpoint_body h roots) ≡ content_blocks (length (content_of h roots)) + 1
+  pub need-checkpoint_body : need (checkpoint_body format h roots) ≡ content_blocks (length (content_of format h roots)) + 1
   need-checkpoint_body = omega (arith, length-checkpoint_body)
 
 -- The body of a checkpoint and the gate after it are at least two blocks.
 pub least-IsCheckpointOf : (before : Prefix) (body : List ℕ) → IsCheckpointOf before body → 2 ≤ need body
 least-IsCheckpointOf before body is =
-    let same : need body ≡ need (checkpoint_body before.entries before.roots) = ap need is.bytes in
-    omega (arith, same, need-checkpoint_body before.entries before.roots)
+    let same : need body ≡ need (checkpoint_body is.format before.entries before.roots) = ap need is.bytes in
+    omega (arith, same, need-checkpoint_body is.format before.entries before.roots)
+
+-- The format in the body of a checkpoint.
+pub format-IsCheckpointOf : (before : Prefix) (body : List ℕ) (is : IsCheckpointOf before body) → format_in body ≡ is.format
+unfolding checkpoint_body head_bytes
+format-IsCheckpointOf before body is =
+    ap format_in is.bytes ∙ from_be_bytes-to_be_bytes_4 is.format (omega (arith, is.most))
 
 -- The kind in the head.
 kind-head_bytes : (head : Head) → head.kind < 2 ^ 32 → u32_at 8 (head_bytes head) ≡ head.kind
@@ -175,18 +208,42 @@ unfolding head_bytes
 kind-head_bytes head small = from_be_bytes-to_be_bytes_4 head.kind small
 
 -- No body is an entry's and a checkpoint's: the kinds in their heads differ.
-apart : (number : ℕ) (e : Entry) (root : ℕ) (pages : List NodePage) (h : List Entry) (roots : List ℕ) → body_of number e root pages ≡ checkpoint_body h roots → ⊥
+apart : (number : ℕ) (e : Entry) (root : ℕ) (pages : List NodePage) (format : ℕ) (h : List Entry) (roots : List ℕ) → body_of number e root pages ≡ checkpoint_body format h roots → ⊥
 unfolding body_of checkpoint_body
-apart number e root pages h roots same =
+apart number e root pages format h roots same =
     let first = head_of number e root pages in
-    let second = head_of_checkpoint h roots in
-    let parts = parts-one (head_bytes first) (head_bytes second) (filled e ++ flat_map page_bytes pages) (filled_content h roots) (length-head_bytes first ∙ sym (length-head_bytes second)) same in
+    let second = head_of_checkpoint format h roots in
+    let parts = parts-one (head_bytes first) (head_bytes second) (filled e ++ flat_map page_bytes pages) (filled_content format h roots) (length-head_bytes first ∙ sym (length-head_bytes second)) same in
     let kinds : 1 ≡ 2 = sym (kind-head_bytes first (omega arith)) ∙ ap (u32_at 8) parts.0 ∙ kind-head_bytes second (omega arith) in
     absurd (omega (arith, kinds))
 
 pub kinds-apart : (before : Prefix) (e : Entry) (root : ℕ) (pages : List NodePage) (other : Prefix) (body : List ℕ) → IsBodyOf before e root pages body → IsCheckpointOf other body → ⊥
 kinds-apart before e root pages other body is marks =
-    apart (length before.entries + 1) e root pages other.entries other.roots (sym is.bytes ∙ marks.bytes)
+    apart (length before.entries + 1) e root pages marks.format other.entries other.roots (sym is.bytes ∙ marks.bytes)
+
+-- ---- the format of a body
+
+-- The format of a body is that of its head.
+pub format-body : (body : List ℕ) (head : Head) → IsBody body head → format_in body ≡ head.format
+format-body body head is = format-spells body head is.spells
+
+pub stands-under : (limit : ℕ) (body : List ℕ) (head : Head) → IsBody body head → head.format ≤ limit → MayStandUnder limit body
+stands-under limit body head is under = omega (arith, format-body body head is, under)
+
+-- One body more.
+pub formats-push : (limit : ℕ) (bodies : List (List ℕ)) (body : List ℕ) → AllByRecursion (MayStandUnder limit) bodies → MayStandUnder limit body → AllByRecursion (MayStandUnder limit) (bodies ++ body ∷ [])
+formats-push limit [] body all last = (last, tt)
+formats-push limit (first ∷ bodies) body all last = (all.0, formats-push limit bodies body all.1 last)
+
+-- The others of some bodies.
+pub formats-rest : (limit : ℕ) (first others : List (List ℕ)) → AllByRecursion (MayStandUnder limit) (first ++ others) → AllByRecursion (MayStandUnder limit) others
+formats-rest limit [] others all = all
+formats-rest limit (body ∷ first) others all = formats-rest limit first others all.1
+
+-- A greater limit.
+pub formats-under : (limit other : ℕ) (bodies : List (List ℕ)) → limit ≤ other → AllByRecursion (MayStandUnder limit) bodies → AllByRecursion (MayStandUnder other) bodies
+formats-under limit other [] more all = tt
+formats-under limit other (body ∷ bodies) more all = (omega (arith, all.0, more), formats-under limit other bodies more all.1)
 
 -- ---- bodies that lead from one prefix to another
 
@@ -257,6 +314,17 @@ module _ (Rule : RootRule) where
         omega (arith, LeadTo-gate (with_extent before x.0 x.1 x.2 body) bodies after x.5, least-IsBodyOf before x.0 x.1 x.2 body x.3)
     | inr x ↦
         omega (arith, LeadTo-gate (with_checkpoint before body) bodies after x.1, least-IsCheckpointOf before body x.0)
+  ]
+
+  -- If no body has a greater format than `limit`, no entry has.
+  pub LeadTo-needed : (limit : ℕ) (before : Prefix) (bodies : List (List ℕ)) (after : Prefix) → LeadTo Rule before bodies after → AllByRecursion (MayStandUnder limit) bodies → needed_format before.entries ≤ limit → needed_format after.entries ≤ limit
+  LeadTo-needed limit before [] after leads formats least =
+      subst (λ (p : Prefix). needed_format p.entries ≤ limit) leads least
+  LeadTo-needed limit before (body ∷ bodies) after leads formats least = elim leads [
+    | inl x ↦
+        let format : format_in body ≡ format_of x.0 = ap format_in x.3.bytes ∙ format-body_of (length before.entries + 1) x.0 x.1 x.2 in
+        LeadTo-needed limit (with_extent before x.0 x.1 x.2 body) bodies after x.5 formats.1 (omega (arith, formats.0, format, least, needed-push before.entries x.0))
+    | inr x ↦ LeadTo-needed limit (with_checkpoint before body) bodies after x.1 formats.1 least
   ]
 
   -- Bodies that lead to one prefix by one rule and to another by another rule lead to the same, if its gate and its entries have numbers

@@ -11,6 +11,7 @@ use Rattle.btr_node.specs.Page.{page_bytes}
 use Rattle.btr_pages.specs.Pages.{page_of, pages_of}
 use Rattle.btr_hist.specs.declared.entry.Entry.{Entry}
 use Rattle.btr_entry.specs.Grammar.{spelling}
+use Rattle.btr_entry.specs.Format.{format_of}
 use Rattle.btr_engine.specs.Body.{padding, body_of, extent_bytes}
 use Rattle.btr_engine.specs.Streamed.{streamed_bytes}
 
@@ -51,9 +52,9 @@ streamed_is head e stream nodes prefix is =
     ∙ sym (append_assoc (head_bytes head) (content ++ bytes) (zeros 4096))
 
 -- The extent of an entry is its body, and one block of zeros.
-pub extent_is : (number : ℕ) (e : Entry) (stream root count : ℕ) (nodes : List NewNodeValue) (head : Head) → count ≡ length (spelling e) → head ≡ entry_head number count (length nodes) root → extent_bytes head (spelling e) (pages_of stream nodes) ≡ body_of number e root (pages_of stream nodes) ++ zeros 4096
+pub extent_is : (number : ℕ) (e : Entry) (stream root count : ℕ) (nodes : List NewNodeValue) (head : Head) → count ≡ length (spelling e) → head ≡ entry_head (format_of e) number count (length nodes) root → extent_bytes head (spelling e) (pages_of stream nodes) ≡ body_of number e root (pages_of stream nodes) ++ zeros 4096
 unfolding body_of
 extent_is number e stream root count nodes head count_is head_is =
     let ps = pages_of stream nodes in
     let many : length nodes ≡ length ps = sym (length-map nodes (page_of stream)) in
-    ap (λ (x : Head). extent_bytes x (spelling e) ps) (head_is ∙ ap (λ n. entry_head number n (length nodes) root) count_is ∙ ap (λ n. entry_head number (length (spelling e)) n root) many)
+    ap (λ (x : Head). extent_bytes x (spelling e) ps) (head_is ∙ ap (λ n. entry_head (format_of e) number n (length nodes) root) count_is ∙ ap (λ n. entry_head (format_of e) number (length (spelling e)) n root) many)

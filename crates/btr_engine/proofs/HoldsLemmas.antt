@@ -1,5 +1,6 @@
 -- Which history is held: by images that agree, and after one entry more.
 use Rattle.std.specs.Prelude.{◌≡◌, ℕ, ◌+◌, ◌-◌, ◌*◌, ◌<◌, ◌≤◌, List, [], ◌∷◌, ◌++◌, length, None}
+use Rattle.std.specs.List.{AllByRecursion}
 use Rattle.std.proofs.Common.{refl, sym, ◌∙◌, ap, subst, inl, inr, ⊎_elim, arith, append_assoc}
 use Rattle.btr_disk.specs.Bytes.{Image, Same}
 use Rattle.btr_disk.specs.Gate.{IsClosed}
@@ -14,13 +15,14 @@ use Rattle.btr_super.specs.Choose.{HasSuper, IsChosen}
 use Rattle.btr_hist.specs.declared.entry.Entry.{Entry}
 use Rattle.btr_hist.specs.Legal.{rejection, Follows}
 use Rattle.btr_hist.proofs.HistoryLemmas.{follows-push}
+use Rattle.btr_entry.specs.Format.{format_of}
 use Rattle.btr_node.specs.declared.page.NodePage.{NodePage}
-use Rattle.btr_engine.specs.Body.{Prefix, prefix_to, no_extents, pages_after, IsBodyOf, IsCheckpointOf, RootRule, LeadTo, LeadToHistory, need_of}
+use Rattle.btr_engine.specs.Body.{format_in, MayStandUnder, needed_format, Prefix, prefix_to, no_extents, pages_after, IsBodyOf, IsCheckpointOf, RootRule, LeadTo, LeadToHistory, need_of}
 use Rattle.btr_engine.specs.Roots.{IsRootOf}
 use Rattle.btr_streams.specs.Board.{Versions}
 use Rattle.btr_engine.specs.Stored.{AreStored}
 use Rattle.btr_streams.specs.Rolling.{HaveRoots}
-use Rattle.btr_engine.proofs.BodyLemmas.{LeadTo-push, LeadTo-mark, LeadTo-roots}
+use Rattle.btr_engine.proofs.BodyLemmas.{format-body_of, formats-push, formats-under, LeadTo-push, LeadTo-mark, LeadTo-roots, LeadTo-needed}
 use Rattle.btr_engine.specs.Holds.{StartsAt, HoldsHistoryTo}
 use Rattle.btr_engine.specs.Step.{IsBeforeOrAfter}
 
@@ -115,6 +117,11 @@ module _ (size : ℕ) (old : Image) (blocks tail : ℕ) (h : List Entry) (at : H
   pub roots-held : length at.leads.roots ≡ length h
   roots-held = LeadTo-roots IsRootOf no_extents at.bodies held at.leads.lead refl
 
+  -- A checkpoint of the history may have the format of the superblock.
+  pub may_mark : needed_format h ≤ at.super.format
+  may_mark =
+      LeadTo-needed IsRootOf at.super.format no_extents at.bodies held at.leads.lead at.formats at.chosen.stored.spelled.keeps.known_format.0
+
   pub behind_prefix : 4 ≤ tail
   behind_prefix = Extents-le old first_gate at.bodies tail at.extents
 
@@ -130,6 +137,7 @@ module _ (size : ℕ) (old : Image) (blocks tail : ℕ) (h : List Entry) (at : H
         bodies = at.bodies;
         extents = subst (Extents new first_gate at.bodies) same log.1;
         leads = at.leads;
+        formats = at.formats;
         starts = at.starts;
         closed = subst (IsClosed new) same log.2;
         inside = at.inside;
@@ -142,8 +150,8 @@ module _ (size : ℕ) (old : Image) (blocks tail : ℕ) (h : List Entry) (at : H
       holds_as_before new (λ k lt. same k) (IsLog-Same old new first_gate at.bodies same (tail, at.extents, at.closed))
 
   -- If all below the tail is the same, and the log has one extent more, with which its bodies lead to a history, the image holds that one.
-  abbrev pub holds_longer : (body : List ℕ) (end : ℕ) (longer : List Entry) → LeadToHistory IsRootOf (at.bodies ++ body ∷ []) end longer → Follows longer → tail + need body ≡ end → end < blocks → (new : Image) → ((k : ℕ) → k < 4096 * tail → new k ≡ old k) → IsLog new first_gate (at.bodies ++ body ∷ []) → HoldsHistoryTo size new blocks end longer
-  holds_longer body end longer leads follows ends fits new below log =
+  abbrev pub holds_longer : (body : List ℕ) (end : ℕ) (longer : List Entry) → LeadToHistory IsRootOf (at.bodies ++ body ∷ []) end longer → MayStandUnder at.super.format body → Follows longer → tail + need body ≡ end → end < blocks → (new : Image) → ((k : ℕ) → k < 4096 * tail → new k ≡ old k) → IsLog new first_gate (at.bodies ++ body ∷ []) → HoldsHistoryTo size new blocks end longer
+  holds_longer body end longer leads may follows ends fits new below log =
       let same : log.0 ≡ end = tails-push old new first_gate at.bodies body tail log.0 at.extents log.1 ∙ ends in
       let prefix : 4 ≤ tail = behind_prefix in
       record {
@@ -153,15 +161,21 @@ module _ (size : ℕ) (old : Image) (blocks tail : ℕ) (h : List Entry) (at : H
         bodies = at.bodies ++ body ∷ [];
         extents = subst (Extents new first_gate (at.bodies ++ body ∷ [])) same log.1;
         leads = leads;
+        formats = formats-push at.super.format at.bodies body at.formats may;
         starts = starts-push IsRootOf at.bodies body at.super.checkpoint at.super.tail at.starts;
         closed = subst (IsClosed new) same log.2;
         inside = fits;
         follows = follows;
       }
 
-  module _ (e : Entry) (root : ℕ) (pages : List NodePage) (body : List ℕ) (is : IsBodyOf held e root pages body) (keeps : IsRootOf (pages_after held e pages) h e root pages) (allowed : rejection h e ≡ None) (needed : need body ≡ need_of h e) (fits : tail + need_of h e < blocks) where
+  module _ (e : Entry) (root : ℕ) (pages : List NodePage) (body : List ℕ) (is : IsBodyOf held e root pages body) (keeps : IsRootOf (pages_after held e pages) h e root pages) (allowed : rejection h e ≡ None) (needed : need body ≡ need_of h e) (fits : tail + need_of h e < blocks) (may : format_of e ≤ at.super.format) where
     end_of : tail + need body ≡ tail + need_of h e
     end_of = ap (λ n. tail + n) needed
+
+    may_stand : MayStandUnder at.super.format body
+    may_stand =
+        let format : format_in body ≡ format_of e = ap format_in is.bytes ∙ format-body_of (length h + 1) e root pages in
+        omega (arith, format, may)
 
     -- If all below the tail is the same and the log has this entry too, the image holds the history with it.
     pub holds_with : (new : Image) → ((k : ℕ) → k < 4096 * tail → new k ≡ old k) → IsLog new first_gate (at.bodies ++ body ∷ []) → HoldsHistoryTo size new blocks (tail + need_of h e) (h ++ e ∷ [])
@@ -173,7 +187,7 @@ module _ (size : ℕ) (old : Image) (blocks tail : ℕ) (h : List Entry) (at : H
           lead = subst (λ g. LeadTo IsRootOf no_extents (at.bodies ++ body ∷ []) (prefix_to g (h ++ e ∷ []) (at.leads.roots ++ root ∷ []) (pages_after held e pages))) end_of
               (LeadTo-push IsRootOf no_extents at.bodies held e root pages body at.leads.lead is keeps);
         })
-        (follows-push h e at.follows allowed) end_of fits
+        may_stand (follows-push h e at.follows allowed) end_of fits
 
     -- So it is with trees that are stored in the pages of the history and those of the entry, and have the roots of both.
     pub holds_trees : (new : Image) → ((k : ℕ) → k < 4096 * tail → new k ≡ old k) → IsLog new first_gate (at.bodies ++ body ∷ []) → (s : Super) → at.super ≡ s → (streams : List Versions) → AreStored (pages_after held e pages) (tail + need_of h e) streams → HaveRoots (at.leads.roots ++ root ∷ []) streams → HoldsTrees size new blocks (tail + need_of h e) (h ++ e ∷ []) s streams
@@ -192,10 +206,10 @@ module _ (size : ℕ) (old : Image) (blocks tail : ℕ) (h : List Entry) (at : H
         }))
         moment.log
 
-  -- If all from the first gate on is the same, and another superblock of as many blocks is chosen, which says that the log is read from its
-  -- beginning or from the gate after one of its checkpoints, the image holds the same history.
-  abbrev pub holds_under : (new : Image) (s : Super) → ((k : ℕ) → 16384 ≤ k → new k ≡ old k) → IsChosen size new s → s.blocks ≡ blocks → StartsAt IsRootOf at.bodies s.checkpoint s.tail → HoldsHistoryTo size new blocks tail h
-  holds_under new s agree chosen same starts =
+  -- If all from the first gate on is the same, and another superblock of as many blocks and no lesser format is chosen, which says that the
+  -- log is read from its beginning or from the gate after one of its checkpoints, the image holds the same history.
+  abbrev pub holds_under : (new : Image) (s : Super) → ((k : ℕ) → 16384 ≤ k → new k ≡ old k) → IsChosen size new s → s.blocks ≡ blocks → at.super.format ≤ s.format → StartsAt IsRootOf at.bodies s.checkpoint s.tail → HoldsHistoryTo size new blocks tail h
+  holds_under new s agree chosen same more starts =
       let prefix : 4 ≤ tail = behind_prefix in
       record {
         super = s;
@@ -204,19 +218,21 @@ module _ (size : ℕ) (old : Image) (blocks tail : ℕ) (h : List Entry) (at : H
         bodies = at.bodies;
         extents = Extents-along old new first_gate at.bodies tail (λ k low high. agree k (omega (arith, low))) at.extents;
         leads = at.leads;
+        formats = formats-under at.super.format s.format at.bodies more at.formats;
         starts = starts;
         closed = IsClosed-along old new tail (λ k low high. agree k (omega (arith, low))) at.closed;
         inside = at.inside;
         follows = at.follows;
       }
 
-  -- If all below the tail is the same and the log has a checkpoint too, the image holds the same history.
-  abbrev pub holds_marked : (body : List ℕ) → IsCheckpointOf held body → tail + need body < blocks → (new : Image) → ((k : ℕ) → k < 4096 * tail → new k ≡ old k) → IsLog new first_gate (at.bodies ++ body ∷ []) → HoldsHistoryTo size new blocks (tail + need body) h
-  holds_marked body is fits =
+  -- If all below the tail is the same and the log has a checkpoint too, whose format is no greater than that of the superblock, the image
+  -- holds the same history.
+  abbrev pub holds_marked : (body : List ℕ) → IsCheckpointOf held body → MayStandUnder at.super.format body → tail + need body < blocks → (new : Image) → ((k : ℕ) → k < 4096 * tail → new k ≡ old k) → IsLog new first_gate (at.bodies ++ body ∷ []) → HoldsHistoryTo size new blocks (tail + need body) h
+  holds_marked body is may fits =
       holds_longer body (tail + need body) h
       (record {
         roots = at.leads.roots;
         pages = at.leads.pages;
         lead = LeadTo-mark IsRootOf no_extents at.bodies held body at.leads.lead is;
       })
-      at.follows refl fits
+      may at.follows refl fits

@@ -6,6 +6,7 @@ mod StreamedLemmas
 mod FirstNode
 mod Streams
 pub mod HoldsLemmas
+pub mod RaiseLemmas
 pub mod Stepping
 mod Appending
 mod PendingLemmas

@@ -32,7 +32,7 @@ use Rattle.btr_engine.specs.declared.step.StepFault.{StepFault}
 use Rattle.btr_engine.specs.declared.step.StepFault.TheVariants.{DeviceFull, DeviceFault}
 use Rattle.btr_streams.specs.Board.{Versions, Kept, IsBoardOf}
 use Rattle.btr_streams.specs.Rolling.{roll_of, rolled}
-use Rattle.btr_engine.specs.Body.{prefix_to, no_extents, IsCheckpointOf, LeadTo}
+use Rattle.btr_engine.specs.Body.{MayStandUnder, prefix_to, no_extents, needed_format, IsCheckpointOf, LeadTo}
 use Rattle.btr_engine.specs.Roots.{IsRootOf}
 use Rattle.btr_engine.specs.Holds.{HoldsHistoryTo, HoldsHistory}
 use Rattle.btr_engine.specs.Stored.{AreStored}
@@ -42,7 +42,8 @@ use Rattle.btr_engine.specs.Engine.{log_of, device, board_of, is_home, blocks_of
 use Rattle.btr_engine.specs.Mark.{body_of_roll, run_of_board, need_of_board, next_super, IsNamed, CountsMark, StopsByMark, CheckpointCause, Marks}
 use Rattle.btr_engine.proofs.RollBody.{need-body_of_roll, brings-roll, body-of-history}
 use Rattle.btr_engine.proofs.EngineLemmas.{holds_in, take_whole}
-use Rattle.btr_engine.proofs.HoldsLemmas.{HoldsTrees, IsChosen-along, held, starts-last, holds_as_before, holds_under, holds_marked}
+use Rattle.btr_engine.proofs.BodyLemmas.{format-IsCheckpointOf}
+use Rattle.btr_engine.proofs.HoldsLemmas.{HoldsTrees, IsChosen-along, held, may_mark, starts-last, holds_as_before, holds_under, holds_marked}
 use Rattle.btr_engine.proofs.Stepping.{same_at_home}
 use Rattle.btr_streams.proofs.RollingLemmas.{rolled-is}
 use Rattle.btr_streams.proofs.StreamsLemmas.{has-streams}
@@ -85,8 +86,9 @@ module _ {D : Type 0} {disk : Ghosts D} where
 
 -- ---- images
 
--- The superblock names a checkpoint at this gate, with this gate after it, in a store of this many blocks.
-pub record Names (blocks gate end : ℕ) (next : Super) : Type 0 where
+-- The superblock names a checkpoint at this gate, with this gate after it, in a store of this many blocks and of this format.
+pub record Names (blocks gate end format : ℕ) (next : Super) : Type 0 where
+  pub same_format : next.format ≡ format
   pub same_blocks : next.blocks ≡ blocks
   pub side : next.side ≤ 1
   pub gate_is : next.checkpoint ≡ gate
@@ -96,7 +98,10 @@ pub record Names (blocks gate end : ℕ) (next : Super) : Type 0 where
 abbrev pub AgreeBehind : Image → Image → Type 0
 AgreeBehind old new = (k : ℕ) → 16384 ≤ k → new k ≡ old k
 
-module _ (size : ℕ) (old : Image) (blocks tail : ℕ) (h : List Entry) (at : HoldsHistoryTo size old blocks tail h) (body : List ℕ) (is : IsCheckpointOf (held size old blocks tail h at) body) (fits : tail + need body < blocks) where
+module _ (size : ℕ) (old : Image) (blocks tail : ℕ) (h : List Entry) (at : HoldsHistoryTo size old blocks tail h) (body : List ℕ) (is : IsCheckpointOf (held size old blocks tail h at) body) (same_format : is.format ≡ at.super.format) (fits : tail + need body < blocks) where
+  may_stand : MayStandUnder at.super.format body
+  may_stand = omega (arith, format-IsCheckpointOf (held size old blocks tail h at) body is, same_format)
+
   -- An image at a moment of the append holds the history.
   while_appending : (c : Image) → append.IsMoment old tail at.bodies body c → HoldsHistory size c h
   while_appending c moment =
@@ -109,14 +114,14 @@ module _ (size : ℕ) (old : Image) (blocks tail : ℕ) (h : List Entry) (at : H
       (λ log. record {
         blocks = blocks;
         tail = tail + need body;
-        holds = holds_marked size old blocks tail h at body is fits c moment.below log;
+        holds = holds_marked size old blocks tail h at body is may_stand fits c moment.below log;
       })
       moment.log
 
-  module _ (mid : Image) (below : (k : ℕ) → k < 4096 * tail → mid k ≡ old k) (log : IsLog mid first_gate (at.bodies ++ body ∷ [])) (next : Super) (names : Names blocks tail (tail + need body) next) where
+  module _ (mid : Image) (below : (k : ℕ) → k < 4096 * tail → mid k ≡ old k) (log : IsLog mid first_gate (at.bodies ++ body ∷ [])) (next : Super) (names : Names blocks tail (tail + need body) at.super.format next) where
     -- The history after the append.
     abbrev middle : HoldsHistoryTo size mid blocks (tail + need body) h
-    middle = holds_marked size old blocks tail h at body is fits mid below log
+    middle = holds_marked size old blocks tail h at body is may_stand fits mid below log
 
     -- The old superblock is still chosen.
     middle_chosen : IsChosen size mid at.super
@@ -125,7 +130,7 @@ module _ (size : ℕ) (old : Image) (blocks tail : ℕ) (h : List Entry) (at : H
     -- The history under the next superblock.
     abbrev under : (c : Image) → AgreeBehind mid c → IsChosen size c next → HoldsHistoryTo size c blocks (tail + need body) h
     under c agree chosen =
-        holds_under size mid blocks (tail + need body) h middle c next agree chosen names.same_blocks
+        holds_under size mid blocks (tail + need body) h middle c next agree chosen names.same_blocks (omega (arith, names.same_format))
         (starts-last IsRootOf at.bodies (held size old blocks tail h at) body next.checkpoint next.tail at.leads.lead is names.gate_is names.end_is)
 
     -- An image at a moment of the replacement holds the history.
@@ -138,7 +143,7 @@ module _ (size : ℕ) (old : Image) (blocks tail : ℕ) (h : List Entry) (at : H
         (λ chosen. record {
           blocks = blocks;
           tail = tail + need body;
-          holds = holds_under size mid blocks (tail + need body) h middle c at.super agree chosen at.same_blocks middle.starts;
+          holds = holds_under size mid blocks (tail + need body) h middle c at.super agree chosen at.same_blocks (omega arith) middle.starts;
         })
         (λ chosen. record {
           blocks = blocks;
@@ -160,17 +165,18 @@ module _ (size : ℕ) (old : Image) (blocks tail : ℕ) (h : List Entry) (at : H
       body = body;
       last = refl;
       leads = subst (λ n. LeadTo IsRootOf no_extents at.bodies (prefix_to n h at.leads.roots at.leads.pages)) (sym names.gate_is) at.leads.lead;
-      is = record { room = is.room; bytes = is.bytes };
+      is = record { format = is.format; least = is.least; most = is.most; room = is.room; bytes = is.bytes };
+      same_format = same_format ∙ sym names.same_format;
       from_tail = names.end_is;
     }
 
 -- ---- an engine
 
-module _ {D : Type 0} {disk : Ghosts D} (old : Engine D disk) (run : List ℕ) (bytes : run ≡ run_of_board (board_of old)) where
+module _ {D : Type 0} {disk : Ghosts D} (old : Engine D disk) (run : List ℕ) (bytes : run ≡ run_of_board (super_of old).format (board_of old)) where
   -- The blocks that the run needs are those of the board.
-  pub needed : need (append.body_in_run run) ≡ need_of_board (board_of old)
+  pub needed : need (append.body_in_run run) ≡ need_of_board (super_of old).format (board_of old)
   needed =
-      ap need (brings-roll (entries_of old) (rolled (board_of old)) run bytes) ∙ need-body_of_roll (entries_of old) (rolled (board_of old))
+      ap need (brings-roll (super_of old).format (entries_of old) (rolled (board_of old)) run bytes) ∙ need-body_of_roll (super_of old).format (entries_of old) (rolled (board_of old))
 
   -- They are two or more: the content has a head.
   pub two_blocks : 2 ≤ need (append.body_in_run run)
@@ -184,10 +190,10 @@ module _ {D : Type 0} {disk : Ghosts D} (old : Engine D disk) (run : List ℕ) (
   AnswersFull answer = IsFalse (is_stopped old) → append.IsTooLong (log_of old) run → answer ≡ full
 
   -- An append with another result had room.
-  pub fits_unless_full : (answer : Result (Unit {0}) AppendFault) → IsFalse (is_stopped old) → AnswersFull answer → (answer ≡ full → ⊥) → need_of_board (board_of old) ≤ room_of old
+  pub fits_unless_full : (answer : Result (Unit {0}) AppendFault) → IsFalse (is_stopped old) → AnswersFull answer → (answer ≡ full → ⊥) → need_of_board (super_of old).format (board_of old) ≤ room_of old
   fits_unless_full answer runs answers_full other =
-      let size : need (append.body_in_run run) ≡ need_of_board (board_of old) = needed in
-      ⊎_elim (λ short. absurd (other (answers_full runs (omega (arith, short, size))))) (λ le. le) (cases_lt (room_of old) (need_of_board (board_of old)))
+      let size : need (append.body_in_run run) ≡ need_of_board (super_of old).format (board_of old) = needed in
+      ⊎_elim (λ short. absurd (other (answers_full runs (omega (arith, short, size))))) (λ le. le) (cases_lt (room_of old) (need_of_board (super_of old).format (board_of old)))
 
   -- Why an append that fails makes no checkpoint.
   pub refused : (new : Engine D disk) (fault : AppendFault) (answer : StepFault) → is_home old ≡ true → is_home new ≡ true → IsFalse (is_stopped old) → AnswersFull (Err fault) → append.AppendCause (log_of old) (log_of new) run fault → board_of new ≡ board_of old → new.opened_with ≡ old.opened_with → new.chosen ≡ old.chosen → new.synced ≡ old.synced → ((n left : ℕ) → fault ≡ Full n left → answer ≡ DeviceFull n left) → (fault ≡ Fault → answer ≡ DeviceFault) → CheckpointCause old new answer
@@ -204,7 +210,7 @@ module _ {D : Type 0} {disk : Ghosts D} (old : Engine D disk) (run : List ℕ) (
   refused new (AlreadyStopped n) answer before_home after_home runs answers_full cause same began chosen synced is_full is_fault =
       let stopped = cause.0 in absurd (cc)
 
-  module _ (fits : need_of_board (board_of old) ≤ room_of old) where
+  module _ (fits : need_of_board (super_of old).format (board_of old) ≤ room_of old) where
     -- A block is left after it for the next gate.
     inside : tail_of old + need (append.body_in_run run) < blocks_of old
     inside =
@@ -223,19 +229,28 @@ module _ {D : Type 0} {disk : Ghosts D} (old : Engine D disk) (run : List ℕ) (
       is-checkpoint =
           let roots = rest.holds.leads.roots in
           let same : rolled (board_of old) ≡ roll_of h roots = rolled-is h roots (board_of old) (has-streams h (board_of old) rest.of) rest.roots in
-          let low : content_blocks (length (roll_bytes (rolled (board_of old)))) < 2 ^ 64 = omega (arith, fits, (log_of old).addressable) in
+          let low : content_blocks (length (roll_bytes (super_of old).format (rolled (board_of old)))) < 2 ^ 64 = omega (arith, fits, (log_of old).addressable) in
+          let format = (super_of old).format in
           record {
-            room = subst (λ r. content_blocks (length (roll_bytes r)) < 2 ^ 64) same low;
-            bytes = brings-roll (entries_of old) (rolled (board_of old)) run bytes ∙ ap (λ n. body_of_roll n (rolled (board_of old))) rest.of.entries ∙ ap (body_of_roll (length h)) same ∙ body-of-history h roots;
+            format = format;
+            least = subst (λ (s : Super). needed_format h ≤ s.format) rest.under (may_mark size contents (blocks_of old) (tail_of old) h rest.holds);
+            most = old.followable.format_to;
+            room = subst (λ r. content_blocks (length (roll_bytes format r)) < 2 ^ 64) same low;
+            bytes = brings-roll format (entries_of old) (rolled (board_of old)) run bytes ∙ ap (λ n. body_of_roll format n (rolled (board_of old))) rest.of.entries ∙ ap (body_of_roll format (length h)) same ∙ body-of-history format h roots;
           }
+
+      -- Its format is that of the superblock.
+      its-format : is-checkpoint.format ≡ rest.holds.super.format
+      unfolding is-checkpoint
+      its-format = ap (λ (s : Super). s.format) (sym rest.under)
 
       -- Each moment of the append leaves the history.
       pub appending : (after : Log D disk) → log.LogLeaves (log_of old) after (append.IsMoment contents (tail_of old) rest.holds.bodies (append.body_in_run run)) → log.LogLeaves (log_of old) after (λ c. HoldsHistory size c h)
       appending after leaves =
           weakens disk.calls disk.images_since (device old) (log.log_device after) (append.IsMoment contents (tail_of old) rest.holds.bodies (append.body_in_run run)) (λ c. HoldsHistory size c h)
-          (while_appending size contents (blocks_of old) (tail_of old) h rest.holds (append.body_in_run run) is-checkpoint inside) leaves
+          (while_appending size contents (blocks_of old) (tail_of old) h rest.holds (append.body_in_run run) is-checkpoint its-format inside) leaves
 
-      module _ (after : Log D disk) (kept : log.KeepsBounds (log_of old) after) (tail : log.log_tail after ≡ tail_of old + need (append.body_in_run run)) (written : Published contents (4096 * (tail_of old + 1)) run (4096 * tail_of old) gate_block (disk.contents (log.log_device after))) (rests : log.IsLogAtRest after (rest.holds.bodies ++ append.body_in_run run ∷ [])) (next : Super) (is_next : next ≡ next_super (super_of old) (tail_of old) (log.log_tail after)) where
+      module _ (after : Log D disk) (kept : log.KeepsBounds (log_of old) after) (tail : log.log_tail after ≡ tail_of old + need (append.body_in_run run)) (written : Published contents (4096 * (tail_of old + 1)) run (4096 * tail_of old) gate_block (disk.contents (log.log_device after))) (rests : log.IsLogAtRest after (rest.holds.bodies ++ append.body_in_run run ∷ [])) (next : Super) (is_next : next ≡ next_super (super_of old) (tail_of old) (log.log_tail after) (super_of old).format) where
         abbrev mid : Image
         mid = disk.contents (log.log_device after)
 
@@ -245,8 +260,9 @@ module _ {D : Type 0} {disk : Ghosts D} (old : Engine D disk) (run : List ℕ) (
         its_log : IsLog mid first_gate (rest.holds.bodies ++ append.body_in_run run ∷ [])
         its_log = AtRest-IsLog mid (disk.images_now (log.log_device after)) (log.log_tail after) (rest.holds.bodies ++ append.body_in_run run ∷ []) rests
 
-        names : Names (blocks_of old) (tail_of old) (tail_of old + need (append.body_in_run run)) next
+        names : Names (blocks_of old) (tail_of old) (tail_of old + need (append.body_in_run run)) rest.holds.super.format next
         names = record {
+          same_format = ap (λ (s : Super). s.format) is_next ∙ ap (λ (s : Super). s.format) (sym rest.under);
           same_blocks = ap (λ (s : Super). s.blocks) is_next ∙ old.same_blocks;
           side = omega (arith, ap (λ (s : Super). s.side) is_next);
           gate_is = ap (λ (s : Super). s.checkpoint) is_next;
@@ -259,7 +275,7 @@ module _ {D : Type 0} {disk : Ghosts D} (old : Engine D disk) (run : List ℕ) (
         -- The superblock that is chosen before the replacement is on the other side, and has a lesser number.
         pub followed : IsFollowed (disk.size (log.log_device after)) mid (super_of old) next
         followed =
-            let chosen : IsChosen size mid rest.holds.super = middle_chosen size contents (blocks_of old) (tail_of old) h rest.holds (append.body_in_run run) is-checkpoint inside mid below its_log next names in
+            let chosen : IsChosen size mid rest.holds.super = middle_chosen size contents (blocks_of old) (tail_of old) h rest.holds (append.body_in_run run) is-checkpoint its-format inside mid below its_log next names in
             record {
               chosen = subst (λ s. IsChosen (disk.size (log.log_device after)) mid s) rest.under (subst (λ n. IsChosen n mid rest.holds.super) (sym same_size) chosen);
               other = ap (λ (s : Super). s.side) is_next;
@@ -274,7 +290,7 @@ module _ {D : Type 0} {disk : Ghosts D} (old : Engine D disk) (run : List ℕ) (
         pub replacing : (new : D) → Leaves disk.calls disk.images_since (log.log_device after) new (IsReplacing (disk.size (log.log_device after)) (disk.images_now (log.log_device after)) (super_of old) next) → Leaves disk.calls disk.images_since (log.log_device after) new (λ c. HoldsHistory size c h)
         replacing new leaves =
             weakens disk.calls disk.images_since (log.log_device after) new (IsReplacing (disk.size (log.log_device after)) (disk.images_now (log.log_device after)) (super_of old) next) (λ c. HoldsHistory size c h)
-            (λ c moment. while_replacing size contents (blocks_of old) (tail_of old) h rest.holds (append.body_in_run run) is-checkpoint inside mid below its_log next names (disk.images_now (log.log_device after)) rests.only c
+            (λ c moment. while_replacing size contents (blocks_of old) (tail_of old) h rest.holds (append.body_in_run run) is-checkpoint its-format inside mid below its_log next names (disk.images_now (log.log_device after)) rests.only c
             (subst (λ s. IsReplacing size (disk.images_now (log.log_device after)) s next c) (sym rest.under) (subst (λ n. IsReplacing n (disk.images_now (log.log_device after)) (super_of old) next c) same_size moment)))
             leaves
 
@@ -301,7 +317,7 @@ module _ {D : Type 0} {disk : Ghosts D} (old : Engine D disk) (run : List ℕ) (
               let back : (board_of old).streams ≡ streams = ap (λ (b : Kept). b.streams) (sym same) in
               let stored = subst (AreStored rest.holds.leads.pages (tail_of old)) back rest.stored in
               let have = subst (HaveRoots rest.holds.leads.roots) back rest.roots in
-              let first : HoldsTrees size now (blocks_of old) end h next streams = under_next size contents (blocks_of old) (tail_of old) h rest.holds (append.body_in_run run) is-checkpoint inside mid below its_log next names now agree chosen_now streams stored have in
+              let first : HoldsTrees size now (blocks_of old) end h next streams = under_next size contents (blocks_of old) (tail_of old) h rest.holds (append.body_in_run run) is-checkpoint its-format inside mid below its_log next names now agree chosen_now streams stored have in
               let second : HoldsTrees (disk.size d) now (blocks_of old) end h next streams = subst (λ n. HoldsTrees n now (blocks_of old) end h next streams) same_size_now first in
               let third = subst (λ x. HoldsTrees (disk.size x) (disk.contents x) (blocks_of old) end h next streams) (sym at) second in
               let fourth = subst (λ n. HoldsTrees (disk.size (device new)) (disk.contents (device new)) n end h next streams) (sym blocked) third in
@@ -319,7 +335,7 @@ module _ {D : Type 0} {disk : Ghosts D} (old : Engine D disk) (run : List ℕ) (
           pub named_in : (blocks end : ℕ) → blocks ≡ blocks_of old → end ≡ log.log_tail after → Only now (disk.images_now d) → (c : Image) → disk.images_now d c → IsNamed (disk.size d) c blocks end h
           named_in blocks end blocked tailed only c left =
               let same = only.each c left in
-              let first : IsNamed size c (blocks_of old) (tail_of old + need (append.body_in_run run)) h = named size contents (blocks_of old) (tail_of old) h rest.holds (append.body_in_run run) is-checkpoint inside mid below its_log next names c (λ k low. same k ∙ agree k low) (IsChosen-along size now c next (λ k low. same k) chosen_now) in
+              let first : IsNamed size c (blocks_of old) (tail_of old + need (append.body_in_run run)) h = named size contents (blocks_of old) (tail_of old) h rest.holds (append.body_in_run run) is-checkpoint its-format inside mid below its_log next names c (λ k low. same k ∙ agree k low) (IsChosen-along size now c next (λ k low. same k) chosen_now) in
               let second = subst (λ n. IsNamed n c (blocks_of old) (tail_of old + need (append.body_in_run run)) h) same_size_now first in
               let third = subst (λ n. IsNamed (disk.size d) c n (tail_of old + need (append.body_in_run run)) h) (sym blocked) second in
               subst (λ n. IsNamed (disk.size d) c blocks n h) (sym tail ∙ sym tailed) third
@@ -350,7 +366,7 @@ marks_nothing engine fault home cause only_now = record {
   durable = λ seen h more calls entries rests so_far. so_far;
 }
 
-pub fault_leaves : {D : Type 0} {disk : Ghosts D} (h : List Entry) (old : Engine D disk) (run : List ℕ) (bytes : run ≡ run_of_board (board_of old)) (after : Log D disk) (fault : AppendFault) → IsFalse (is_stopped old) → AnswersFull old run bytes (Err fault) → append.AppendCause (log_of old) after run fault → ((c : Image) → disk.images_since (device old) (disk.calls (device old)) c → disk.images_now (device old) c) → (rest : IsAtRest h old) → log.LogLeaves (log_of old) after (append.IsMoment (disk.contents (device old)) (tail_of old) rest.holds.bodies (append.body_in_run run)) → log.LogLeaves (log_of old) after (λ c. HoldsHistory (disk.size (device old)) c h)
+pub fault_leaves : {D : Type 0} {disk : Ghosts D} (h : List Entry) (old : Engine D disk) (run : List ℕ) (bytes : run ≡ run_of_board (super_of old).format (board_of old)) (after : Log D disk) (fault : AppendFault) → IsFalse (is_stopped old) → AnswersFull old run bytes (Err fault) → append.AppendCause (log_of old) after run fault → ((c : Image) → disk.images_since (device old) (disk.calls (device old)) c → disk.images_now (device old) c) → (rest : IsAtRest h old) → log.LogLeaves (log_of old) after (append.IsMoment (disk.contents (device old)) (tail_of old) rest.holds.bodies (append.body_in_run run)) → log.LogLeaves (log_of old) after (λ c. HoldsHistory (disk.size (device old)) c h)
 fault_leaves {D} {disk} h old run bytes after (Full n room) runs answers_full cause only_now rest leaves =
     subst (λ l. log.LogLeaves (log_of old) l (λ c. HoldsHistory (disk.size (device old)) c h)) (sym cause.4) (nothing_leaves h old only_now rest)
 fault_leaves h old run bytes after Fault runs answers_full cause only_now rest leaves =
@@ -388,9 +404,9 @@ module _ {D : Type 0} {disk : Ghosts D} (h : List Entry) (old new : Engine D dis
 -- ---- results of a replacement
 
 -- The next superblock, with its numbers written otherwise.
-pub next-is : (s next : Super) (gate tail before after : ℕ) → next ≡ next_super s gate tail → gate ≡ before → tail ≡ after → next ≡ next_super s before after
-next-is s next gate tail before after is first second =
-    is ∙ ap (λ n. next_super s n tail) first ∙ ap (next_super s before) second
+pub next-is : (s next : Super) (gate tail before after format : ℕ) → next ≡ next_super s gate tail format → gate ≡ before → tail ≡ after → next ≡ next_super s before after format
+next-is s next gate tail before after format is first second =
+    is ∙ ap (λ n. next_super s n tail format) first ∙ ap (λ n. next_super s before n format) second
 
 pub on_err : {T E P : Type 0} (r : Result T E) → is_err r ≡ true → OnErr r P → P
 on_err (Ok x) failed p = absurd (cc)

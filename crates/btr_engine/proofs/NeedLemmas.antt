@@ -9,7 +9,7 @@ use Rattle.btr_tree.specs.NewNodes.{new_nodes}
 use Rattle.btr_tree.specs.Nodes.{above_root}
 use Rattle.btr_tree.proofs.NewNodeCountLemmas.{new_nodes-bound}
 use Rattle.btr_hist.specs.declared.entry.Entry.{Entry}
-use Rattle.btr_hist.specs.declared.entry.Entry.TheVariants.{Create, Define, Commit, Distillate}
+use Rattle.btr_hist.specs.declared.entry.Entry.TheVariants.{Create, Define, Commit, Distillate, Retire}
 use Rattle.btr_hist.specs.History.{commits}
 use Rattle.btr_streams.specs.Past.{with_commits}
 use Rattle.btr_engine.specs.Body.{node_blocks, need_of, needs_after, needs_of, most_nodes, most_need_of}
@@ -49,5 +49,6 @@ few_nodes past c =
 pub need-most : (h : List Entry) (e : Entry) → need_of h e ≤ most_need_of e
 need-most h (Create id) = omega arith
 need-most h (Define id spec) = omega arith
+need-most h (Retire stream first) = omega arith
 need-most h (Commit stream cut added) = omega (arith, few_nodes (commits h stream) (record { cut = cut; added = added }))
 need-most h (Distillate stream cut added reads) = omega (arith, few_nodes (commits h stream) (record { cut = cut; added = added }))

@@ -13,7 +13,7 @@ use Rattle.btr_tree.specs.NewNodes.{NewNodeValue}
 use Rattle.btr_node.specs.Page.{Fits}
 use Rattle.btr_pages.specs.Pages.{Pages, with_pages, page_of, pages_of, ArePages}
 use Rattle.btr_hist.specs.declared.entry.Entry.{Entry}
-use Rattle.btr_hist.specs.declared.entry.Entry.TheVariants.{Create, Define, Commit, Distillate}
+use Rattle.btr_hist.specs.declared.entry.Entry.TheVariants.{Create, Define, Commit, Distillate, Retire}
 use Rattle.btr_hist.specs.History.{commits, latest}
 use Rattle.btr_entry.specs.Grammar.{IsSpelled, ValuesFit}
 use Rattle.btr_entry.proofs.SpellingLemmas.{length-spelling}
@@ -24,12 +24,12 @@ use Rattle.btr_streams.specs.Board.{Kept, IsBoardOf}
 use Rattle.btr_engine.specs.Roots.{LeadsToLatest, IsRootOf}
 use Rattle.btr_engine.specs.Stored.{AreStored}
 use Rattle.btr_streams.specs.Rolling.{HaveRoots}
-use Rattle.btr_streams.specs.Stage.{IsReceipt, MakesVersion, WritesCommit, WritesStream, change}
+use Rattle.btr_streams.specs.Stage.{IsReceipt, MakesVersion, WritesCommit, WritesRetirement, WritesStream, change}
 use Rattle.btr_engine.specs.Travel.{WritesAfter, run_of, written_pages, IsMade, IsStaged}
 use Rattle.btr_streams.proofs.BoardStreamLemmas.{commit-makes, distillate-makes}
 use Rattle.btr_engine.proofs.BodyLemmas.{FitsBody}
 use Rattle.btr_engine.proofs.NeedLemmas.{few_nodes}
-use Rattle.btr_engine.proofs.Written.{nodes-counted, reported, root-leads, stored-next, stored-new, pages-places}
+use Rattle.btr_engine.proofs.Written.{nodes-counted, reported, root-leads, stored-next, stored-new, stored-retired-here, pages-places}
 use Rattle.btr_engine.proofs.Stepping.{is_append_run}
 use Rattle.btr_engine.proofs.Appending.{IsExtentOf, StandAfter}
 
@@ -62,6 +62,7 @@ module _ (h : List Entry) (b : Kept) (of : IsBoardOf h b) (tail : ℕ) where
   nodes-needed : (e : Entry) (s : Staged) → WritesAfter b e tail s → length s.nodes.items ≡ nodes_of (commits_before h e) e
   nodes-needed (Create id) s w = ap (length {A = NewNodeValue}) w.none
   nodes-needed (Define id spec) s w = ap (length {A = NewNodeValue}) w.none
+  nodes-needed (Retire stream first) s w = ap (length {A = NewNodeValue}) w.none
   nodes-needed (Commit stream cut added) s w =
       let e : Entry = Commit stream cut added in
       nodes-counted h b s.next of e (first_page tail e) stream (change cut added) _ (commit-makes stream cut added) s.nodes.items s.root w
@@ -101,6 +102,20 @@ module _ (h : List Entry) (b : Kept) (of : IsBoardOf h b) (tail : ℕ) where
           have = have;
         }
 
+    rightly-retirement : (e : Entry) (s : Staged) (stream least : ℕ) → WritesRetirement b stream least s.next s.nodes.items s.root → nodes_of (commits_before h e) e ≡ 0 → ((known : Pages) → s.root ≡ 0 → IsRootOf known h e s.root (written_pages s)) → HaveRoots (roots ++ s.root ∷ []) s.next.streams → WritesRightly roots pages e s
+    rightly-retirement e s stream least w none rule have =
+        let empty : written_pages s ≡ [] = no-pages s.receipt.stream s.nodes.items w.none in
+        record {
+          stand = record {
+            fit = subst (AllByRecursion Fits) (sym empty) tt;
+            rightly = subst (λ l. ArePages pages (first_page tail e) l) (sym empty) (λ i. tt);
+            keeps = rule _ w.no_root;
+          };
+          stored = subst (λ l. AreStored (with_pages pages (first_page tail e) l) (tail + need_of h e) s.next.streams) (sym empty)
+              (stored-retired-here pages tail (first_page tail e) (tail + need_of h e) b s.next stream least stored w.sets (omega arith) (omega arith));
+          have = have;
+        }
+
     rightly-version : (e : Entry) (s : Staged) (stream : ℕ) (c : Change) (read : _) → MakesVersion e stream c read → WritesCommit b (first_page tail e) stream c read s.next s.nodes.items s.root → s.receipt.stream ≡ stream → IsSpelled e → ValuesFit c.added → stream < 2 ^ 32 → length c.added ≤ 2 ^ 34 → length c.cut ≤ 2 ^ 34 → nodes_of (commits_before h e) e ≡ node_blocks (commits h stream) c → ((known : Pages) → LeadsToLatest known (h ++ e ∷ []) stream s.root → IsRootOf known h e s.root (written_pages s)) → HaveRoots (roots ++ s.root ∷ []) s.next.streams → WritesRightly roots pages e s
     rightly-version e s stream c read makes w of_stream spelled values small points ranges count rule have =
         let first = first_page tail e in
@@ -127,6 +142,8 @@ module _ (h : List Entry) (b : Kept) (of : IsBoardOf h b) (tail : ℕ) where
     pub writes-rightly : (e : Entry) (s : Staged) → WritesAfter b e tail s → IsReceipt h e s.receipt → IsSpelled e → HaveRoots (roots ++ s.root ∷ []) s.next.streams → WritesRightly roots pages e s
     writes-rightly (Create id) s w receipt spelled have = rightly-stream (Create id) s id _ w refl (λ known none_such. none_such) have
     writes-rightly (Define id spec) s w receipt spelled have = rightly-stream (Define id spec) s id _ w refl (λ known none_such. none_such) have
+    writes-rightly (Retire stream first) s w receipt spelled have =
+        rightly-retirement (Retire stream first) s stream first w refl (λ known none_such. none_such) have
     writes-rightly (Commit stream cut added) s w receipt spelled have =
         let ranges = spelled.bounded.few_ranges in
         let points = spelled.bounded.few_points in

@@ -8,7 +8,7 @@ use Rattle.btr_board.proofs.ListLemmas.{set-same, set-other}
 use Rattle.btr_tree.specs.Root.{TreeValue}
 use Rattle.btr_tree.specs.Slots.{block_of}
 use Rattle.btr_hist.specs.declared.entry.Entry.{Entry}
-use Rattle.btr_hist.specs.declared.entry.Entry.TheVariants.{Create, Define, Commit, Distillate}
+use Rattle.btr_hist.specs.declared.entry.Entry.TheVariants.{Create, Define, Commit, Distillate, Retire}
 use Rattle.btr_hist.specs.declared.kernel.Reads.{Reads}
 use Rattle.btr_hist.specs.declared.kernel.Spec.{Spec}
 use Rattle.btr_streams.specs.declared.board.Staged.{Staged}
@@ -16,7 +16,7 @@ use Rattle.btr_streams.specs.Past.{stream_numbers}
 use Rattle.btr_streams.specs.Rolling.{root_at}
 use Rattle.btr_streams.specs.Board.{Versions, Kept, HasStreamsOf}
 use Rattle.btr_streams.specs.Rolling.{HaveRoots}
-use Rattle.btr_streams.specs.Stage.{ReadsEntry, AddsStream, with_version, new_stream}
+use Rattle.btr_streams.specs.Stage.{ReadsEntry, AddsStream, SetsEarliest, with_version, with_earliest, new_stream}
 use Rattle.btr_engine.specs.Travel.{WritesAfter}
 use Rattle.btr_streams.proofs.NumberingLemmas.{numbers-counted, number-between}
 use Rattle.btr_streams.proofs.StreamsLemmas.{stream-of}
@@ -72,6 +72,24 @@ module _ (h : List Entry) (b : Kept) (has : HasStreamsOf h b) (roots : List ℕ)
             absurd (omega (arith, some, few))
       ])
 
+  -- All versions keep their roots, also those that are retired.
+  pub roots-retired : (next : Kept) (s least : ℕ) → SetsEarliest b s least next → HaveRoots (roots ++ root ∷ []) next.streams
+  roots-retired next s least sets =
+      let was = sets.kept in
+      let now : Versions = with_earliest was least in
+      have-roots (roots ++ root ∷ []) next.streams (λ stream version v t some at is.
+      elim (cases_eq stream s) [
+        | inl same ↦
+            let place : slice_get (slice_set b.streams s now) stream ≡ Some now = ap (slice_get (slice_set b.streams s now)) same ∙ set-same b.streams s now (slice_get_within b.streams s was sets.there) in
+            let it : v ≡ now =
+            let both : Some v ≡ Some now = sym at ∙ ap (λ (l : List Versions). slice_get l stream) sets.streams ∙ place in
+            cc in
+            let tree : slice_get was.trees version ≡ Some t = subst (λ (w : Versions). slice_get w.trees version ≡ Some t) it is in
+            ap (λ (w : Versions). root_at (roots ++ root ∷ []) (get_or w.numbers version 0)) it ∙ old-root s version was t some sets.there tree
+        | inr other ↦
+            old-root stream version v t some (sym (set-other b.streams s now stream other) ∙ ap (λ (l : List Versions). slice_get l stream) (sym sets.streams) ∙ at) is
+      ])
+
   module _ (next : Kept) (s : ℕ) (was : Versions) (new : TreeValue) (read : Option Reads) (there : slice_get b.streams s ≡ Some was) (grown : next.streams ≡ slice_set b.streams s (with_version was new read (b.entries + 1))) (its : root ≡ block_of new.node) where
     abbrev longer : Versions
     longer = with_version was new read (b.entries + 1)
@@ -113,6 +131,7 @@ module _ (h : List Entry) (b : Kept) (has : HasStreamsOf h b) (roots : List ℕ)
 pub roots-written : (h : List Entry) (b : Kept) (has : HasStreamsOf h b) (roots : List ℕ) (counted : length roots ≡ length h) (have : HaveRoots roots b.streams) (e : Entry) (tail : ℕ) (s : Staged) → WritesAfter b e tail s → HaveRoots (roots ++ s.root ∷ []) s.next.streams
 roots-written h b has roots counted have (Create id) tail s w = roots-stream h b has roots counted have s.root s.next id None w.adds
 roots-written h b has roots counted have (Define id spec) tail s w = roots-stream h b has roots counted have s.root s.next id (Some spec) w.adds
+roots-written h b has roots counted have (Retire stream first) tail s w = roots-retired h b has roots counted have s.root s.next stream first w.sets
 roots-written h b has roots counted have (Commit stream cut added) tail s w =
     roots-version h b has roots counted have s.root s.next stream w.kept w.new None w.there w.streams w.writes.root_is
 roots-written h b has roots counted have (Distillate stream cut added reads) tail s w =
@@ -122,6 +141,7 @@ roots-written h b has roots counted have (Distillate stream cut added reads) tai
 pub roots-read : (h : List Entry) (b : Kept) (has : HasStreamsOf h b) (roots : List ℕ) (counted : length roots ≡ length h) (have : HaveRoots roots b.streams) (e : Entry) (t : TreeValue) (s : Staged) → ReadsEntry b e t s → HaveRoots (roots ++ s.root ∷ []) s.next.streams
 roots-read h b has roots counted have (Create id) t s r = roots-stream h b has roots counted have s.root s.next id None r.adds
 roots-read h b has roots counted have (Define id spec) t s r = roots-stream h b has roots counted have s.root s.next id (Some spec) r.adds
+roots-read h b has roots counted have (Retire stream first) t s r = roots-retired h b has roots counted have s.root s.next stream first r.sets
 roots-read h b has roots counted have (Commit stream cut added) t s r =
     roots-version h b has roots counted have s.root s.next stream r.kept t None r.there r.streams r.root_is
 roots-read h b has roots counted have (Distillate stream cut added reads) t s r =

@@ -1,6 +1,6 @@
 -- What stays true of the numbers of an engine that gets its log back.
 use Rattle.std.specs.Prelude.{◌≡◌, ℕ, ◌+◌, ◌*◌, ◌≤◌, Bool, true, false, List}
-use Rattle.std.proofs.Common.{sym, ◌∙◌, ap, subst, arith}
+use Rattle.std.proofs.Common.{sym, ◌∙◌, ap, subst, inr, arith}
 use Rattle.btr_disk.specs.declared.disk.Disk.{Ghosts}
 use Rattle.btr_log.specs.declared.log.Log.{Log}
 use Rattle.btr_log.specs.Append as append
@@ -8,11 +8,15 @@ use Rattle.btr_log.specs.Log as log
 use Rattle.btr_log.specs.declared.append.AppendFault.{AppendFault}
 use Rattle.btr_log.specs.declared.append.AppendFault.TheVariants.{Full, Fault, Stopped}
 use Rattle.btr_super.specs.declared.superblock.Super.{Super}
+use Rattle.btr_super.proofs.SuperLemmas.{is_log_start-is}
 use Rattle.btr_engine.specs.declared.engine.Engine.{Engine}
 use Rattle.btr_engine.specs.declared.travel.Return.{Return}
 use Rattle.btr_engine.specs.declared.travel.Return.TheVariants.{Untouched, Written, Failed}
 use Rattle.btr_engine.specs.Engine.{log_of, board_of, super_of, synced_of, entries_at_open}
-use Rattle.btr_engine.specs.Travel.{run_of, Settles, settled_board, written_in, written_pages}
+use Rattle.btr_engine.specs.Mark.{next_super}
+use Rattle.btr_engine.specs.Raise.{IsFollowable, raise_for, super_after}
+use Rattle.btr_engine.specs.Travel.{run_of, Settles, settled_board, settled_super, written_in, written_pages}
+use Rattle.btr_engine.proofs.RaiseLemmas.{raise_followable, raise_tail, raise_blocks}
 use Rattle.btr_engine.proofs.Stepping.{needs_two}
 use Rattle.btr_engine.proofs.Written.{pages-places}
 
@@ -32,16 +36,20 @@ module _ {D : Type 0} {disk : Ghosts D} where
     pub began : entries_at_open old ≤ entries
     pub called : disk.calls (synced_of old) ≤ disk.calls (log.log_device l)
     pub failed : disk.faults (synced_of old) ≤ log.faults_at l
-    pub side : s.side ≤ 1
-    pub seq : s.seq + 3 ≤ log.log_tail l
+    pub followable : IsFollowable s
+    pub behind : s.tail ≤ log.log_tail l
     pub large : 8 ≤ log.log_blocks l
     pub same_blocks : s.blocks ≡ log.log_blocks l
 
-  pub goes : (old : Engine D disk) (l : Log D disk) (how : Return) → Settles old l how → Goes old (super_of old) l (stopped_after old.stopped how) (settled_board (board_of old) (written_in how)).entries
+  pub goes : (old : Engine D disk) (l : Log D disk) (how : Return) → Settles old l how → Goes old (settled_super (super_of old) (written_in how)) l (stopped_after old.stopped how) (settled_board (board_of old) (written_in how)).entries
   goes old l (Written r) is =
       let on = is.0.1 in
       let w = is.1 in
       let runs : old.stopped ≡ false = old.marked ∙ on.ready_for.runs in
+      let s = super_of old in
+      let is_raise : super_after s (raise_for s is.0.0) ≡ super_after s r.raise = ap (super_after s) (sym on.raise) in
+      let tail : (super_after s r.raise).tail ≡ s.tail = ap (λ (x : Super). x.tail) (sym is_raise) ∙ raise_tail s is.0.0 in
+      let blocks : (super_after s r.raise).blocks ≡ s.blocks = ap (λ (x : Super). x.blocks) (sym is_raise) ∙ raise_blocks s is.0.0 in
       let two = needs_two r.staged.next.entries is.0.0 r.staged.root (written_pages r.staged) (run_of r) on.ready_for.made.bytes (pages-places r.staged.receipt.stream r.staged.nodes.items) in
       record {
         marked = runs ∙ sym w.appended.runs;
@@ -50,10 +58,10 @@ module _ {D : Type 0} {disk : Ghosts D} where
         began = omega (arith, old.began, on.next);
         called = omega (arith, old.called, w.kept.device_kept.more_calls);
         failed = omega (arith, old.failed, w.kept.faults);
-        side = old.side;
-        seq = omega (arith, old.seq, w.appended.tail);
+        followable = subst IsFollowable is_raise (raise_followable s is.0.0 old.followable);
+        behind = omega (arith, old.behind, w.appended.tail, tail);
         large = omega (arith, old.large, w.kept.blocks);
-        same_blocks = old.same_blocks ∙ sym w.kept.blocks;
+        same_blocks = blocks ∙ old.same_blocks ∙ sym w.kept.blocks;
       }
   goes old l Untouched is =
       subst (λ x. Goes old (super_of old) x old.stopped (board_of old).entries) (sym is) (record {
@@ -63,23 +71,25 @@ module _ {D : Type 0} {disk : Ghosts D} where
         began = old.began;
         called = old.called;
         failed = old.failed;
-        side = old.side;
-        seq = old.seq;
+        followable = old.followable;
+        behind = old.behind;
         large = old.large;
         same_blocks = old.same_blocks;
       })
-  goes old l Failed is = record {
-    marked = sym is.stops.stopped;
-    counted = omega (arith, old.counted, is.stops.extents);
-    ends = omega (arith, old.ends, is.stops.extents, is.stops.tail);
-    began = old.began;
-    called = omega (arith, old.called, is.kept.device_kept.more_calls);
-    failed = omega (arith, old.failed, is.kept.faults);
-    side = old.side;
-    seq = omega (arith, old.seq, is.stops.tail);
-    large = omega (arith, old.large, is.kept.blocks);
-    same_blocks = old.same_blocks ∙ sym is.kept.blocks;
-  }
+  goes old l Failed is =
+      let failed = is.1 in
+      record {
+        marked = sym failed.stops.stopped;
+        counted = omega (arith, old.counted, failed.stops.extents);
+        ends = omega (arith, old.ends, failed.stops.extents, failed.stops.tail);
+        began = old.began;
+        called = omega (arith, old.called, failed.kept.device_kept.more_calls);
+        failed = omega (arith, old.failed, failed.kept.faults);
+        followable = old.followable;
+        behind = omega (arith, old.behind, failed.stops.tail);
+        large = omega (arith, old.large, failed.kept.blocks);
+        same_blocks = old.same_blocks ∙ sym failed.kept.blocks;
+      }
 
   -- An append that fails leaves the end of the log and the number of its extents.
   ends_kept : (old new : Log D disk) (run : List ℕ) (fault : AppendFault) → append.AppendCause old new run fault → (log.log_tail new ≡ log.log_tail old) × (log.extents_of new ≡ log.extents_of old)
@@ -97,8 +107,19 @@ module _ {D : Type 0} {disk : Ghosts D} where
         began = old.began;
         called = omega (arith, old.called, kept.device_kept.more_calls);
         failed = omega (arith, old.failed, kept.faults);
-        side = old.side;
-        seq = omega (arith, old.seq, same.0);
+        followable = old.followable;
+        behind = omega (arith, old.behind, same.0);
         large = omega (arith, old.large, kept.blocks);
         same_blocks = old.same_blocks ∙ sym kept.blocks;
       }
+
+-- The superblock that names a checkpoint can be followed: its tail is two blocks further at least.
+pub next_followable : (s : Super) (gate tail : ℕ) → IsFollowable s → 4 ≤ gate → s.tail ≤ gate → gate + 2 ≤ tail → IsFollowable (next_super s gate tail s.format)
+next_followable s gate tail is low behind further = record {
+  side = omega arith;
+  seq = omega (arith, is.seq, behind, further);
+  format_from = is.format_from;
+  format_to = is.format_to;
+  tail = omega (arith, low, further);
+  start = is_log_start-is gate tail (inr (low, omega (arith, further)));
+}

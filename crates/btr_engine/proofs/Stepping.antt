@@ -14,6 +14,7 @@ use Rattle.btr_log.specs.Extents.{need}
 use Rattle.btr_log.specs.Append as append
 use Rattle.btr_log.proofs.AppendLemmas.{body_in_run-append, IsAppendRun-from}
 use Rattle.btr_log.specs.Log as log
+use Rattle.btr_super.specs.Super.{is_log_start}
 use Rattle.btr_hist.specs.declared.entry.Entry.{Entry}
 use Rattle.btr_node.specs.declared.page.NodePage.{NodePage}
 use Rattle.btr_pages.proofs.PageOfLemmas.{HasPlaces}
@@ -72,8 +73,15 @@ module _ {D : Type 0} {disk : Ghosts D} where
     began = is_prop→PathP (λ j. began j ≤ (boards j).entries) (λ j. le_prop) a.began b.began i;
     called = is_prop→PathP (λ j. disk.calls (synced j).value ≤ disk.calls (log.log_device (log_in (places j)))) (λ j. le_prop) a.called b.called i;
     failed = is_prop→PathP (λ j. disk.faults (synced j).value ≤ log.faults_at (log_in (places j))) (λ j. le_prop) a.failed b.failed i;
-    side = is_prop→PathP (λ j. (chosen j).side ≤ 1) (λ j. le_prop) a.side b.side i;
-    seq = is_prop→PathP (λ j. (chosen j).seq + 3 ≤ (log_in (places j)).tail) (λ j. le_prop) a.seq b.seq i;
+    followable = record {
+      side = is_prop→PathP (λ j. (chosen j).side ≤ 1) (λ j. le_prop) a.followable.side b.followable.side i;
+      seq = is_prop→PathP (λ j. (chosen j).seq + 4 ≤ (chosen j).tail + (chosen j).format) (λ j. le_prop) a.followable.seq b.followable.seq i;
+      format_from = is_prop→PathP (λ j. 1 ≤ (chosen j).format) (λ j. le_prop) a.followable.format_from b.followable.format_from i;
+      format_to = is_prop→PathP (λ j. (chosen j).format ≤ 3) (λ j. le_prop) a.followable.format_to b.followable.format_to i;
+      tail = is_prop→PathP (λ j. 4 ≤ (chosen j).tail) (λ j. le_prop) a.followable.tail b.followable.tail i;
+      start = is_prop→PathP (λ j. is_log_start (chosen j).checkpoint (chosen j).tail ≡ true) (λ j. Bool-set (is_log_start (chosen j).checkpoint (chosen j).tail) true) a.followable.start b.followable.start i;
+    };
+    behind = is_prop→PathP (λ j. (chosen j).tail ≤ (log_in (places j)).tail) (λ j. le_prop) a.behind b.behind i;
     large = is_prop→PathP (λ j. 8 ≤ (log_in (places j)).blocks) (λ j. le_prop) a.large b.large i;
     same_blocks = is_prop→PathP (λ j. (chosen j).blocks ≡ (log_in (places j)).blocks) (λ j. ℕ_set (chosen j).blocks (log_in (places j)).blocks) a.same_blocks b.same_blocks i;
   }

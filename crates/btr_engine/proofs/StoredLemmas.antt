@@ -10,17 +10,18 @@ use Rattle.btr_pages.specs.Pages.{Pages, with_pages, nodes_in, ArePages}
 use Rattle.btr_pages.specs.Reported.{AreKept}
 use Rattle.btr_pages.proofs.ReportedLemmas.{kept-more}
 use Rattle.btr_hist.specs.declared.entry.Entry.{Entry}
-use Rattle.btr_hist.specs.declared.entry.Entry.TheVariants.{Create, Define, Commit, Distillate}
+use Rattle.btr_hist.specs.declared.entry.Entry.TheVariants.{Create, Define, Commit, Distillate, Retire}
 use Rattle.btr_streams.specs.declared.board.Staged.{Staged}
 use Rattle.btr_streams.specs.Board.{Kept}
 use Rattle.btr_engine.specs.Stored.{AreStored}
 use Rattle.btr_streams.specs.Stage.{ReadsEntry}
-use Rattle.btr_engine.proofs.Written.{stored-stream, stored-version}
+use Rattle.btr_engine.proofs.Written.{stored-stream, stored-version, stored-retired}
 
--- The tree of the version that an entry makes is stored below a block. An entry that makes a stream has none.
+-- The tree of the version that an entry makes is stored below a block. An entry that makes no version has none.
 abbrev pub IsTreeStored : Pages → ℕ → Entry → TreeValue → Type 0
 IsTreeStored pages later (Create id) t = Unit {0}
 IsTreeStored pages later (Define id spec) t = Unit {0}
+IsTreeStored pages later (Retire stream first) t = Unit {0}
 IsTreeStored pages later (Commit stream cut added) t = IsBelow (nodes_in pages stream) later 10 FIRST t.node
 IsTreeStored pages later (Distillate stream cut added reads) t = IsBelow (nodes_in pages stream) later 10 FIRST t.node
 
@@ -30,6 +31,8 @@ stored-read pages gate first later new b (Create id) t s stored reads kept behin
     stored-stream pages gate first later new b s.next id None stored reads.adds kept behind all some
 stored-read pages gate first later new b (Define id spec) t s stored reads kept behind all some is =
     stored-stream pages gate first later new b s.next id (Some spec) stored reads.adds kept behind all some
+stored-read pages gate first later new b (Retire stream least) t s stored reads kept behind all some is =
+    stored-retired pages gate first later new b s.next stream least stored reads.sets kept behind all
 stored-read pages gate first later new b (Commit stream cut added) t s stored reads kept behind all some is =
     stored-version pages gate first later new b s.next stream reads.kept t None stored reads.there reads.streams kept behind all is
 stored-read pages gate first later new b (Distillate stream cut added r) t s stored reads kept behind all some is =

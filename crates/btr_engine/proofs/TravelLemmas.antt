@@ -1,5 +1,5 @@
 -- What the four calls of a step make of an engine: a step that refuses, one that adds an entry, and one in which the device fails.
-use Rattle.std.specs.Prelude.{◌≡◌, ℕ, ◌+◌, ◌*◌, ◌<◌, ◌≤◌, true, List, [], ◌∷◌, ◌++◌, length, Option, Some, None, Result, Ok, Err, IsTrue}
+use Rattle.std.specs.Prelude.{◌≡◌, ℕ, ◌+◌, ◌*◌, ◌<◌, ◌≤◌, true, List, [], ◌∷◌, ◌++◌, length, Option, Some, None, IfSome, Result, Ok, Err, IsTrue}
 use Rattle.std.proofs.Common.{refl, sym, ◌∙◌, ap, subst, arith, length-append}
 use Rattle.btr_base.specs.declared.limits.TheConstants.{MAX_VERSIONS}
 use Rattle.btr_disk.specs.declared.disk.Disk.{Ghosts}
@@ -7,12 +7,14 @@ use Rattle.btr_disk.specs.Bytes.{Image}
 use Rattle.btr_disk.specs.Gate.{gate_block}
 use Rattle.btr_disk.specs.Publish.{Published}
 use Rattle.btr_log.specs.declared.log.Log.{Log}
-use Rattle.btr_log.specs.Extents.{need}
+use Rattle.btr_log.specs.Extents.{need, left as blocks_left}
 use Rattle.btr_log.specs.Append as append
 use Rattle.btr_log.specs.Log as log
 use Rattle.btr_super.specs.declared.superblock.Super.{Super}
+use Rattle.btr_super.specs.Super.{IsSuper}
 use Rattle.btr_hist.specs.declared.entry.Entry.{Entry}
 use Rattle.btr_hist.specs.History.{latest}
+use Rattle.btr_entry.specs.Format.{format_of}
 use Rattle.btr_engine.specs.declared.engine.Engine.{Engine}
 use Rattle.btr_engine.specs.declared.place.Place.{Place}
 use Rattle.btr_engine.specs.declared.place.Place.TheVariants.{Home, Out}
@@ -26,7 +28,9 @@ use Rattle.btr_engine.specs.Place.{log_in, log_here}
 use Rattle.btr_engine.specs.Engine.{log_of, device, board_of, entries_of, tail_of, room_of, super_of, is_stopped, is_home, IsEngineOf, IsAtRest, IsDurable, KeepsOpening}
 use Rattle.btr_streams.specs.Stage.{IsReceipt}
 use Rattle.btr_engine.specs.Step.{IsBeforeOrAfter, CanStep, StopsByFault, HasResult, StepCause, IsStep, in_flight_after}
-use Rattle.btr_engine.specs.Travel.{run_of, IsStaged, HoldsNow, LeavesEntry, HoldsEntry, IsReadyFor, IsReadyOn, IsWritten, HasFailed, IsLike, IsHomeAgain}
+use Rattle.btr_engine.specs.Raise.{raise_for, super_after, MayRaise, CountsWrite, most_calls}
+use Rattle.btr_engine.specs.Travel.{run_of, IsStaged, HoldsNow, IsRaised, LeavesRaised, HoldsRaised, HasExtent, LeavesExtent, HoldsAppended, LeavesEntry, HoldsEntry, IsReadyFor, IsReadyOn, IsWritten, HasFailed, IsLike, IsHomeAgain}
+use Rattle.btr_engine.proofs.RaiseLemmas.{may_raise, raise_reaches, counted_write, most_written, raise_leaves, both_leave}
 use Rattle.btr_engine.proofs.EngineLemmas.{durable_as}
 use Rattle.btr_engine.proofs.HoldsLemmas.{roots-held}
 use Rattle.btr_engine.proofs.Streams.{few_versions}
@@ -67,7 +71,7 @@ module _ {D : Type 0} {disk : Ghosts D} where
 
   -- ---- what is written to a log that is out
 
-  module _ (h : List Entry) (b : Kept) (s : Super) (l : Log D disk) (e : Entry) (r : Ready) (ready : IsReadyFor l e r) (staged : IsStaged h b (log.log_tail l) e r) (now : HoldsNow h b s l) where
+  module _ (h : List Entry) (b : Kept) (s : Super) (l : Log D disk) (e : Entry) (r : Ready) (ready : IsReadyFor l e r) (staged : IsStaged h b (log.log_tail l) e r) (may_stand : format_of e ≤ s.format) (now : HoldsNow h b s l) where
     -- The streams have few versions: each entry has two blocks.
     few : (stream : ℕ) → latest h stream < MAX_VERSIONS
     few stream =
@@ -83,12 +87,92 @@ module _ {D : Type 0} {disk : Ghosts D} where
     pub moments_of_write : (run : List ℕ) → run ≡ run_of r → (after : Log D disk) → log.LogLeaves l after (append.IsMoment (disk.contents (log.log_device l)) (log.log_tail l) now.holds.bodies (append.body_in_run run)) → log.LogLeaves l after (IsBeforeOrAfter (disk.size (log.log_device l)) h e)
     moments_of_write run same after leaves =
         let is = extent_of_ready h b staged.before (log.log_tail l) e r run ready.made staged same in
-        moments h l e _ _ run is b s now (subst (λ x. need (append.body_in_run x) ≤ log.log_room l) (sym same) ready.fits) writing.stand after leaves
+        moments h l e _ _ run is b s now (subst (λ x. need (append.body_in_run x) ≤ log.log_room l) (sym same) ready.fits) may_stand writing.stand after leaves
 
     pub holds_of_write : (run : List ℕ) → run ≡ run_of r → (after : Log D disk) → append.IsAppended l after run → log.KeepsBounds l after → Published (disk.contents (log.log_device l)) (4096 * (log.log_tail l + 1)) run (4096 * log.log_tail l) gate_block (disk.contents (log.log_device after)) → log.IsLogAtRest after (now.holds.bodies ++ append.body_in_run run ∷ []) → HoldsNow (h ++ e ∷ []) r.staged.next s after
     holds_of_write run same after appended kept written rests =
         let is = extent_of_ready h b staged.before (log.log_tail l) e r run ready.made staged same in
-        holds_after h l e _ _ run is b s now (subst (λ x. need (append.body_in_run x) ≤ log.log_room l) (sym same) ready.fits) writing.stand after r.staged.next appended kept writing.stored writing.have written rests
+        holds_after h l e _ _ run is b s now (subst (λ x. need (append.body_in_run x) ≤ log.log_room l) (sym same) ready.fits) may_stand writing.stand after r.staged.next appended kept writing.stored writing.have written rests
+
+  -- ---- the raise, and then the append
+
+  module _ (l mid after : Log D disk) (e : Entry) (r : Ready) (kept : log.KeepsBounds l mid) (is : IsRaised r.raise l mid) where
+    same_room : log.log_room mid ≡ log.log_room l
+    same_room = ap (λ n. blocks_left n (log.log_tail mid)) is.log.blocks ∙ ap (blocks_left (log.log_blocks l)) is.log.tail
+
+    -- What was made ready can still be appended.
+    pub ready_raised : IsReadyFor l e r → IsReadyFor mid e r
+    ready_raised ready = record {
+      made = ready.made;
+      some = ready.some;
+      behind = subst (λ n. 2 * r.staged.next.entries + 2 ≤ n) (sym is.log.tail) ready.behind;
+      runs = is.log.stopped ∙ ready.runs;
+      fits = subst (λ n. need (append.body_in_run (run_of r)) ≤ n) (sym same_room) ready.fits;
+      keeps = subst (λ n. IfSome r.raise (IsSuper n)) (sym kept.device_kept.same_size) ready.keeps;
+    }
+
+    staged_raised : (h : List Entry) (b : Kept) → IsStaged h b (log.log_tail l) e r → IsStaged h b (log.log_tail mid) e r
+    staged_raised h b staged = subst (λ n. IsStaged h b n e r) (sym is.log.tail) staged
+
+    -- The superblock after the raise has at least the format of the entry.
+    reaches : (s : Super) → r.raise ≡ raise_for s e → format_of e ≤ (super_after s r.raise).format
+    reaches s raise = subst (λ (o : Option Super). format_of e ≤ (super_after s o).format) (sym raise) (raise_reaches s e)
+
+    bounds_on : log.KeepsBounds mid after → log.KeepsBounds l after
+    bounds_on more = record {
+      blocks = more.blocks ∙ kept.blocks;
+      faults = more.faults ∙ kept.faults;
+      device_kept = record {
+        same_size = more.device_kept.same_size ∙ kept.device_kept.same_size;
+        more_calls = omega (arith, kept.device_kept.more_calls, more.device_kept.more_calls);
+        more_faults = omega (arith, kept.device_kept.more_faults, more.device_kept.more_faults);
+      };
+    }
+
+    pub written_raised : HasExtent mid after r → IsWritten l after r
+    written_raised has = record {
+      kept = bounds_on has.kept;
+      appended = record {
+        tail = has.appended.tail ∙ ap (λ n. n + need (append.body_in_run (run_of r))) is.log.tail;
+        extents = has.appended.extents ∙ ap (λ n. n + 1) is.log.extents;
+        calls = counted_write r.raise (disk.calls (log.log_device l)) (disk.calls (log.log_device mid)) (disk.calls (log.log_device after)) is.calls has.appended.calls;
+        ran = sym is.log.stopped ∙ has.appended.ran;
+        runs = has.appended.runs;
+        written = λ seen. (
+          disk.contents (log.log_device mid),
+          is.elsewhere seen,
+          subst (λ n. Published (disk.contents (log.log_device mid)) (4096 * (n + 1)) (run_of r) (4096 * n) gate_block (disk.contents (log.log_device after))) is.log.tail (has.appended.written seen),
+        );
+      };
+    }
+
+    pub failed_raised : HasFailed None mid after → HasFailed r.raise l after
+    failed_raised failed = record {
+      kept = bounds_on failed.kept;
+      stops = record {
+        rose = omega (arith, kept.device_kept.more_faults, failed.stops.rose);
+        called = omega (arith, kept.device_kept.more_calls, failed.stops.called);
+        at_most = most_written r.raise (disk.calls (log.log_device l)) (disk.calls (log.log_device mid)) (disk.calls (log.log_device after)) is.calls failed.stops.at_most;
+        stopped = failed.stops.stopped;
+        tail = failed.stops.tail ∙ is.log.tail;
+        extents = failed.stops.extents ∙ is.log.extents;
+      };
+    }
+
+    pub holds_raised : HoldsRaised r.raise l mid → HoldsAppended mid after e r → HoldsEntry l after e r
+    holds_raised raised holds seen h b s staged raise now =
+        holds seen h b (super_after s r.raise) (staged_raised h b staged) (reaches s raise) (raised seen h b s (subst (MayRaise s) (sym raise) (may_raise s e)) now)
+
+    pub moments_raised : HoldsRaised r.raise l mid → LeavesRaised r.raise l mid → LeavesExtent mid after e r → LeavesEntry l after e r
+    moments_raised raised leaves moments seen h b s staged raise now =
+        let may = subst (MayRaise s) (sym raise) (may_raise s e) in
+        both_leave h e (disk.size (log.log_device l)) l mid (leaves seen h b s may now) after
+        (subst (λ n. log.LogLeaves mid after (IsBeforeOrAfter n h e)) kept.device_kept.same_size (moments seen h b (super_after s r.raise) (staged_raised h b staged) (reaches s raise) (raised seen h b s may now)))
+
+  -- The raise alone leaves the history.
+  pub raise_moments : (l mid : Log D disk) (e : Entry) (r : Ready) → LeavesRaised r.raise l mid → LeavesEntry l mid e r
+  raise_moments l mid e r leaves seen h b s staged raise now =
+      raise_leaves h e (disk.size (log.log_device l)) l mid (leaves seen h b s (subst (MayRaise s) (sym raise) (may_raise s e)) now)
 
   -- ---- engines that differ in where the log is
 
@@ -105,6 +189,7 @@ module _ {D : Type 0} {disk : Ghosts D} where
     ready_like e r on = record {
       ready_for = subst (λ l. IsReadyFor l e r) like.log on.ready_for;
       next = on.next ∙ ap (λ (k : Kept). k.entries + 1) like.board;
+      raise = on.raise ∙ ap (λ s. raise_for s e) like.chosen;
     }
 
     pub staged_like : (h : List Entry) (e : Entry) (r : Ready) → IsStaged h (board_of a) (tail_of a) e r → IsStaged h (board_of b) (tail_of b) e r
@@ -124,14 +209,14 @@ module _ {D : Type 0} {disk : Ghosts D} where
     stopped_as fault says is =
         fault_one fault (Stopped (entries_of a)) (says (sym stopped_like ∙ is)) ∙ ap Stopped entries_like
 
-    pub result_like : (fault : StepFault) → HasResult a a (Err fault) → HasResult b b (Err fault)
-    result_like (Stopped n) has = (stopped_like ∙ has.0, has.1 ∙ entries_like, refl)
-    result_like (Rejected why) has = (stopped_like ∙ has.0, refl)
-    result_like Want has = (stopped_like ∙ has.0, refl)
-    result_like (DeviceFull n left) has = (stopped_like ∙ has.0, has.1 ∙ room_like, has.2, refl)
-    result_like DeviceFault has = let stopped = has.1.stopped in let runs = has.0 in absurd (cc)
+    pub result_like : (e : Entry) (fault : StepFault) → HasResult a a e (Err fault) → HasResult b b e (Err fault)
+    result_like e (Stopped n) has = (stopped_like ∙ has.0, has.1 ∙ entries_like, refl)
+    result_like e (Rejected why) has = (stopped_like ∙ has.0, refl)
+    result_like e Want has = (stopped_like ∙ has.0, refl)
+    result_like e (DeviceFull n left) has = (stopped_like ∙ has.0, has.1 ∙ room_like, has.2, refl)
+    result_like e DeviceFault has = let stopped = has.1.stopped in let runs = has.0 in absurd (cc)
 
-    pub cause_like : (h : List Entry) (e : Entry) (fault : StepFault) → HasResult a a (Err fault) → StepCause h a a e fault → StepCause h b b e fault
+    pub cause_like : (h : List Entry) (e : Entry) (fault : StepFault) → HasResult a a e (Err fault) → StepCause h a a e fault → StepCause h b b e fault
     cause_like h e (Stopped n) has cause = (stopped_like ∙ cause.0, cause.1, refl)
     cause_like h e (Rejected why) has cause = (stopped_like ∙ cause.0, cause.1, refl)
     cause_like h e Want has cause = (stopped_like ∙ cause.0, cause.1, refl)
@@ -140,7 +225,7 @@ module _ {D : Type 0} {disk : Ghosts D} where
 
   -- ---- a step that refuses
 
-  same_flight : (a : Engine D disk) (fault : StepFault) (more : List Entry) (e : Entry) → HasResult a a (Err fault) → more ≡ in_flight_after (Err fault) more e
+  same_flight : (a : Engine D disk) (fault : StepFault) (more : List Entry) (e : Entry) → HasResult a a e (Err fault) → more ≡ in_flight_after (Err fault) more e
   same_flight a (Stopped n) more e has = refl
   same_flight a (Rejected why) more e has = refl
   same_flight a Want more e has = refl
@@ -156,7 +241,7 @@ module _ {D : Type 0} {disk : Ghosts D} where
   }
 
   -- The entry was refused, and the engine is as before.
-  pub refused_step : HasMoments disk → (old new : Engine D disk) (e : Entry) (fault : StepFault) → new ≡ old → is_home old ≡ true → (IsTrue (is_stopped old) → fault ≡ Stopped (entries_of old)) → HasResult old old (Err fault) → ((h : List Entry) → IsEngineOf h old → StepCause h old old e fault) → IsStep old new e (Err fault)
+  pub refused_step : HasMoments disk → (old new : Engine D disk) (e : Entry) (fault : StepFault) → new ≡ old → is_home old ≡ true → (IsTrue (is_stopped old) → fault ≡ Stopped (entries_of old)) → HasResult old old e (Err fault) → ((h : List Entry) → IsEngineOf h old → StepCause h old old e fault) → IsStep old new e (Err fault)
   refused_step laws old new e fault same home stopped has cause =
       subst (λ x. IsStep old x e (Err fault)) (sym same) (record {
         home = home;
@@ -188,7 +273,7 @@ module _ {D : Type 0} {disk : Ghosts D} where
       left : disk.is_observable → (h : List Entry) → IsAtRest h old → log.LogLeaves (log_of old) (log_of new) (IsBeforeOrAfter (disk.size (device old)) h e)
       left seen h rest =
           subst (λ x. log.LogLeaves (log_of old) x (IsBeforeOrAfter (disk.size (device old)) h e)) (sym is_l)
-          (moments seen h (board_of old) (super_of old) (staged h rest.of) (now_of_rest h old rest))
+          (moments seen h (board_of old) (super_of old) (staged h rest.of) on.raise (now_of_rest h old rest))
 
     -- The entry was written, and the log is back with it.
     pub written_step : (result : Option Receipt) (receipt : Receipt) → result ≡ Some receipt → IsWritten (log_of old) l r → HoldsEntry (log_of old) l e r → IsHomeAgain out l (Some r) new result → IsStep old new e (Ok receipt)
@@ -199,11 +284,14 @@ module _ {D : Type 0} {disk : Ghosts D} where
         let says : r.staged.receipt ≡ receipt = some_one r.staged.receipt receipt (sym settled.receipt ∙ is) in
         let entries : entries_of new ≡ entries_of old + 1 = ap (λ (b : Kept). b.entries) board ∙ on.next in
         let kept = opening_kept old new w.kept (settled.entries ∙ like.entries) (ap (λ s. s.value) (settled.synced ∙ like.synced)) in
+        let chosen : super_of new ≡ super_after (super_of old) r.raise = settled.chosen ∙ ap (λ s. super_after s r.raise) like.chosen in
+        let raised = chosen ∙ ap (super_after (super_of old)) on.raise in
+        let called = subst (λ x. CountsWrite x (disk.calls (device old)) (disk.calls (device new))) on.raise w.appended.calls in
         let of : (h : List Entry) → IsEngineOf h old → IsEngineOf (h ++ e ∷ []) new = λ h of. subst (IsBoardOf (h ++ e ∷ [])) (sym board) (staged h of).of in
         let rested : disk.is_observable → (h : List Entry) → IsAtRest h old → IsAtRest (h ++ e ∷ []) new = λ seen h rest.
-        let now = holds seen h (board_of old) (super_of old) (staged h rest.of) (now_of_rest h old rest) in
-        let boarded = subst (λ b. HoldsNow (h ++ e ∷ []) b (super_of old) l) (sym board) now in
-        let supered = subst (λ s. HoldsNow (h ++ e ∷ []) (board_of new) s l) (sym (settled.chosen ∙ like.chosen)) boarded in
+        let now = holds seen h (board_of old) (super_of old) (staged h rest.of) on.raise (now_of_rest h old rest) in
+        let boarded = subst (λ b. HoldsNow (h ++ e ∷ []) b (super_after (super_of old) r.raise) l) (sym board) now in
+        let supered = subst (λ s. HoldsNow (h ++ e ∷ []) (board_of new) s l) (sym chosen) boarded in
         rest_of_now (h ++ e ∷ []) new (of h rest.of) (subst (HoldsNow (h ++ e ∷ []) (board_of new) (super_of new)) (sym settled.log_is) supered) in
         record {
           home = settled.home;
@@ -214,7 +302,8 @@ module _ {D : Type 0} {disk : Ghosts D} where
               runs = w.appended.runs;
               entries = entries;
               number = ap (λ (x : Receipt). x.number) (sym says) ∙ on.ready_for.made.numbered ∙ sym (ap (λ (b : Kept). b.entries) board);
-              called = w.appended.calls;
+              chosen = raised;
+              called = called;
             };
           };
           cause = λ h of. tt;
@@ -225,7 +314,8 @@ module _ {D : Type 0} {disk : Ghosts D} where
                 of = of h was;
                 tail = w.appended.tail ∙ ap (λ n. tail_of old + n) (sym can.0);
                 runs = w.appended.runs;
-                called = w.appended.calls;
+                chosen = raised;
+                called = called;
                 is_receipt = subst (IsReceipt h e) says (staged h was).is_receipt;
               };
           kept = kept;
@@ -237,13 +327,21 @@ module _ {D : Type 0} {disk : Ghosts D} where
         }
 
     -- The device failed in the write, and the log is back without the entry.
-    pub failed_step : (result : Option Receipt) → HasFailed (log_of old) l → IsHomeAgain out l None new result → IsStep old new e (Err DeviceFault)
+    pub failed_step : (result : Option Receipt) → HasFailed r.raise (log_of old) l → IsHomeAgain out l None new result → IsStep old new e (Err DeviceFault)
     failed_step result failed settled =
-        let f : HasFailed (log_of old) (log_of new) = subst (HasFailed (log_of old)) (sym settled.log_is) failed in
+        let f : HasFailed r.raise (log_of old) (log_of new) = subst (HasFailed r.raise (log_of old)) (sym settled.log_is) failed in
         let runs = on.ready_for.runs in
         let board : board_of new ≡ board_of old = settled.board ∙ like.board in
         let kept = opening_kept old new f.kept (settled.entries ∙ like.entries) (ap (λ s. s.value) (settled.synced ∙ like.synced)) in
-        let stops : StopsByFault old new = record { called = f.stops.called; at_most = f.stops.at_most; rose = f.stops.rose; stopped = f.stops.stopped; board = board; tail = f.stops.tail } in
+        let stops : StopsByFault old new e = record {
+          called = f.stops.called;
+          at_most = subst (λ x. disk.calls (device new) ≤ disk.calls (device old) + most_calls x) on.raise f.stops.at_most;
+          rose = f.stops.rose;
+          stopped = f.stops.stopped;
+          board = board;
+          tail = f.stops.tail;
+          chosen = settled.chosen ∙ like.chosen;
+        } in
         record {
           home = settled.home;
           effect = record { stopped = λ stopped. absurd (cc); has_result = (runs, stops) };

@@ -42,7 +42,7 @@ use Rattle.btr_streams.specs.Board.{Versions, Kept, IsStreamOf, IsBoardOf}
 use Rattle.btr_engine.specs.Roots.{LeadsToLatest}
 use Rattle.btr_engine.specs.Stored.{AreStored}
 use Rattle.btr_streams.specs.Board.{tree_at}
-use Rattle.btr_streams.specs.Stage.{MakesVersion, WritesCommit, AddsStream, with_version, new_stream}
+use Rattle.btr_streams.specs.Stage.{MakesVersion, WritesCommit, AddsStream, SetsEarliest, with_version, with_earliest, new_stream}
 use Rattle.btr_streams.proofs.BoardTrees.{made_by, with_commits-push, before-commits_to}
 use Rattle.btr_streams.proofs.BoardStreamLemmas.{commits-more}
 use Rattle.btr_streams.proofs.BoardCommits.{last-tree}
@@ -104,6 +104,21 @@ tree-grown streams s was new read number stream version t there at =
             | inr last ↦ inr (same, last.0)
           ]
       | inr other ↦ inl (tree-is streams stream version of.versions t (sym (set-other streams s grown stream other) ∙ of.there) of.is)
+    ]
+
+-- The streams whose versions were retired have the trees that they had.
+pub tree-kept : (streams : List Versions) (s : ℕ) (was : Versions) (first : ℕ) (stream version : ℕ) (t : TreeValue) → slice_get streams s ≡ Some was → tree_at (slice_set streams s (with_earliest was first)) stream version ≡ Some t → tree_at streams stream version ≡ Some t
+tree-kept streams s was first stream version t there at =
+    let now : Versions = with_earliest was first in
+    let of = its-tree (slice_set streams s now) stream version t at in
+    elim (cases_eq stream s) [
+      | inl same ↦
+          let place : slice_get (slice_set streams s now) stream ≡ Some now = ap (slice_get (slice_set streams s now)) same ∙ set-same streams s now (slice_get_within streams s was there) in
+          let is : of.versions ≡ now =
+          let both : Some of.versions ≡ Some now = sym of.there ∙ place in
+          cc in
+          tree-is streams stream version was t (ap (slice_get streams) same ∙ there) (subst (λ (v : Versions). slice_get v.trees version ≡ Some t) is of.is)
+      | inr other ↦ tree-is streams stream version of.versions t (sym (set-other streams s now stream other) ∙ of.there) of.is
     ]
 
 -- ---- more pages, and more trees
@@ -173,6 +188,19 @@ stored-stream pages gate first later new b next id spec stored adds kept behind 
 pub stored-new : (pages : Pages) (gate first later : ℕ) (b next : Kept) (id : ℕ) (spec : Option Spec) → AreStored pages gate b.streams → AddsStream b id spec next → gate ≤ first → first ≤ later → 1 ≤ gate → AreStored (with_pages pages first []) later next.streams
 stored-new pages gate first later b next id spec stored adds behind all some =
     stored-stream pages gate first later [] b next id spec stored adds (kept-more pages first [] stored.kept (right-none pages first) tt) behind (omega arith) (omega arith)
+
+-- ---- an entry that retires versions
+
+-- The trees of a board of which versions were retired are stored in the pages with some more.
+pub stored-retired : (pages : Pages) (gate first later : ℕ) (new : List NodePage) (b next : Kept) (stream least : ℕ) → AreStored pages gate b.streams → SetsEarliest b stream least next → AreKept (with_pages pages first new) → gate ≤ first → first + length new ≤ later → AreStored (with_pages pages first new) later next.streams
+stored-retired pages gate first later new b next stream least stored sets kept behind all =
+    stored-with pages gate first later new b.streams next.streams stored kept behind all (λ other version t at.
+    inl (tree-kept b.streams stream sets.kept least other version t sets.there (ap (λ l. tree_at l other version) (sym sets.streams) ∙ at)))
+
+-- They are stored in the pages that stood before it.
+pub stored-retired-here : (pages : Pages) (gate first later : ℕ) (b next : Kept) (stream least : ℕ) → AreStored pages gate b.streams → SetsEarliest b stream least next → gate ≤ first → first ≤ later → AreStored (with_pages pages first []) later next.streams
+stored-retired-here pages gate first later b next stream least stored sets behind all =
+    stored-retired pages gate first later [] b next stream least stored sets (kept-more pages first [] stored.kept (right-none pages first) tt) behind (omega arith)
 
 -- ---- an entry that makes a version
 

@@ -1,9 +1,10 @@
 -- The bytes of an entry's extent: the body of the entry with its number; and the blocks that entries need.
-use Rattle.std.specs.Prelude.{◌≡◌, ◌⊎◌, ℕ, ◌+◌, ◌-◌, ◌*◌, ◌^◌, ◌<◌, List, [], ◌∷◌, ◌++◌, length}
+use Rattle.std.specs.Prelude.{◌≡◌, ◌⊎◌, ℕ, ◌+◌, ◌-◌, ◌*◌, ◌^◌, ◌<◌, ◌≤◌, max, List, [], ◌∷◌, ◌++◌, length}
 use Rattle.std.specs.List.{flat_map, AllByRecursion}
 use Rattle.btr_base.specs.Commit.{Change}
 use Rattle.btr_base.specs.declared.limits.TheConstants.{FIRST}
 use Rattle.btr_disk.specs.Gate.{zeros}
+use Rattle.btr_disk.specs.Numbers.{u32_at}
 use Rattle.btr_log.specs.Extents.{need, first_gate}
 use Rattle.btr_log.specs.declared.head.Head.{Head}
 use Rattle.btr_log.specs.Head.{content_blocks, head_bytes, entry_head, checkpoint_head}
@@ -14,9 +15,10 @@ use Rattle.btr_tree.specs.NewNodes.{new_nodes}
 use Rattle.btr_tree.specs.Nodes.{above_root}
 use Rattle.btr_pages.specs.Pages.{Pages, no_pages, with_pages, ArePages}
 use Rattle.btr_hist.specs.declared.entry.Entry.{Entry}
-use Rattle.btr_hist.specs.declared.entry.Entry.TheVariants.{Create, Define, Commit, Distillate}
+use Rattle.btr_hist.specs.declared.entry.Entry.TheVariants.{Create, Define, Commit, Distillate, Retire}
 use Rattle.btr_hist.specs.History.{commits}
 use Rattle.btr_entry.specs.Grammar.{spelling, IsSpelled}
+use Rattle.btr_entry.specs.Format.{format_of}
 use Rattle.btr_roll.specs.Roll.{roll_bytes}
 use Rattle.btr_streams.specs.Rolling.{roll_of}
 use Rattle.btr_streams.specs.Past.{with_commits}
@@ -27,17 +29,25 @@ use Rattle.btr_streams.specs.Past.{with_commits}
 abbrev pub padding : ℕ → ℕ
 padding length = 4096 * content_blocks length - (64 + length)
 
--- The body of the entry with this number, with this root and these pages: its head, its spelling, zeros up to the end of the last
--- block of the content, and the pages, one in each block.
+-- The body of the entry with this number, with this root and these pages: its head, in the format of the entry, its spelling, zeros up to
+-- the end of the last block of the content, and the pages, one in each block.
 unfoldable pub body_of : ℕ → Entry → ℕ → List NodePage → List ℕ
 body_of number e root pages =
-    head_bytes (entry_head number (length (spelling e)) (length pages) root)
+    head_bytes (entry_head (format_of e) number (length (spelling e)) (length pages) root)
     ++ ((spelling e ++ zeros (padding (length (spelling e)))) ++ flat_map page_bytes pages)
 
 -- A head, a content, zeros up to the end of its last block, pages, one in each block, and one block of zeros.
 abbrev pub extent_bytes : Head → List ℕ → List NodePage → List ℕ
 extent_bytes head content pages =
     (head_bytes head ++ ((content ++ zeros (padding (length content))) ++ flat_map page_bytes pages)) ++ zeros 4096
+
+-- The format in the head of a body.
+abbrev pub format_in : List ℕ → ℕ
+format_in body = u32_at 12 body
+
+-- Under a superblock of the format `limit` this body may be in the log: its format is no greater.
+abbrev pub MayStandUnder : ℕ → List ℕ → Type 0
+MayStandUnder limit body = format_in body ≤ limit
 
 -- ---- the part of a log before a gate
 
@@ -69,6 +79,11 @@ abbrev pub with_extent : Prefix → Entry → ℕ → List NodePage → List ℕ
 with_extent before e root pages body =
     prefix_to (before.gate + need body) (before.entries ++ e ∷ []) (before.roots ++ root ∷ []) (pages_after before e pages)
 
+-- The extent of an entry may have these pages. That of a retirement has none.
+abbrev pub MayHavePages : Entry → List NodePage → Type 0
+MayHavePages (Retire stream first) pages = pages ≡ []
+MayHavePages e pages = Unit {0}
+
 -- The body is that of this entry, which is the next one after the prefix, with this root and these pages. The pages stand rightly
 -- after the gate, among those that stand before it.
 pub record IsBodyOf (before : Prefix) (e : Entry) (root : ℕ) (pages : List NodePage) (body : List ℕ) : Type 0 where
@@ -76,21 +91,31 @@ pub record IsBodyOf (before : Prefix) (e : Entry) (root : ℕ) (pages : List Nod
   pub fits : AllByRecursion Fits pages
   pub rightly : ArePages before.pages (first_page before.gate e) pages
   pub low : root < 2 ^ 64
+  pub may_have : MayHavePages e pages
   pub bytes : body ≡ body_of (length before.entries + 1) e root pages
 
 -- ---- checkpoints
 
--- The body of a checkpoint after entries with these roots: its head, which has their number, its content, and zeros up to the end of the
--- last block.
-unfoldable pub checkpoint_body : List Entry → List ℕ → List ℕ
-checkpoint_body h roots =
-    let content = roll_bytes (roll_of h roots) in
-    head_bytes (checkpoint_head (length h) (length content)) ++ (content ++ zeros (padding (length content)))
+-- The least format that a checkpoint after these entries may have: the greatest format of one of them, or 1 if there is none.
+abbrev pub needed_format : List Entry → ℕ
+needed_format [] = 1
+needed_format (e ∷ h) = max (format_of e) (needed_format h)
 
--- The body is that of a checkpoint after the prefix: it has the streams of the prefix with all their versions.
+-- The body, in this format, of a checkpoint after entries with these roots: its head, which has their number, its content, and zeros up to
+-- the end of the last block.
+unfoldable pub checkpoint_body : ℕ → List Entry → List ℕ → List ℕ
+checkpoint_body format h roots =
+    let content = roll_bytes format (roll_of h roots) in
+    head_bytes (checkpoint_head format (length h) (length content)) ++ (content ++ zeros (padding (length content)))
+
+-- The body is that of a checkpoint after the prefix: it has the streams of the prefix with all their versions. Its format is 1 to 3, and
+-- no less than that of an entry of the prefix.
 pub record IsCheckpointOf (before : Prefix) (body : List ℕ) : Type 0 where
-  pub room : content_blocks (length (roll_bytes (roll_of before.entries before.roots))) < 2 ^ 64
-  pub bytes : body ≡ checkpoint_body before.entries before.roots
+  pub format : ℕ
+  pub least : needed_format before.entries ≤ format
+  pub most : format ≤ 3
+  pub room : content_blocks (length (roll_bytes format (roll_of before.entries before.roots))) < 2 ^ 64
+  pub bytes : body ≡ checkpoint_body format before.entries before.roots
 
 -- The prefix with the extent of a checkpoint more, with this body. It has no entry and no page.
 abbrev pub with_checkpoint : Prefix → List ℕ → Prefix
@@ -124,10 +149,11 @@ pub record LeadToHistory (Rule : RootRule) (bodies : List (List ℕ)) (gate : �
 unfoldable pub node_blocks : List Change → Change → ℕ
 node_blocks past c = length (new_nodes 10 FIRST above_root (with_commits 0 nothing (past ++ c ∷ [])) (length past + 1))
 
--- The number of node blocks in the extent of an entry, if its stream has these commits. An entry that makes a stream has none.
+-- The number of node blocks in the extent of an entry, if its stream has these commits. An entry that makes no version has none.
 abbrev pub nodes_of : List Change → Entry → ℕ
 nodes_of past (Create id) = 0
 nodes_of past (Define id spec) = 0
+nodes_of past (Retire stream first) = 0
 nodes_of past (Commit stream cut added) = node_blocks past (record { cut = cut; added = added })
 nodes_of past (Distillate stream cut added reads) = node_blocks past (record { cut = cut; added = added })
 
@@ -135,10 +161,11 @@ nodes_of past (Distillate stream cut added reads) = node_blocks past (record { c
 abbrev pub need_after : List Change → Entry → ℕ
 need_after past e = content_blocks (length (spelling e)) + nodes_of past e + 1
 
--- The commits of the stream that an entry commits to. An entry that makes a stream has none.
+-- The commits of the stream that an entry commits to. An entry that makes no version has none.
 abbrev pub commits_before : List Entry → Entry → List Change
 commits_before h (Create id) = []
 commits_before h (Define id spec) = []
+commits_before h (Retire stream first) = []
 commits_before h (Commit stream cut added) = commits h stream
 commits_before h (Distillate stream cut added reads) = commits h stream
 
@@ -164,6 +191,7 @@ most_nodes points ranges = 11 * (253 * points + 2 * ranges)
 abbrev pub most_need_of : Entry → ℕ
 most_need_of (Create id) = content_blocks (length (spelling (Create id))) + 1
 most_need_of (Define id spec) = content_blocks (length (spelling (Define id spec))) + 1
+most_need_of (Retire stream first) = content_blocks (length (spelling (Retire stream first))) + 1
 most_need_of (Commit stream cut added) =
     content_blocks (length (spelling (Commit stream cut added))) + most_nodes (length added) (length cut) + 1
 most_need_of (Distillate stream cut added reads) =

@@ -6,6 +6,8 @@ pub mod Roots
 -- which history a device holds
 pub mod Holds
 pub mod Stored
+-- the superblock of a higher format that an entry may need, and the calls of the device
+pub mod Raise
 -- what contracts see of an engine, and what its calls do
 pub mod Place
 pub mod Engine

@@ -22,31 +22,32 @@ use Rattle.btr_engine.specs.Engine.{IsAtRest, IsDurable, EngineLeaves, KeepsOpen
 
 -- ---- the extent
 
--- The body of a checkpoint with these streams after this number of entries: its head, its content, and zeros up to the end of the last
--- block.
-unfoldable pub body_of_roll : ℕ → List RollStreamValue → List ℕ
-body_of_roll number streams =
-    let content = roll_bytes streams in
-    head_bytes (checkpoint_head number (length content)) ++ (content ++ zeros (padding (length content)))
+-- The body, in this format, of a checkpoint with these streams after this number of entries: its head, its content, and zeros up to the
+-- end of the last block.
+unfoldable pub body_of_roll : ℕ → ℕ → List RollStreamValue → List ℕ
+body_of_roll format number streams =
+    let content = roll_bytes format streams in
+    head_bytes (checkpoint_head format number (length content)) ++ (content ++ zeros (padding (length content)))
 
--- The body of a checkpoint of a board, and one block of zeros.
-abbrev pub run_of_board : Kept → List ℕ
-run_of_board b = body_of_roll b.entries (rolled b) ++ zeros 4096
+-- The body, in this format, of a checkpoint of a board, and one block of zeros.
+abbrev pub run_of_board : ℕ → Kept → List ℕ
+run_of_board format b = body_of_roll format b.entries (rolled b) ++ zeros 4096
 
--- The blocks that a checkpoint of a board needs: those of its content, and the gate after them.
-abbrev pub need_of_board : Kept → ℕ
-need_of_board b = content_blocks (length (roll_bytes (rolled b))) + 1
+-- The blocks that a checkpoint of a board needs in this format: those of its content, and the gate after them.
+abbrev pub need_of_board : ℕ → Kept → ℕ
+need_of_board format b = content_blocks (length (roll_bytes format (rolled b))) + 1
 
 -- ---- the superblock
 
 -- The superblock that follows another one and names a checkpoint: it is on the other side and has the next number. It has the gate of
--- the checkpoint, and the gate after the checkpoint.
-abbrev pub next_super : Super → ℕ → ℕ → Super
-next_super s checkpoint tail =
-    record { seq = s.seq + 1; side = 1 - s.side; blocks = s.blocks; tail = tail; checkpoint = checkpoint; format = 1 }
+-- the checkpoint, and the gate after the checkpoint, and this format.
+abbrev pub next_super : Super → ℕ → ℕ → ℕ → Super
+next_super s checkpoint tail format =
+    record { seq = s.seq + 1; side = 1 - s.side; blocks = s.blocks; tail = tail; checkpoint = checkpoint; format = format }
 
 -- A device of `size` blocks with these bytes holds a store with this history, and the superblock that is chosen names a checkpoint of the
--- whole history: the last extent is that of the checkpoint, and the log is read from the gate after it, which is the tail.
+-- whole history: the last extent is that of the checkpoint, in the format of the superblock, and the log is read from the gate after it,
+-- which is the tail.
 pub record IsNamed (size : ℕ) (image : Image) (blocks tail : ℕ) (h : List Entry) : Type 0 where
   pub holds : HoldsHistoryTo size image blocks tail h
   pub before : List (List ℕ)
@@ -54,6 +55,7 @@ pub record IsNamed (size : ℕ) (image : Image) (blocks tail : ℕ) (h : List En
   pub last : holds.bodies ≡ before ++ body ∷ []
   pub leads : LeadTo IsRootOf no_extents before (prefix_to holds.super.checkpoint h holds.leads.roots holds.leads.pages)
   pub is : IsCheckpointOf (prefix_to holds.super.checkpoint h holds.leads.roots holds.leads.pages) body
+  pub same_format : is.format ≡ holds.super.format
   pub from_tail : holds.super.tail ≡ tail
 
 -- ---- the engine
@@ -69,15 +71,16 @@ module _ {D : Type 0} {disk : Ghosts D} where
     pub same : new ≡ old
 
   -- The engine, which ran, had room for a checkpoint of its board, and has one more. It has the same board, it still runs, and the next
-  -- superblock, which names the checkpoint, is chosen. The device counted the calls of a checkpoint. The number is that of the entries.
+  -- superblock, which names the checkpoint, is chosen. It has the format of the one before. The device counted the calls of a checkpoint.
+  -- The number is that of the entries.
   pub record IsCheckpointed (old new : Engine D disk) (number : ℕ) : Type 0 where
     pub entries : number ≡ entries_of old
     pub ran : is_stopped old ≡ false
     pub runs : is_stopped new ≡ false
     pub board : board_of new ≡ board_of old
-    pub fits : need_of_board (board_of old) ≤ room_of old
-    pub tail : tail_of new ≡ tail_of old + need_of_board (board_of old)
-    pub chosen : super_of new ≡ next_super (super_of old) (tail_of old) (tail_of new)
+    pub fits : need_of_board (super_of old).format (board_of old) ≤ room_of old
+    pub tail : tail_of new ≡ tail_of old + need_of_board (super_of old).format (board_of old)
+    pub chosen : super_of new ≡ next_super (super_of old) (tail_of old) (tail_of new) (super_of old).format
     pub called : CountsMark (disk.calls (device old)) (disk.calls (device new))
 
   -- The device has failed, within the calls of a checkpoint, and the engine is stopped. Its board is as before, and so is its superblock.
@@ -95,9 +98,9 @@ module _ {D : Type 0} {disk : Ghosts D} where
   CheckpointCause old new (Rejected why) = ⊥
   CheckpointCause old new Want = (is_stopped old ≡ false) × (new ≡ old)
   CheckpointCause old new (DeviceFull need left) =
-      (is_stopped old ≡ false) × (need ≡ need_of_board (board_of old)) × (left ≡ room_of old) × (left < need) × (new ≡ old)
+      (is_stopped old ≡ false) × (need ≡ need_of_board (super_of old).format (board_of old)) × (left ≡ room_of old) × (left < need) × (new ≡ old)
   CheckpointCause old new DeviceFault =
-      (is_stopped old ≡ false) × (need_of_board (board_of old) ≤ room_of old) × StopsByMark old new
+      (is_stopped old ≡ false) × (need_of_board (super_of old).format (board_of old) ≤ room_of old) × StopsByMark old new
 
   -- What a checkpoint did to the engine, which returned this. Its log is at home. Of an engine at rest of a history the device holds that
   -- history at each moment, and after `Ok` the superblock names a checkpoint of the whole of it.

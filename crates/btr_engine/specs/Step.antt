@@ -3,7 +3,7 @@ use Rattle.std.specs.Prelude.{◌≡◌, ◌⊎◌, ℕ, ◌+◌, ◌<◌, ◌�
 use Rattle.std.specs.Prelude.{Some, None, IsTrue, IsFalse, Result, Ok, Err, IfOk, IfErr, OnOk}
 use Rattle.btr_disk.specs.declared.disk.Disk.{Ghosts}
 use Rattle.btr_disk.specs.Bytes.{Image}
-use Rattle.btr_disk.specs.Causes.{Rose, CountedTimes}
+use Rattle.btr_disk.specs.Causes.{Rose}
 use Rattle.btr_hist.specs.declared.entry.Entry.{Entry}
 use Rattle.btr_hist.specs.Legal.{rejection}
 use Rattle.btr_engine.specs.declared.engine.Engine.{Engine}
@@ -13,12 +13,9 @@ use Rattle.btr_engine.specs.declared.step.StepFault.TheVariants.{Stopped, Reject
 use Rattle.btr_streams.specs.Stage.{MayLackMemory, IsReceipt}
 use Rattle.btr_engine.specs.Body.{need_of}
 use Rattle.btr_engine.specs.Holds.{HoldsHistory}
-use Rattle.btr_engine.specs.Engine.{device, board_of, entries_of, tail_of, room_of, is_stopped, is_home}
+use Rattle.btr_engine.specs.Raise.{raise_for, super_after, CountsWrite, most_calls}
+use Rattle.btr_engine.specs.Engine.{device, board_of, entries_of, tail_of, room_of, super_of, is_stopped, is_home}
 use Rattle.btr_engine.specs.Engine.{IsEngineOf, IsAtRest, IsDurable, EngineLeaves, KeepsOpening}
-
--- The calls of the device that commit an entry: a write and a sync for its extent, then a write and a sync for the gate before it.
-abbrev pub calls_of_step : ℕ
-calls_of_step = 4
 
 -- An image at a moment of a step holds the history, or the history with this entry.
 abbrev pub IsBeforeOrAfter : ℕ → List Entry → Entry → Image → Type 0
@@ -41,51 +38,56 @@ module _ {D : Type 0} {disk : Ghosts D} where
     pub allowed : rejection h e ≡ None
     pub fits : need_of h e ≤ room_of engine
 
-  -- The engine, which was of this history, is of the history with this entry at its end. It is not stopped, and the
-  -- device counted the calls of a step.
+  -- The engine, which was of this history, is of the history with this entry at its end. It is not stopped, the superblock is that of the
+  -- raise, if the entry needed one, and the device counted the calls of a step with it.
   pub record IsStepped (h : List Entry) (old new : Engine D disk) (e : Entry) (receipt : Receipt) : Type 0 where
     pub could : CanStep h old e
     pub of : IsEngineOf (h ++ e ∷ []) new
     pub tail : tail_of new ≡ tail_of old + need_of h e
     pub runs : is_stopped new ≡ false
-    pub called : CountedTimes calls_of_step (disk.calls (device old)) (disk.calls (device new))
+    pub chosen : super_of new ≡ super_after (super_of old) (raise_for (super_of old) e)
+    pub called : CountsWrite (raise_for (super_of old) e) (disk.calls (device old)) (disk.calls (device new))
     pub is_receipt : IsReceipt h e receipt
 
-  -- The device has failed, within the calls of a step, and the engine is stopped. Its board is as before.
-  pub record StopsByFault (old new : Engine D disk) : Type 0 where
+  -- The device has failed, within the calls of a step with this entry, and the engine is stopped. Its board is as before, and so is the
+  -- superblock that it says, also if the device has that of the raise: a stopped engine uses it no more.
+  pub record StopsByFault (old new : Engine D disk) (e : Entry) : Type 0 where
     pub called : Rose (disk.calls (device old)) (disk.calls (device new))
-    pub at_most : disk.calls (device new) ≤ disk.calls (device old) + calls_of_step
+    pub at_most : disk.calls (device new) ≤ disk.calls (device old) + most_calls (raise_for (super_of old) e)
     pub rose : Rose (disk.faults (device old)) (disk.faults (device new))
     pub stopped : is_stopped new ≡ true
     pub board : board_of new ≡ board_of old
     pub tail : tail_of new ≡ tail_of old
+    pub chosen : super_of new ≡ super_of old
 
   -- A stopped engine returns its number of entries, and stays as it is.
   pub record StaysStopped (old new : Engine D disk) (result : Result Receipt StepFault) : Type 0 where
     pub returned : result ≡ Err (Stopped (entries_of old))
     pub same : new ≡ old
 
-  -- An engine that ran has one entry more, whose number the receipt says. It still runs, and the device counted the calls of a step.
-  pub record AddsOne (old new : Engine D disk) (receipt : Receipt) : Type 0 where
+  -- An engine that ran has one entry more, this one, whose number the receipt says. It still runs, the superblock is that of the raise, if
+  -- the entry needed one, and the device counted the calls of a step with it.
+  pub record AddsOne (old new : Engine D disk) (e : Entry) (receipt : Receipt) : Type 0 where
     pub ran : is_stopped old ≡ false
     pub runs : is_stopped new ≡ false
     pub entries : entries_of new ≡ entries_of old + 1
     pub number : receipt.number ≡ entries_of new
-    pub called : CountedTimes calls_of_step (disk.calls (device old)) (disk.calls (device new))
+    pub chosen : super_of new ≡ super_after (super_of old) (raise_for (super_of old) e)
+    pub called : CountsWrite (raise_for (super_of old) e) (disk.calls (device old)) (disk.calls (device new))
 
-  -- What a step with this result did to the engine, also if the engine is of no history.
-  abbrev pub HasResult : Engine D disk → Engine D disk → Result Receipt StepFault → Type 0
-  HasResult old new (Ok receipt) = AddsOne old new receipt
-  HasResult old new (Err (Stopped entries)) = (is_stopped old ≡ true) × (entries ≡ entries_of old) × (new ≡ old)
-  HasResult old new (Err (Rejected why)) = (is_stopped old ≡ false) × (new ≡ old)
-  HasResult old new (Err Want) = (is_stopped old ≡ false) × (new ≡ old)
-  HasResult old new (Err (DeviceFull need left)) = (is_stopped old ≡ false) × (left ≡ room_of old) × (left < need) × (new ≡ old)
-  HasResult old new (Err DeviceFault) = (is_stopped old ≡ false) × StopsByFault old new
+  -- What a step with this entry and this result did to the engine, also if the engine is of no history.
+  abbrev pub HasResult : Engine D disk → Engine D disk → Entry → Result Receipt StepFault → Type 0
+  HasResult old new e (Ok receipt) = AddsOne old new e receipt
+  HasResult old new e (Err (Stopped entries)) = (is_stopped old ≡ true) × (entries ≡ entries_of old) × (new ≡ old)
+  HasResult old new e (Err (Rejected why)) = (is_stopped old ≡ false) × (new ≡ old)
+  HasResult old new e (Err Want) = (is_stopped old ≡ false) × (new ≡ old)
+  HasResult old new e (Err (DeviceFull need left)) = (is_stopped old ≡ false) × (left ≡ room_of old) × (left < need) × (new ≡ old)
+  HasResult old new e (Err DeviceFault) = (is_stopped old ≡ false) × StopsByFault old new e
 
-  -- What a step did to the engine, also if the engine is of no history: a stopped one only says that it is stopped.
-  pub record HasEffect (old new : Engine D disk) (result : Result Receipt StepFault) : Type 0 where
+  -- What a step with this entry did to the engine, also if the engine is of no history: a stopped one only says that it is stopped.
+  pub record HasEffect (old new : Engine D disk) (e : Entry) (result : Result Receipt StepFault) : Type 0 where
     pub stopped : IsTrue (is_stopped old) → StaysStopped old new result
-    pub has_result : HasResult old new result
+    pub has_result : HasResult old new e result
 
   -- Why a step refuses an entry if the engine is of this history, and what the engine is then.
   abbrev pub StepCause : List Entry → Engine D disk → Engine D disk → Entry → StepFault → Type 0
@@ -98,12 +100,12 @@ module _ {D : Type 0} {disk : Ghosts D} where
   StepCause h old new e (DeviceFull need left) =
       IsFalse (is_stopped old) × (rejection h e ≡ None)
       × (need ≡ need_of h e) × (left ≡ room_of old) × (left < need) × (new ≡ old)
-  StepCause h old new e DeviceFault = CanStep h old e × StopsByFault old new
+  StepCause h old new e DeviceFault = CanStep h old e × StopsByFault old new e
 
   -- The second engine is the first one after a step with this entry, which returned this. Its log is at home.
   pub record IsStep (old new : Engine D disk) (e : Entry) (result : Result Receipt StepFault) : Type 0 where
     pub home : is_home new ≡ true
-    pub effect : HasEffect old new result
+    pub effect : HasEffect old new e result
     pub cause : (h : List Entry) → IsEngineOf h old → IfErr result (StepCause h old new e)
     pub stepped : (h : List Entry) → IsEngineOf h old → IfOk result (IsStepped h old new e)
     pub kept : KeepsOpening old new

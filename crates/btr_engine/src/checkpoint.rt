@@ -1,7 +1,7 @@
 //! The checkpoint: an extent with all streams and their versions, from which on the log is read.
 ghost use Rattle.std.specs.Prelude.{◌≡◌, ◌+◌, ◌<◌, ◌≤◌, ◌^◌, false, true, IfOk, IsTrue};
 ghost use Rattle.btr_log.specs.Append.{IsAppendRun};
-ghost use Rattle.btr_engine.specs.Engine.{board_of, is_stopped, is_home};
+ghost use Rattle.btr_engine.specs.Engine.{board_of, super_of, is_stopped, is_home};
 ghost use Rattle.btr_engine.specs.Mark.{run_of_board, next_super, MarksNothing, Marks};
 
 use crate::engine::Engine;
@@ -9,25 +9,27 @@ use crate::extent::encode_checkpoint;
 use crate::step::{StepFault, step_fault};
 use btr_disk::{Disk, NoBlocks, Parts};
 use btr_streams::Board;
-use btr_super::{FORMAT, Super, replace};
+use btr_super::{Super, replace};
 use std::alloc::{AllocError, Global};
 
-/// Returns the body of a checkpoint of this board, followed by one block of zeros. An `Err` means out of memory.
-fn checkpoint_run(alloc: Global, board: &Board) -> Result<Parts, AllocError>
-    ensures bytes { IfOk result (λ p. p ≡ run_of_board board.now) }
+/// Returns the body, in this format, of a checkpoint of this board, followed by one block of zeros. An `Err` means out of memory.
+fn checkpoint_run(alloc: Global, format: u32, board: &Board) -> Result<Parts, AllocError>
+    requires { (1 ≤ format) × (format ≤ 3) }
+    ensures bytes { IfOk result (λ p. p ≡ run_of_board format board.now) }
     ensures run { IfOk result (λ p. IsAppendRun p) }
 {
     let roll = board.roll(alloc)?;
-    encode_checkpoint(alloc, &roll, board.entries())
+    encode_checkpoint(alloc, format, &roll, board.entries())
 }
 
 impl<D: Disk> Engine<D> {
     /// Adds a checkpoint, which has all streams with their versions, to the log, and replaces the superblock by one that names it. From
-    /// then on the superblock says that the log is read from the gate after this checkpoint. Returns the number of entries.
+    /// then on the superblock says that the log is read from the gate after this checkpoint. The format stays. Returns the number of
+    /// entries.
     ///
-    /// The history stays as it is, and a crash at any moment of the call leaves it. After an `Err` the engine is as before, except after
-    /// a `DeviceFault`, which stops it: from then on it returns `Stopped`. Of several causes `Stopped` is returned before `Want`, and
-    /// `Want` before `DeviceFull`.
+    /// The checkpoint has the format of the superblock. The history stays as it is, and a crash at any moment of the call leaves it. After
+    /// an `Err` the engine is as before, except after a `DeviceFault`, which stops it: from then on it returns `Stopped`. Of several
+    /// causes `Stopped` is returned before `Want`, and `Want` before `DeviceFull`.
     ///
     /// After `Ok` it made nine calls of the device or eleven: a write and a sync for the checkpoint, a write and a sync for the gate
     /// before it, and five or seven to replace the superblock. It takes all memory before the first of them. It costs time and memory
@@ -44,7 +46,7 @@ impl<D: Disk> Engine<D> {
                 entries: self.board.entries(),
             });
         }
-        let extent = checkpoint_run(alloc, &self.board)?;
+        let extent = checkpoint_run(alloc, self.chosen.format, &self.board)?;
         self.mark(&extent)
     }
 
@@ -53,7 +55,7 @@ impl<D: Disk> Engine<D> {
     pub(crate) fn mark(&mut self, extent: &Parts) -> Result<u64, StepFault>
         requires home { is_home self.old ≡ true }
         requires runs { is_stopped self.old ≡ false }
-        requires bytes { extent.now ≡ run_of_board (board_of self.old) }
+        requires bytes { extent.now ≡ run_of_board (super_of self.old).format (board_of self.old) }
         requires run { IsAppendRun extent.now }
         ensures { Marks self.old self.new result }
     {
@@ -66,7 +68,7 @@ impl<D: Disk> Engine<D> {
             self.place.put_back(log);
             return Err(step_fault(fault));
         }
-        let next = next_super(&self.chosen, gate, log.tail());
+        let next = next_super(&self.chosen, gate, log.tail(), self.chosen.format);
         if replace(&mut log.disk, &next).is_err() {
             log.stop();
             self.stopped = true;
@@ -79,11 +81,12 @@ impl<D: Disk> Engine<D> {
     }
 }
 
-/// Returns the superblock that follows the chosen one and names the checkpoint at this gate. The gate after the checkpoint is the tail.
-fn next_super(chosen: &Super, gate: u64, tail: u64) -> Super
+/// Returns the superblock of this format that follows the chosen one and names the checkpoint at this gate. The gate after the checkpoint
+/// is the tail.
+fn next_super(chosen: &Super, gate: u64, tail: u64, format: u32) -> Super
     requires side { chosen.now.side ≤ 1 }
     requires seq { chosen.now.seq + 1 < 2 ^ 64 }
-    ensures { result ≡ next_super chosen.now gate tail }
+    ensures { result ≡ next_super chosen.now gate tail format }
 {
     Super {
         seq: chosen.seq + 1,
@@ -91,6 +94,6 @@ fn next_super(chosen: &Super, gate: u64, tail: u64) -> Super
         blocks: chosen.blocks,
         tail,
         checkpoint: gate,
-        format: FORMAT,
+        format,
     }
 }

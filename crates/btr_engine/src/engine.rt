@@ -2,6 +2,7 @@
 ghost use Rattle.std.specs.Prelude.{◌≡◌, ◌+◌, ◌*◌, ◌≤◌};
 ghost use Rattle.btr_log.specs.Log.{log_device as device_of, log_tail, log_blocks, extents_of, is_log_stopped, faults_at};
 ghost use Rattle.btr_engine.specs.Place.{log_in};
+ghost use Rattle.btr_engine.specs.Raise.{IsFollowable};
 
 use crate::place::Place;
 use crate::remains::Remains;
@@ -37,21 +38,23 @@ pub struct Engine<D: Disk> {
     ghost began: { opened_with ≤ board.entries },
     ghost called: { D.calls synced.value ≤ D.calls (device_of (log_in place)) },
     ghost failed: { D.faults synced.value ≤ faults_at (log_in place) },
-    // A superblock that replaces this one keeps the table: its number is one more, and its tail is a later gate of the log.
-    ghost side: { chosen.side ≤ 1 },
-    ghost seq: { chosen.seq + 3 ≤ log_tail (log_in place) },
+    // A superblock that replaces this one keeps the table: its number is one more, and its tail is the same gate of the log, in a higher
+    // format, or a later one.
+    ghost followable: { IsFollowable chosen },
+    ghost behind: { chosen.tail ≤ log_tail (log_in place) },
     ghost large: { 8 ≤ log_blocks (log_in place) },
     ghost same_blocks: { chosen.blocks ≡ log_blocks (log_in place) },
 }
 
 impl<D: Disk> Engine<D> {
-    ghost use Rattle.std.specs.Prelude.{◌≡◌, ◌+◌, ◌*◌, ◌≤◌, List, IfOk, IsTrue, true, length};
+    ghost use Rattle.std.specs.Prelude.{◌≡◌, ◌+◌, ◌*◌, ◌≤◌, List, IfOk, IsTrue, true, length, slice_get};
     ghost use Rattle.btr_disk.specs.Causes.{Rose};
     ghost use Rattle.btr_log.specs.Log.{log_device as device_of, log_tail, log_blocks, extents_of, faults_at};
     ghost use Rattle.btr_hist.specs.declared.entry.Entry.{Entry as EntrySpec};
-    ghost use Rattle.btr_hist.specs.History.{stream_of, spec_of};
+    ghost use Rattle.btr_hist.specs.History.{ids, stream_of, spec_of};
     ghost use Rattle.btr_streams.specs.Board.{latest_of};
     ghost use Rattle.btr_streams.specs.Snapshot.{IsSnapshotOf};
+    ghost use Rattle.btr_engine.specs.Raise.{IsFollowable};
     ghost use Rattle.btr_engine.specs.Engine.{device, board_of, entries_of, is_stopped, faults_at_open, IsEngineOf, IsMadeOf, is_home};
 
     /// Returns the engine of a log, of a board with the log's entries, of the superblock that is chosen on the device, and of the
@@ -62,8 +65,8 @@ impl<D: Disk> Engine<D> {
         requires ends { 2 * extents_of log + 4 ≤ log_tail log }
         requires called { D.calls synced.value ≤ D.calls (device_of log) }
         requires failed { D.faults synced.value ≤ faults_at log }
-        requires side { chosen.side ≤ 1 }
-        requires seq { chosen.seq + 3 ≤ log_tail log }
+        requires followable { IsFollowable chosen }
+        requires behind { chosen.tail ≤ log_tail log }
         requires large { 8 ≤ log_blocks log }
         requires same_blocks { chosen.blocks ≡ log_blocks log }
         ensures { IsMadeOf log board chosen synced.value result }
@@ -94,6 +97,13 @@ impl<D: Disk> Engine<D> {
         ensures { (h : List EntrySpec) → IsEngineOf h self.now → result ≡ stream_of h id }
     {
         self.board.find(id)
+    }
+
+    /// Returns the id of a stream, or `None` if there is no such stream. It takes logarithmic time and no memory.
+    pub fn id(&self, stream: u32) -> Option<u128>
+        ensures { (h : List EntrySpec) → IsEngineOf h self.now → result ≡ slice_get (ids h) stream }
+    {
+        self.board.id(stream)
     }
 
     /// Returns the spec of an output. A plain stream, and a number that is not that of a stream, have none. It takes logarithmic

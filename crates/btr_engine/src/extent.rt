@@ -16,7 +16,7 @@ ghost use Rattle.btr_engine.specs.Travel.{MakesExtent};
 use crate::maker::Maker;
 use crate::streamed::fill_blocks;
 use btr_disk::{BLOCK, Parts};
-use btr_entry::{append_before_points, append_entry, spelling_length};
+use btr_entry::{append_before_points, append_entry, format_of, spelling_length};
 use btr_hist::Entry;
 use btr_log::{HEAD_BYTES, Head, blocks_of_content};
 use btr_roll::{Roll, encode_roll};
@@ -64,6 +64,7 @@ pub(crate) fn encode_extent<M: Maker>(
     let receipt = staged.receipt;
     let nodes = &staged.nodes;
     let head = Head::for_entry(
+        format_of(entry),
         receipt.number,
         spelling_length(entry),
         nodes.len() as u64,
@@ -136,19 +137,21 @@ fn before_pages<M: Maker>(
     Ok(extent)
 }
 
-/// Returns the body of a checkpoint with these streams after this number of entries, followed by one block of zeros, in one part. It
-/// takes time linear in the streams and versions, and memory for the content beside what it returns.
+/// Returns the body, in this format, of a checkpoint with these streams after this number of entries, followed by one block of zeros, in
+/// one part. It takes time linear in the streams and versions, and memory for the content beside what it returns.
 pub(crate) fn encode_checkpoint(
     alloc: Global,
+    format: u32,
     roll: &Roll,
     entries: u64,
 ) -> Result<Parts, AllocError>
-    requires { IsRollWithinBounds roll.now }
-    ensures bytes { IfOk result (λ p. p ≡ body_of_roll entries roll.now ++ zeros 4096) }
+    requires known { (1 ≤ format) × (format ≤ 3) }
+    requires bounds { IsRollWithinBounds roll.now }
+    ensures bytes { IfOk result (λ p. p ≡ body_of_roll format entries roll.now ++ zeros 4096) }
     ensures run { IfOk result (λ p. IsAppendRun p) }
 {
-    let content = encode_roll(alloc, roll)?;
-    let head = Head::for_checkpoint(entries, content.len() as u64);
+    let content = encode_roll(alloc, format, roll)?;
+    let head = Head::for_checkpoint(format, entries, content.len() as u64);
     let mut extent = Vec::with_capacity(alloc, bytes_of(head.n)?)?;
     put_head(&mut extent, &head)?;
     extent.extend_from_slice(&content)?;

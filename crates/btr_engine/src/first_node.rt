@@ -19,7 +19,7 @@ pub(crate) fn first_node(tail: u64, entry: &Entry) -> u64
     ensures low { (1 ≤ result) × (result ≤ 2 ^ 33) }
 {
     match entry {
-        Entry::Create { .. } | Entry::Define { .. } => tail + 1,
+        Entry::Create { .. } | Entry::Define { .. } | Entry::Retire { .. } => tail + 1,
         Entry::Commit { cut, added, .. } => block_after(tail, 21 + items_length(cut, added)),
         Entry::Distillate {
             cut,

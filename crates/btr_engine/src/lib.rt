@@ -2,7 +2,8 @@
 //!
 //! A step ([`Engine::step`]) adds one entry: a crash at any moment of it leaves the history as before, or with this entry.
 //! It is four calls ([`Engine::take_log`], [`Engine::stage`], [`Ready::write`], [`Engine::settle`]), between which the log is out of the
-//! engine, and the engine can be asked.
+//! engine, and the engine can be asked. An entry that needs a higher format than the superblock has is written after a raise, which
+//! replaces the superblock by one of that format.
 //! A checkpoint ([`Engine::checkpoint`]) leaves the history as it is, and adds what an opening needs of the entries before it.
 //! `specs/Holds.antt` says which history a device holds, byte by byte. The history in memory is that of the crate btr_streams. The crate
 //! btr_open makes the engine of a device.
@@ -18,6 +19,7 @@ mod streamed;
 mod checkpoint;
 mod engine;
 mod place;
+mod raise;
 mod remains;
 mod step;
 mod travel;

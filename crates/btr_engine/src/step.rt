@@ -41,7 +41,8 @@ impl<D: Disk> Engine<D> {
     /// before, except after a `DeviceFault`, which stops it: from then on it returns `Stopped`.
     ///
     /// The step makes no call of the device, or four: a write and a sync for the entry and the pages of the nodes that are new in
-    /// its stream's tree, then a write and a sync for the gate before it. It takes all memory before the first call. It costs the
+    /// its stream's tree, then a write and a sync for the gate before it. If the entry needs a higher format than the superblock has, five
+    /// or seven calls before these replace the superblock by one of that format. It takes all memory before the first call. It costs the
     /// bytes of the entry, 4096 bytes for each of these nodes, and time logarithmic in the streams, versions and ids.
     ///
     /// The caller passes an engine whose log is at home, and gets it so.

@@ -21,6 +21,9 @@ enum Act<'a> {
     /// Commits a distillate of no ranges and no points of a stream, which reads version 1.
     Distil(u32),
 
+    /// Retires the versions of a stream before this one.
+    Retire(u32, u64),
+
     Admit,
 
     /// Asks for the points of the latest version of a stream between 0 and 100.
@@ -98,6 +101,7 @@ fn what(alloc: Global, act: Act<'_>) -> Result<What, AllocError> {
         Act::Insert(stream, pairs) => What::Commit(insert(alloc, stream, pairs)?),
         Act::Sum(id) => What::Commit(sum(id)),
         Act::Distil(stream) => What::Commit(distillate(alloc, stream)),
+        Act::Retire(stream, first) => What::Commit(Entry::Retire { stream, first }),
         Act::Admit => What::Admit,
         Act::Points(stream) => What::Ask(Query::Points {
             stream,
@@ -242,6 +246,59 @@ const ADMITTED: &[Row<'static>] = &[
 #[test]
 fn an_actor_sees_what_it_was_admitted_to(rt: HostRuntime) -> Result<(), Fail> {
     no_wrong(first_wrong(rt.alloc(), ADMITTED)?)
+}
+
+/// An actor whose plan lands between two retirements of its input by another one.
+const RETIRED: &[Row<'static>] = &[
+    (1, Act::Create(7), Wanted::Accepted(1, 0, 0)),
+    (
+        1,
+        Act::Insert(0, &[(0, 10), (10, 20), (20, 30)]),
+        Wanted::Accepted(2, 0, 1),
+    ),
+    (1, Act::Sum(8), Wanted::Accepted(3, 1, 0)),
+    (2, Act::Admit, Wanted::Admitted(3)),
+    (2, Act::Plan(1), Wanted::Planned(true)),
+    (1, Act::Insert(0, &[(5, 1)]), Wanted::Accepted(4, 0, 2)),
+    (
+        1,
+        Act::Retire(0, 2),
+        Wanted::Rejected(Rejection::Held {
+            output: 1,
+            version: 0,
+        }),
+    ),
+    (2, Act::Land, Wanted::Accepted(5, 1, 1)),
+    (
+        1,
+        Act::Retire(0, 2),
+        Wanted::Rejected(Rejection::Held {
+            output: 1,
+            version: 1,
+        }),
+    ),
+    (1, Act::Admit, Wanted::Admitted(5)),
+    (1, Act::Plan(1), Wanted::Planned(true)),
+    (1, Act::Land, Wanted::Accepted(6, 1, 2)),
+    (
+        1,
+        Act::Retire(0, 3),
+        Wanted::Rejected(Rejection::BadFirst {
+            first: 3,
+            present: 0,
+            latest: 2,
+        }),
+    ),
+    (1, Act::Retire(0, 2), Wanted::Accepted(7, 0, 0)),
+    (1, Act::Retire(2, 1), Wanted::Rejected(Rejection::NoStream)),
+    (2, Act::Info(0), Wanted::Info(1, (3, 60), (10, 30), None)),
+    (2, Act::Admit, Wanted::Admitted(7)),
+    (2, Act::Info(0), Wanted::Info(2, (4, 61), (1, 30), None)),
+];
+
+#[test]
+fn a_version_that_an_output_has_read_last_is_not_retired(rt: HostRuntime) -> Result<(), Fail> {
+    no_wrong(first_wrong(rt.alloc(), RETIRED)?)
 }
 
 /// Two actors with a plan of the same output.

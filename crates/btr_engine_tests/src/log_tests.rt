@@ -38,7 +38,7 @@ fn a_head_is_spelled_as_by_hand(rt: HostRuntime) {
         nodes: 0,
         root: 0,
     };
-    assert!(rt; Head::for_entry(1, 5, 0, 0) == head);
+    assert!(rt; Head::for_entry(1, 1, 5, 0, 0) == head);
     let mut bytes = [7; HEAD_BYTES];
     head.encode(&mut bytes);
     assert!(rt; bytes == ENTRY);
@@ -64,7 +64,7 @@ fn a_head_of_a_checkpoint_is_spelled_as_by_hand(rt: HostRuntime) {
         nodes: 0,
         root: 0,
     };
-    assert!(rt; Head::for_checkpoint(2, 53) == head);
+    assert!(rt; Head::for_checkpoint(1, 2, 53) == head);
     let mut bytes = [7; HEAD_BYTES];
     head.encode(&mut bytes);
     assert!(rt; bytes == CHECKPOINT);
@@ -419,14 +419,15 @@ fn changed(at: usize, value: u8) -> [u8; HEAD_BYTES] {
 
 /// A byte of the head by hand, its value, and what is seen.
 const BYTES: &[(usize, u8, Seen)] = &[
-    // a mark, a kind that is none, no checkpoint's number 0 as an entry's, a format, a number, n too
+    // a mark, a kind that is none, no checkpoint's number 0 as an entry's, formats, a number, n too
     // small and too great, a length that asks for two blocks, a node block, and a byte that is to be 0
     (0, b'b', Seen::Damaged(5)),
     (7, b'y', Seen::Damaged(5)),
     (8, 1, Seen::Damaged(5)),
     (11, 0, Seen::Damaged(5)),
     (11, 3, Seen::Damaged(5)),
-    (15, 2, Seen::Damaged(5)),
+    (15, 0, Seen::Damaged(5)),
+    (15, 4, Seen::Damaged(5)),
     (23, 0, Seen::Damaged(5)),
     (31, 0, Seen::Damaged(5)),
     (31, 2, Seen::Damaged(5)),
@@ -435,7 +436,9 @@ const BYTES: &[(usize, u8, Seen)] = &[
     (47, 1, Seen::Damaged(5)),
     (56, 1, Seen::Damaged(5)),
     (63, 1, Seen::Damaged(5)),
-    // another length in one block, and another root
+    // formats 2 and 3, another length in one block, and another root
+    (15, 2, Seen::Extent(6)),
+    (15, 3, Seen::Extent(6)),
     (38, 15, Seen::Extent(6)),
     (39, 0, Seen::Extent(6)),
     (55, 9, Seen::Extent(6)),

@@ -77,7 +77,8 @@ fn first_wrong_after(alloc: Global, count: u32, rows: &[Row]) -> Result<Option<u
 ///
 /// An extent of an entry, in the second row of one and in the third of two blocks, is no checkpoint: the superblock is named. So it is if
 /// the gate after the content is not its tail, as after 4222 or 61566 bytes; after 65662 bytes there is no room for a gate. Five entries
-/// can be before the gate 14, as far as the format says, and six cannot; three did not make what the content says.
+/// can be before the gate 14, as far as the format says, and six cannot; three did not make what the content says. In format 2 it
+/// would have the first version of each stream, also if the superblock has that format.
 const HEADS: &[Row] = &[
     (&[(15, 0, 0)], Some(15)),
     (&[(15, 11, 1)], Some(3)),
@@ -87,6 +88,8 @@ const HEADS: &[Row] = &[
     (&[(15, 8, 1)], Some(15)),
     (&[(15, 15, 0)], Some(15)),
     (&[(15, 15, 2)], Some(15)),
+    (&[(3, 11, 2), (15, 15, 2)], Some(15)),
+    (&[(3, 11, 2), (15, 15, 3)], Some(15)),
     (&[(15, 23, 0)], Some(15)),
     (&[(15, 23, 3)], Some(15)),
     (&[(15, 23, 5)], None),
@@ -275,8 +278,9 @@ fn a_content_has_what_it_claims(rt: HostRuntime) -> Result<(), Fail> {
 // ---- superblocks
 
 /// The superblock B, which is chosen: seq 2, tail 16 and checkpoint 14. No checkpoint; gates of entries, a leaf, bodies and the tail as
-/// checkpoint; tails that are not the gate after it.
+/// checkpoint; tails that are not the gate after it. Format 2 may have a log of format 1.
 const SUPERBLOCKS: &[Row] = &[
+    (&[(3, 11, 2)], None),
     (&[(3, 47, 0)], Some(3)),
     (&[(3, 47, 0), (3, 39, 4)], Some(3)),
     (&[(3, 47, 3)], Some(3)),

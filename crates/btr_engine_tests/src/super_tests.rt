@@ -159,7 +159,7 @@ const BREAKS: [(u16, u8); 21] = [
     (7, b'X'),
     (8, 1),
     (11, 0),
-    (11, 2),
+    (11, 4),
     (12, 1),
     (15, 1),
     (16, 1),
@@ -252,6 +252,54 @@ fn first_wrong_start(alloc: Global) -> Result<Option<usize>, AllocError> {
 #[test]
 fn a_superblock_says_where_the_reading_starts(rt: HostRuntime) -> Result<(), Fail> {
     no_wrong(first_wrong_start(rt.alloc())?)
+}
+
+/// The format and the number of a superblock of eight blocks with tail 4, and whether it keeps the table: the number is at most the format.
+const FORMATS: [(u8, u8, bool); 9] = [
+    (1, 2, false),
+    (2, 1, true),
+    (2, 2, true),
+    (2, 3, false),
+    (3, 1, true),
+    (3, 3, true),
+    (3, 4, false),
+    (4, 1, false),
+    (4, 4, false),
+];
+
+/// What is chosen if the superblock has this format and number.
+fn chosen_format(alloc: Global, format: u8, seq: u8) -> Result<Chosen, AllocError> {
+    let bytes = with_piece(formatted(alloc)?, 4096 + 11, &[format]);
+    chosen(alloc, with_piece(bytes, 4096 + 23, &[seq]))
+}
+
+/// What is to be chosen then.
+fn wanted_format(format: u8, seq: u8, keeps: bool) -> Chosen {
+    if !keeps {
+        return Err(ChooseFault::Damaged { block: 1 });
+    }
+    Ok(Super {
+        seq: u64::from(seq),
+        side: 0,
+        blocks: 8,
+        tail: 4,
+        checkpoint: 0,
+        format: u32::from(format),
+    })
+}
+
+fn first_wrong_format(alloc: Global) -> Result<Option<usize>, AllocError> {
+    for (row, (format, seq, keeps)) in FORMATS.iter().enumerate() {
+        if chosen_format(alloc, *format, *seq)? != wanted_format(*format, *seq, *keeps) {
+            return Ok(Some(row));
+        }
+    }
+    Ok(None)
+}
+
+#[test]
+fn superblocks_of_three_formats_keep_the_table(rt: HostRuntime) -> Result<(), Fail> {
+    no_wrong(first_wrong_format(rt.alloc())?)
 }
 
 const SECOND: Super = Super {

@@ -4,3 +4,4 @@ pub mod FrameLemmas
 pub mod ChangeLemmas
 pub mod SpecLemmas
 pub mod SpellingLemmas
+pub mod FormatLemmas

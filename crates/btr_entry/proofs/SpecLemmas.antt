@@ -1,24 +1,28 @@
 -- Lemmas on the bytes of specs and reads: their length, and that the bytes determine the value.
 use Rattle.std.proofs.Common.{◌≡◌, ◌⊎◌, ℕ, ◌+◌, ◌*◌, ◌<◌, ◌≤◌, ◌^◌, ◌&&◌, ℤ, List, [], ◌∷◌, ◌++◌, length, get_or, Option, Some, None, lit≤, inl, inr, refl, sym, ap, ◌∙◌, subst, arith, length-append, append_assoc, if◌then◌else◌, not}
-use Rattle.std.specs.Prelude.{IfSome, nat_le, is_some}
+use Rattle.std.specs.Prelude.{IfSome, nat_eq, nat_le, is_some}
 use Rattle.std.specs.Int.{Width, w32, w64, byte_len}
 use Rattle.std.proofs.lemmas.Bool.{and_parts}
 use Rattle.std.proofs.lemmas.Bool.Decides.{nat_tests}
 use Rattle.btr_base.specs.declared.limits.TheConstants.{MAX_VERSIONS}
 use Rattle.btr_hist.specs.declared.kernel.Kernel.{Kernel}
-use Rattle.btr_hist.specs.declared.kernel.Kernel.TheVariants.{Affine, Sum, Mean, Least, Greatest, Count, Delta, Minus, Angle, Hold}
+use Rattle.btr_hist.specs.declared.kernel.Kernel.TheVariants.{Affine, Sum, Mean, Least, Greatest, Count, Delta, Minus, Angle, Hold, Cell}
 use Rattle.btr_hist.specs.declared.kernel.Spec.{Spec}
 use Rattle.btr_hist.specs.declared.kernel.Reads.{Reads}
-use Rattle.btr_hist.specs.Kernel.{has_second, divides_well}
+use Rattle.btr_hist.specs.Kernel.{has_second, divides_well, window_kernel, windows_fit}
 use Rattle.btr_entry.specs.Grammar.{number, signed, kernel_bytes, one_or_two, spec_bytes, reads_bytes, KernelFits, IsSpec, AreVersions}
-use Rattle.btr_entry.proofs.NumberLemmas.{IsWide, number_once, wide32, wide64, signed_once, length-signed}
+use Rattle.btr_entry.proofs.NumberLemmas.{IsWide, same_parts, number_once, wide32, wide64, signed_once, length-signed}
 use Rattle.btr_entry.proofs.FrameLemmas.{heads, tails}
 
 -- ---- kernels
 
--- The kernel with a number, if the number is not that of `Affine`.
-abbrev plain : ℕ → Kernel
-plain n = get_or (Sum ∷ Sum ∷ Sum ∷ Mean ∷ Least ∷ Greatest ∷ Count ∷ Delta ∷ Minus ∷ Angle ∷ Hold ∷ []) n Sum
+-- The kernel with a number, if the number is not that of `Affine`, and the bytes after the number.
+abbrev plain : ℕ → List ℕ → Kernel
+plain n bytes = get_or (Sum ∷ Sum ∷ Sum ∷ Mean ∷ Least ∷ Greatest ∷ Count ∷ Delta ∷ Minus ∷ Angle ∷ Hold ∷ Cell (get_or bytes 0 0) (get_or bytes 1 0) ∷ []) n Sum
+
+-- How many bytes follow the number of such a kernel.
+abbrev bytes_after : ℕ → ℕ
+bytes_after n = if nat_eq n 11 then 2 else 0
 
 -- The kernel is `Affine` with these numbers.
 record IsAffine (k : Kernel) : Type 0 where
@@ -27,25 +31,28 @@ record IsAffine (k : Kernel) : Type 0 where
   d : ℤ
   is : k ≡ Affine a b d
 
--- The kernel is another: its bytes are its number.
+-- The kernel is another: its bytes are its number, and no more than two after it.
 record IsPlain (k : Kernel) : Type 0 where
   code : ℕ
+  after : List ℕ
   least : 2 ≤ code
-  greatest : code ≤ 10
-  bytes : kernel_bytes k ≡ code ∷ []
-  is : plain code ≡ k
+  long : length after ≡ bytes_after code
+  few : length after ≤ 2
+  bytes : kernel_bytes k ≡ code ∷ after
+  is : plain code after ≡ k
 
 kind : (k : Kernel) → IsAffine k ⊎ IsPlain k
 kind (Affine a b d) = inl (record { a = a; b = b; d = d; is = refl })
-kind Sum = inr (record { code = 2; least = lit≤ tt; greatest = lit≤ tt; bytes = refl; is = refl })
-kind Mean = inr (record { code = 3; least = lit≤ tt; greatest = lit≤ tt; bytes = refl; is = refl })
-kind Least = inr (record { code = 4; least = lit≤ tt; greatest = lit≤ tt; bytes = refl; is = refl })
-kind Greatest = inr (record { code = 5; least = lit≤ tt; greatest = lit≤ tt; bytes = refl; is = refl })
-kind Count = inr (record { code = 6; least = lit≤ tt; greatest = lit≤ tt; bytes = refl; is = refl })
-kind Delta = inr (record { code = 7; least = lit≤ tt; greatest = lit≤ tt; bytes = refl; is = refl })
-kind Minus = inr (record { code = 8; least = lit≤ tt; greatest = lit≤ tt; bytes = refl; is = refl })
-kind Angle = inr (record { code = 9; least = lit≤ tt; greatest = lit≤ tt; bytes = refl; is = refl })
-kind Hold = inr (record { code = 10; least = lit≤ tt; greatest = lit≤ tt; bytes = refl; is = refl })
+kind Sum = inr (record { code = 2; after = []; least = lit≤ tt; long = refl; few = lit≤ tt; bytes = refl; is = refl })
+kind Mean = inr (record { code = 3; after = []; least = lit≤ tt; long = refl; few = lit≤ tt; bytes = refl; is = refl })
+kind Least = inr (record { code = 4; after = []; least = lit≤ tt; long = refl; few = lit≤ tt; bytes = refl; is = refl })
+kind Greatest = inr (record { code = 5; after = []; least = lit≤ tt; long = refl; few = lit≤ tt; bytes = refl; is = refl })
+kind Count = inr (record { code = 6; after = []; least = lit≤ tt; long = refl; few = lit≤ tt; bytes = refl; is = refl })
+kind Delta = inr (record { code = 7; after = []; least = lit≤ tt; long = refl; few = lit≤ tt; bytes = refl; is = refl })
+kind Minus = inr (record { code = 8; after = []; least = lit≤ tt; long = refl; few = lit≤ tt; bytes = refl; is = refl })
+kind Angle = inr (record { code = 9; after = []; least = lit≤ tt; long = refl; few = lit≤ tt; bytes = refl; is = refl })
+kind Hold = inr (record { code = 10; after = []; least = lit≤ tt; long = refl; few = lit≤ tt; bytes = refl; is = refl })
+kind (Cell which p) = inr (record { code = 11; after = which ∷ p ∷ []; least = lit≤ tt; long = refl; few = lit≤ tt; bytes = refl; is = refl })
 
 -- The bytes of `Affine`, with more bytes after them.
 affine_bytes : (k : Kernel) (h : IsAffine k) (x : List ℕ) → kernel_bytes k ++ x ≡ 1 ∷ (signed h.a ++ (signed h.b ++ (signed h.d ++ x)))
@@ -53,7 +60,7 @@ affine_bytes k h x =
     ap (λ (l : Kernel). kernel_bytes l ++ x) h.is ∙ ap (λ (l : List ℕ). 1 ∷ l) (append_assoc (signed h.a) (signed h.b ++ signed h.d) x ∙ ap (λ (l : List ℕ). signed h.a ++ l) (append_assoc (signed h.b) (signed h.d) x))
 
 -- The bytes of another kernel, with more bytes after them.
-plain_bytes : (k : Kernel) (h : IsPlain k) (x : List ℕ) → kernel_bytes k ++ x ≡ h.code ∷ x
+plain_bytes : (k : Kernel) (h : IsPlain k) (x : List ℕ) → kernel_bytes k ++ x ≡ h.code ∷ (h.after ++ x)
 plain_bytes k h x = ap (λ (l : List ℕ). l ++ x) h.bytes
 
 affine_once : (k l : Kernel) (x y : List ℕ) (h : IsAffine k) (j : IsAffine l) → KernelFits k → KernelFits l → kernel_bytes k ++ x ≡ kernel_bytes l ++ y → (k ≡ l) × (x ≡ y)
@@ -69,12 +76,14 @@ affine_once k l x y h j k_fits l_fits same =
 plain_once : (k l : Kernel) (x y : List ℕ) (h : IsPlain k) (j : IsPlain l) → kernel_bytes k ++ x ≡ kernel_bytes l ++ y → (k ≡ l) × (x ≡ y)
 plain_once k l x y h j same =
     let both = sym (plain_bytes k h x) ∙ same ∙ plain_bytes l j y in
-    (sym h.is ∙ ap plain (heads h.code j.code x y both) ∙ j.is, tails h.code j.code x y both)
+    let code = heads h.code j.code (h.after ++ x) (j.after ++ y) both in
+    let parts = same_parts h.after j.after x y (h.long ∙ ap bytes_after code ∙ sym j.long) (tails h.code j.code (h.after ++ x) (j.after ++ y) both) in
+    (sym h.is ∙ (λ i. plain (code i) (parts.0 i)) ∙ j.is, parts.1)
 
 -- `Affine` and another kernel have other bytes.
 apart : (k l : Kernel) (x y : List ℕ) (h : IsAffine k) (j : IsPlain l) → kernel_bytes k ++ x ≡ kernel_bytes l ++ y → ⊥
 apart k l x y h j same =
-    omega (arith, j.least, heads 1 j.code (signed h.a ++ (signed h.b ++ (signed h.d ++ x))) y (sym (affine_bytes k h x) ∙ same ∙ plain_bytes l j y))
+    omega (arith, j.least, heads 1 j.code (signed h.a ++ (signed h.b ++ (signed h.d ++ x))) (j.after ++ y) (sym (affine_bytes k h x) ∙ same ∙ plain_bytes l j y))
 
 -- The bytes determine the kernel.
 pub kernel_once : (k l : Kernel) (x y : List ℕ) → KernelFits k → KernelFits l → kernel_bytes k ++ x ≡ kernel_bytes l ++ y → (k ≡ l) × (x ≡ y)
@@ -97,7 +106,19 @@ short_affine after short k rest same =
       | inl h ↦
           let long = ap (length {A = ℕ}) (tails 1 1 after (signed h.a ++ (signed h.b ++ (signed h.d ++ rest))) (same ∙ affine_bytes k h rest)) in
           omega (arith, short, long, length-append (signed h.a) (signed h.b ++ (signed h.d ++ rest)), length-append (signed h.b) (signed h.d ++ rest), length-append (signed h.d) rest, length-signed h.a, length-signed h.b, length-signed h.d)
-      | inr h ↦ omega (arith, h.least, heads 1 h.code after rest (same ∙ plain_bytes k h rest))
+      | inr h ↦ omega (arith, h.least, heads 1 h.code after (h.after ++ rest) (same ∙ plain_bytes k h rest))
+    ]
+
+-- The number 11 and fewer bytes than two are no kernel's.
+pub short_cell : (after : List ℕ) → length after < 2 → (k : Kernel) (rest : List ℕ) → 11 ∷ after ≡ kernel_bytes k ++ rest → ⊥
+short_cell after short k rest same =
+    elim (kind k) [
+      | inl h ↦ omega (arith, heads 11 1 after (signed h.a ++ (signed h.b ++ (signed h.d ++ rest))) (same ∙ affine_bytes k h rest))
+      | inr h ↦
+          let both = same ∙ plain_bytes k h rest in
+          let long = ap (length {A = ℕ}) (tails 11 h.code after (h.after ++ rest) both) in
+          let two : length h.after ≡ 2 = h.long ∙ ap bytes_after (sym (heads 11 h.code after (h.after ++ rest) both)) in
+          omega (arith, short, long, two, length-append h.after rest)
     ]
 
 pub length-affine : (a b d : ℤ) → length (kernel_bytes (Affine a b d)) ≡ 25
@@ -108,7 +129,7 @@ pub length-kernel : (k : Kernel) → length (kernel_bytes k) ≤ 25
 length-kernel k =
     elim (kind k) [
       | inl h ↦ omega (arith, ap (λ (l : Kernel). length (kernel_bytes l)) h.is, length-affine h.a h.b h.d)
-      | inr h ↦ omega (arith, ap (length {A = ℕ}) h.bytes)
+      | inr h ↦ omega (arith, h.few, ap (length {A = ℕ}) h.bytes)
     ]
 
 -- ---- one number or two
@@ -183,9 +204,10 @@ length-spec s =
 -- The numbers of a good spec fit in their bytes.
 pub good_lead : (s : Spec) → IsSpec s → s.lead < 2 ^ 64
 good_lead s h =
-    let parts = and_parts (if has_second s.kernel then is_some s.second else not (is_some s.second)) (divides_well s.kernel && (nat_le s.lead (2 ^ 60) && nat_le s.grain 62)) h.good in
-    let last = and_parts (divides_well s.kernel) (nat_le s.lead (2 ^ 60) && nat_le s.grain 62) parts.1 in
-    let lead = (and_parts (nat_le s.lead (2 ^ 60)) (nat_le s.grain 62) last.1).0 in
+    let windows = nat_le s.grain 62 && windows_fit (window_kernel s.kernel) s.lead in
+    let parts = and_parts (if has_second s.kernel then is_some s.second else not (is_some s.second)) (divides_well s.kernel && (nat_le s.lead (2 ^ 60) && windows)) h.good in
+    let last = and_parts (divides_well s.kernel) (nat_le s.lead (2 ^ 60) && windows) parts.1 in
+    let lead = (and_parts (nat_le s.lead (2 ^ 60)) windows last.1).0 in
     grind (arith, nat_tests)
 
 -- The bytes after the lead of a spec, and those after its kernel, with more bytes after them.

@@ -1,16 +1,16 @@
 -- Lemmas on the spellings of entries: their parts, their length, and that an entry has one spelling.
-use Rattle.std.proofs.Common.{◌≡◌, ℕ, ◌+◌, ◌*◌, ◌<◌, ◌^◌, List, [], ◌∷◌, ◌++◌, length, refl, sym, ap, ◌∙◌, arith, append_assoc, length-append}
+use Rattle.std.proofs.Common.{◌≡◌, ℕ, ◌+◌, ◌*◌, ◌<◌, ◌≤◌, ◌^◌, List, [], ◌∷◌, ◌++◌, length, refl, sym, ap, ◌∙◌, arith, append_assoc, length-append}
 use Rattle.std.specs.Int.{w32, w64, w128}
 use Rattle.std.proofs.lemmas.List.{append-nil}
-use Rattle.btr_base.specs.declared.limits.TheConstants.{MAX_COMMIT_POINTS, MAX_COMMIT_RANGES, MAX_POINTS}
+use Rattle.btr_base.specs.declared.limits.TheConstants.{MAX_COMMIT_POINTS, MAX_COMMIT_RANGES, MAX_POINTS, MAX_VERSIONS}
 use Rattle.btr_base.specs.declared.point.Point.{Point}
 use Rattle.btr_base.specs.Range.{RangeValue}
 use Rattle.btr_hist.specs.declared.entry.Entry.{Entry}
-use Rattle.btr_hist.specs.declared.entry.Entry.TheVariants.{Create, Commit, Define, Distillate}
+use Rattle.btr_hist.specs.declared.entry.Entry.TheVariants.{Create, Commit, Define, Distillate, Retire}
 use Rattle.btr_hist.specs.declared.kernel.Spec.{Spec}
 use Rattle.btr_hist.specs.declared.kernel.Reads.{Reads}
 use Rattle.btr_entry.specs.Grammar.{number, range, point, listed, spec_bytes, reads_bytes, spelling}
-use Rattle.btr_entry.specs.Grammar.{IsCommit, IsOutput, AreVersions, IsDistilled, IsSpelled, IsEntry}
+use Rattle.btr_entry.specs.Grammar.{IsCommit, IsOutput, AreVersions, IsDistilled, IsRetirement, IsSpelled, IsEntry}
 use Rattle.btr_entry.specs.Fields.{AreAddable, IsChange}
 use Rattle.btr_entry.proofs.NumberLemmas.{number_once, wide32, wide64, wide128}
 use Rattle.btr_entry.proofs.FrameLemmas.{heads, tails}
@@ -34,6 +34,10 @@ pub length-distillate : (stream : ℕ) (cut : List RangeValue) (added : List Poi
 length-distillate stream cut added r =
     omega (arith, length-append (number w32 stream) (reads_bytes r ++ (listed range cut ++ listed point added)), length-append (reads_bytes r) (listed range cut ++ listed point added), wide32.len stream, length-change cut added)
 
+pub length-retirement : (stream first : ℕ) → 13 ≡ length (spelling (Retire stream first))
+length-retirement stream first =
+    omega (arith, length-append (number w32 stream) (number w64 first), wide32.len stream, wide64.len first)
+
 -- The spelling of an entry is shorter than 2^39 bytes.
 pub length-spelling : (e : Entry) → IsSpelled e → length (spelling e) < 2 ^ 39
 length-spelling (Create id) is = omega (arith, length-create id)
@@ -43,6 +47,7 @@ length-spelling (Define id s) is =
     omega (arith, length-define id s, length-spec s, length-kernel s.kernel, length-numbers w32 (2 ^ 32) wide32 s.first s.second)
 length-spelling (Distillate stream cut added r) is =
     omega (arith, is.bounded.few_ranges, is.bounded.few_points, length-distillate stream cut added r, length-numbers w64 (2 ^ 64) wide64 r.first r.second)
+length-spelling (Retire stream first) is = omega (arith, length-retirement stream first)
 
 -- ---- the first byte
 
@@ -52,6 +57,7 @@ first_byte (Create id) = 1
 first_byte (Commit stream cut added) = 2
 first_byte (Define id s) = 3
 first_byte (Distillate stream cut added r) = 4
+first_byte (Retire stream first) = 5
 
 pub first_is : (n : ℕ) (bytes : List ℕ) (e : Entry) → n ∷ bytes ≡ spelling e → n ≡ first_byte e
 first_is n bytes (Create id) same = heads n 1 bytes (number w128 id) same
@@ -59,6 +65,7 @@ first_is n bytes (Commit stream cut added) same = heads n 2 bytes (number w32 st
 first_is n bytes (Define id s) same = heads n 3 bytes (number w128 id ++ spec_bytes s) same
 first_is n bytes (Distillate stream cut added r) same =
     heads n 4 bytes (number w32 stream ++ (reads_bytes r ++ (listed range cut ++ listed point added))) same
+first_is n bytes (Retire stream first) same = heads n 5 bytes (number w32 stream ++ number w64 first) same
 
 first_same : (e f : Entry) → spelling e ≡ spelling f → first_byte e ≡ first_byte f
 first_same (Create id) f same = first_is 1 (number w128 id) f same
@@ -66,6 +73,7 @@ first_same (Commit stream cut added) f same = first_is 2 (number w32 stream ++ l
 first_same (Define id s) f same = first_is 3 (number w128 id ++ spec_bytes s) f same
 first_same (Distillate stream cut added r) f same =
     first_is 4 (number w32 stream ++ (reads_bytes r ++ (listed range cut ++ listed point added))) f same
+first_same (Retire stream first) f same = first_is 5 (number w32 stream ++ number w64 first) f same
 
 -- ---- creates
 
@@ -184,6 +192,35 @@ after_reads bytes h n rest r after fits is versions reads_are =
     let once = reads_once r h.reads after (listed range h.cut ++ listed point h.added) versions h.is_distilled.bounded.versions (sym reads_are ∙ after_stream bytes h n rest fits is) in
     change_from_distillate h.stream h.cut h.added h.reads after h.is_distilled once.1
 
+-- ---- retirements
+
+-- The retirement that bytes after the first byte 5 spell.
+pub record RetirementOf (bytes : List ℕ) : Type 0 where
+  pub stream : ℕ
+  pub first : ℕ
+  pub is_retirement : IsRetirement stream first
+  pub parts : bytes ≡ number w32 stream ++ number w64 first
+
+pub retirement_from_entry : (bytes : List ℕ) (e : Entry) → IsEntry (5 ∷ bytes) e → RetirementOf bytes
+retirement_from_entry bytes (Retire stream first) h = record {
+  stream = stream;
+  first = first;
+  is_retirement = h.is_spelled;
+  parts = tails 5 5 bytes (number w32 stream ++ number w64 first) h.bytes_are;
+}
+retirement_from_entry bytes e h = absurd (omega (arith, first_is 5 bytes e h.bytes_are))
+
+-- After the stream that was read follows the first version.
+pub after_retired_stream : (bytes : List ℕ) (h : RetirementOf bytes) (n : ℕ) (rest : List ℕ) → n < 2 ^ 32 → bytes ≡ number w32 n ++ rest → rest ≡ number w64 h.first
+after_retired_stream bytes h n rest fits is =
+    (number_once w32 (2 ^ 32) wide32 n h.stream rest (number w64 h.first) fits h.is_retirement.stream_fits (sym is ∙ h.parts)).1
+
+-- The version that was read is that of the retirement, and after it nothing follows.
+pub after_first : (bytes : List ℕ) (h : RetirementOf bytes) (n : ℕ) (rest : List ℕ) (version : ℕ) (after : List ℕ) → n < 2 ^ 32 → bytes ≡ number w32 n ++ rest → version ≤ MAX_VERSIONS → rest ≡ number w64 version ++ after → (version ≡ h.first) × (after ≡ [])
+after_first bytes h n rest version after fits is low version_is =
+    let few = h.is_retirement.bounded.few in
+    number_once w64 (2 ^ 64) wide64 version h.first after [] (omega arith) (omega arith) (sym version_is ∙ after_retired_stream bytes h n rest fits is ∙ sym (append-nil (number w64 h.first)))
+
 -- ---- one spelling
 
 same_id : (a b : ℕ) → a < 2 ^ 128 → b < 2 ^ 128 → number w128 a ≡ number w128 b → a ≡ b
@@ -209,6 +246,14 @@ same_distillate s t cut other a b r q h k same =
     let changes = change_once (2 ^ 34) MAX_POINTS (omega arith) (omega arith) (listed range cut ++ listed point a) cut other a b (change_from_distillate s cut a r (listed range cut ++ listed point a) h refl) (change_from_distillate t other b q (listed range cut ++ listed point a) k two.1) in
     (one.0, changes.0, changes.1, two.0)
 
+same_retirement : (s t first other : ℕ) → IsRetirement s first → IsRetirement t other → number w32 s ++ number w64 first ≡ number w32 t ++ number w64 other → (s ≡ t) × (first ≡ other)
+same_retirement s t first other h k same =
+    let one = number_once w32 (2 ^ 32) wide32 s t (number w64 first) (number w64 other) h.stream_fits k.stream_fits same in
+    let few = h.bounded.few in
+    let few_other = k.bounded.few in
+    let two = number_once w64 (2 ^ 64) wide64 first other [] [] (omega arith) (omega arith) (append-nil (number w64 first) ∙ one.1 ∙ sym (append-nil (number w64 other))) in
+    (one.0, two.0)
+
 pub same_entry : (e f : Entry) → IsSpelled e → IsSpelled f → spelling e ≡ spelling f → e ≡ f
 same_entry (Create a) (Create b) h k same = ap Create (same_id a b h k (tails 1 1 (number w128 a) (number w128 b) same))
 same_entry (Commit s cut a) (Commit t other b) h k same =
@@ -220,4 +265,7 @@ same_entry (Define a s) (Define b t) h k same =
 same_entry (Distillate s cut a r) (Distillate t other b q) h k same =
     let parts = same_distillate s t cut other a b r q h k (tails 4 4 (number w32 s ++ (reads_bytes r ++ (listed range cut ++ listed point a))) (number w32 t ++ (reads_bytes q ++ (listed range other ++ listed point b))) same) in
     λ i. Distillate (parts.0 i) (parts.1 i) (parts.2 i) (parts.3 i)
+same_entry (Retire s first) (Retire t other) h k same =
+    let parts = same_retirement s t first other h k (tails 5 5 (number w32 s ++ number w64 first) (number w32 t ++ number w64 other) same) in
+    λ i. Retire (parts.0 i) (parts.1 i)
 same_entry e f h k same = absurd (omega (arith, first_same e f same))

@@ -9,9 +9,9 @@ use Rattle.btr_base.specs.Point.{AreInDomain}
 use Rattle.btr_base.specs.Range.{RangeValue, IsCut}
 use Rattle.btr_base.specs.Bag.{IsInOrder}
 use Rattle.btr_hist.specs.declared.entry.Entry.{Entry}
-use Rattle.btr_hist.specs.declared.entry.Entry.TheVariants.{Create, Commit, Define, Distillate}
+use Rattle.btr_hist.specs.declared.entry.Entry.TheVariants.{Create, Commit, Define, Distillate, Retire}
 use Rattle.btr_hist.specs.declared.kernel.Kernel.{Kernel}
-use Rattle.btr_hist.specs.declared.kernel.Kernel.TheVariants.{Affine, Sum, Mean, Least, Greatest, Count, Delta, Minus, Angle, Hold}
+use Rattle.btr_hist.specs.declared.kernel.Kernel.TheVariants.{Affine, Sum, Mean, Least, Greatest, Count, Delta, Minus, Angle, Hold, Cell}
 use Rattle.btr_hist.specs.declared.kernel.Spec.{Spec}
 use Rattle.btr_hist.specs.declared.kernel.Reads.{Reads}
 use Rattle.btr_hist.specs.Kernel.{is_good}
@@ -38,7 +38,7 @@ point p = signed p.time ++ signed p.value
 abbrev pub listed : {X : Type 0} → (X → List ℕ) → List X → List ℕ
 listed item xs = number w64 (length xs) ++ flat_map item xs
 
--- A kernel: its number in one byte, and for `Affine` its three numbers.
+-- A kernel: its number in one byte, for `Affine` its three numbers, and for `Cell` its two numbers in one byte each.
 abbrev pub kernel_bytes : Kernel → List ℕ
 kernel_bytes (Affine a b d) = 1 ∷ (signed a ++ (signed b ++ signed d))
 kernel_bytes Sum = 2 ∷ []
@@ -50,6 +50,7 @@ kernel_bytes Delta = 7 ∷ []
 kernel_bytes Minus = 8 ∷ []
 kernel_bytes Angle = 9 ∷ []
 kernel_bytes Hold = 10 ∷ []
+kernel_bytes (Cell which p) = 11 ∷ which ∷ p ∷ []
 
 -- One or two numbers: how many they are, in one byte, then each in all the bytes of its width.
 abbrev pub one_or_two : Width → ℕ → Option ℕ → List ℕ
@@ -70,6 +71,7 @@ spelling (Create id) = 1 ∷ number w128 id
 spelling (Commit stream cut added) = 2 ∷ (number w32 stream ++ listed range cut ++ listed point added)
 spelling (Define id s) = 3 ∷ (number w128 id ++ spec_bytes s)
 spelling (Distillate stream cut added r) = 4 ∷ (number w32 stream ++ (reads_bytes r ++ (listed range cut ++ listed point added)))
+spelling (Retire stream first) = 5 ∷ (number w32 stream ++ number w64 first)
 
 -- ---- what has a spelling
 
@@ -92,7 +94,7 @@ pub record IsCommit (stream : ℕ) (cut : List RangeValue) (added : List Point) 
   pub values_fit : ValuesFit added
   pub bounded : IsBounded cut added
 
--- Each of the numbers of a kernel fits in eight bytes.
+-- Each of the numbers of `Affine` fits in eight bytes.
 abbrev pub KernelFits : Kernel → Type 0
 KernelFits (Affine a b d) = FitsSigned w64 a × FitsSigned w64 b × FitsSigned w64 d
 KernelFits kernel = Unit {0}
@@ -129,12 +131,23 @@ pub record IsDistilled (stream : ℕ) (cut : List RangeValue) (added : List Poin
   pub values_fit : ValuesFit added
   pub bounded : IsBoundedDistillate cut added r
 
+-- The version is one that a stream can have, after version 0.
+pub record IsFirstVersion (first : ℕ) : Type 0 where
+  pub some : 0 < first
+  pub few : first ≤ MAX_VERSIONS
+
+-- A retirement that has a spelling: the above, and what every value of its type is.
+pub record IsRetirement (stream first : ℕ) : Type 0 where
+  pub stream_fits : stream < 2 ^ 32
+  pub bounded : IsFirstVersion first
+
 -- An entry within the bounds, which its type alone does not ensure.
 abbrev pub IsWithinBounds : Entry → Type 0
 IsWithinBounds (Create id) = Unit {0}
 IsWithinBounds (Commit stream cut added) = IsBounded cut added
 IsWithinBounds (Define id s) = IsTrue (is_good s)
 IsWithinBounds (Distillate stream cut added r) = IsBoundedDistillate cut added r
+IsWithinBounds (Retire stream first) = IsFirstVersion first
 
 -- An entry that has a spelling.
 abbrev pub IsSpelled : Entry → Type 0
@@ -142,6 +155,7 @@ IsSpelled (Create id) = id < 2 ^ 128
 IsSpelled (Commit stream cut added) = IsCommit stream cut added
 IsSpelled (Define id s) = IsOutput id s
 IsSpelled (Distillate stream cut added r) = IsDistilled stream cut added r
+IsSpelled (Retire stream first) = IsRetirement stream first
 
 -- ---- the grammar
 

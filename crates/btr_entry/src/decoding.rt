@@ -4,7 +4,7 @@ ghost use Rattle.btr_entry.specs.Grammar.{IsEntry};
 
 use crate::fields::{read_id, read_u32};
 use crate::lists::read_change;
-use crate::reads_bytes::read_reads;
+use crate::reads_bytes::{read_reads, read_version};
 use crate::spec_bytes::read_spec;
 use btr_base::{MAX_COMMIT_POINTS, MAX_COMMIT_RANGES, MAX_POINTS};
 use btr_hist::{Entry, MAX_DISTILLATE_RANGES};
@@ -26,6 +26,7 @@ pub fn decode(alloc: Global, bytes: &[u8]) -> Result<Option<Entry>, AllocError>
         [2, rest @ ..] => read_commit(alloc, rest),
         [3, rest @ ..] => Ok(read_define(rest)),
         [4, rest @ ..] => read_distillate(alloc, rest),
+        [5, rest @ ..] => Ok(read_retirement(rest)),
         _ => Ok(None),
     }
 }
@@ -99,4 +100,20 @@ fn read_distillate(alloc: Global, bytes: &[u8]) -> Result<Option<Entry>, AllocEr
         added,
         reads,
     }))
+}
+
+/// Reads the rest of a retirement, after the first byte 5.
+fn read_retirement(bytes: &[u8]) -> Option<Entry>
+    ensures found { IfSome result (λ e. IsEntry (5 ∷ bytes.now) e) }
+    ensures none { IfNone result ((e : EntrySpec) → IsEntry (5 ∷ bytes.now) e → ⊥) }
+{
+    let (stream, rest) = read_u32(bytes)?;
+    let (first, rest) = read_version(rest)?;
+    if first == 0 {
+        return None;
+    }
+    if !rest.is_empty() {
+        return None;
+    }
+    Some(Entry::Retire { stream, first })
 }

@@ -5,7 +5,7 @@ ghost use Rattle.btr_base.specs.Bag.{IsInOrder};
 ghost use Rattle.btr_hist.specs.Kernel.{is_good};
 ghost use Rattle.btr_entry.specs.Grammar.{number, range, point, listed, spec_bytes, reads_bytes, spelling};
 ghost use Rattle.btr_entry.specs.Grammar.{IsBounded, IsBoundedDistillate, IsWithinBounds};
-ghost use Rattle.btr_entry.specs.Grammar.{IsCommit, IsOutput, IsDistilled, IsSpelled, ValuesFit};
+ghost use Rattle.btr_entry.specs.Grammar.{IsCommit, IsOutput, IsDistilled, IsFirstVersion, IsRetirement, IsSpelled, ValuesFit};
 
 use crate::fields::{put_byte, put_id, put_signed, put_u32, put_u64};
 use crate::reads_bytes::{put_reads, reads_length};
@@ -25,8 +25,8 @@ pub fn append_entry(out: &mut Vec<u8>, entry: &Entry) -> Result<(), AllocError>
     append_points(out, points)
 }
 
-/// Appends the spelling of an entry up to its points, and returns the points, whose bytes are the rest of it: none if the entry makes a
-/// stream. It takes time linear in the ranges of the cut. An `Err` means out of memory, and a part may have been appended.
+/// Appends the spelling of an entry up to its points, and returns the points, whose bytes are the rest of it: none if the entry is no
+/// commit. It takes time linear in the ranges of the cut. An `Err` means out of memory, and a part may have been appended.
 pub fn append_before_points<'a>(
     out: &mut Vec<u8>,
     entry: &'a Entry,
@@ -45,6 +45,7 @@ pub fn append_before_points<'a>(
             added,
             reads,
         } => return put_distillate(out, *stream, cut, added, reads),
+        Entry::Retire { stream, first } => put_retirement(out, *stream, *first)?,
     }
     Ok(&[])
 }
@@ -84,6 +85,7 @@ pub fn spelling_length(entry: &Entry) -> u64
             let points = added.as_slice().len();
             21 + reads_length(reads) + 16 * (ranges as u64 + points as u64)
         }
+        Entry::Retire { .. } => 13,
     }
 }
 
@@ -142,6 +144,17 @@ fn put_distillate<'a>(
     put_reads(out, reads)?;
     put_ranges(out, cut.as_slice())?;
     put_count(out, added)
+}
+
+/// Appends the spelling of a retirement.
+fn put_retirement(out: &mut Vec<u8>, stream: u32, first: u64) -> Result<(), AllocError>
+    requires { IsFirstVersion first }
+    ensures bytes { OnOk result (out.new.items ≡ out.old.items ++ 5 ∷ (number w32 stream ++ number w64 first)) }
+    ensures spelled { OnOk result (IsRetirement stream first) }
+{
+    put_byte(out, 5)?;
+    put_u32(out, stream)?;
+    put_u64(out, first)
 }
 
 /// Appends the number of points, and returns the points.

@@ -70,7 +70,7 @@ pub fn read_reads(bytes: &[u8]) -> Option<(Reads, &[u8])>
 
 /// Reads a version from the first eight bytes, and returns it with the bytes after it. Returns `None` if there are fewer,
 /// or no stream can have this version.
-fn read_version(bytes: &[u8]) -> Option<(u64, &[u8])>
+pub fn read_version(bytes: &[u8]) -> Option<(u64, &[u8])>
     ensures some { IfSome result (λ x. bytes.now ≡ number w64 x.0 ++ x.1.now) }
     ensures fits { IfSome result (λ x. x.0 ≤ MAX_VERSIONS) }
     ensures none { IfNone result ((n : ℕ) (rest : List ℕ) → n ≤ MAX_VERSIONS → bytes.now ≡ number w64 n ++ rest → ⊥) }

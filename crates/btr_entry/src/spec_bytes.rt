@@ -34,6 +34,7 @@ fn kernel_length(kernel: Kernel) -> u64
         | Kernel::Minus
         | Kernel::Angle
         | Kernel::Hold => 1,
+        Kernel::Cell { .. } => 3,
     }
 }
 
@@ -60,7 +61,7 @@ pub fn put_spec(out: &mut Vec<u8>, spec: &Spec) -> Result<(), AllocError>
     put_inputs(out, spec.first, spec.second)
 }
 
-/// Appends the number of a kernel, and the numbers of `Affine`.
+/// Appends the number of a kernel, and the numbers of `Affine` or of `Cell`.
 fn put_kernel(out: &mut Vec<u8>, kernel: Kernel) -> Result<(), AllocError>
     ensures bytes { OnOk result (out.new.items ≡ out.old.items ++ kernel_bytes kernel) }
     ensures fits { OnOk result (KernelFits kernel) }
@@ -71,6 +72,11 @@ fn put_kernel(out: &mut Vec<u8>, kernel: Kernel) -> Result<(), AllocError>
             put_signed(out, a)?;
             put_signed(out, b)?;
             put_signed(out, d)
+        }
+        Kernel::Cell { which, p } => {
+            put_byte(out, 11)?;
+            put_byte(out, which)?;
+            put_byte(out, p)
         }
         _ => put_byte(out, kernel_number(kernel)),
     }
@@ -91,6 +97,7 @@ fn kernel_number(kernel: Kernel) -> u8
         Kernel::Minus => 8,
         Kernel::Angle => 9,
         Kernel::Hold => 10,
+        Kernel::Cell { .. } => 11,
     }
 }
 
@@ -155,6 +162,7 @@ fn read_kernel(bytes: &[u8]) -> Option<(Kernel, &[u8])>
         8 => Some((Kernel::Minus, rest)),
         9 => Some((Kernel::Angle, rest)),
         10 => Some((Kernel::Hold, rest)),
+        11 => read_cell(rest),
         _ => None,
     }
 }
@@ -173,6 +181,22 @@ fn read_affine(bytes: &[u8]) -> Option<(Kernel, &[u8])>
     let (b, rest) = read_i64(rest);
     let (d, rest) = read_i64(rest);
     Some((Kernel::Affine { a, b, d }, rest))
+}
+
+/// Reads the two numbers of `Cell`, and returns the kernel with the bytes after them. Returns `None` if there are fewer
+/// bytes.
+fn read_cell(bytes: &[u8]) -> Option<(Kernel, &[u8])>
+    ensures some { IfSome result (λ x. 11 ∷ bytes.now ≡ kernel_bytes x.0 ++ x.1.now) }
+    ensures fits { IfSome result (λ x. KernelFits x.0) }
+    ensures none { IfNone result (length bytes.now < 2) }
+{
+    let (which, rest) = bytes.split_first()?;
+    let (p, rest) = rest.split_first()?;
+    let kernel = Kernel::Cell {
+        which: *which,
+        p: *p,
+    };
+    Some((kernel, rest))
 }
 
 /// Reads the number of inputs and the stream of each, and returns them with the bytes after them. Returns `None` if there

@@ -50,6 +50,7 @@ receipt_number h (entries.Create id) = refl
 receipt_number h (entries.Define id spec) = refl
 receipt_number h (entries.Commit stream cut added) = refl
 receipt_number h (entries.Distillate stream cut added reads) = refl
+receipt_number h (entries.Retire stream first) = refl
 
 module _ {D : Type 0} {disk : Ghosts D} where
   -- ---- the store after a step

@@ -52,6 +52,8 @@ named_or_want rejections.StreamExists = inr refl
 named_or_want rejections.StreamLimit = inr refl
 named_or_want rejections.NotWritable = inr refl
 named_or_want rejections.BadSpec = inr refl
+named_or_want (rejections.BadFirst first present last) = inr refl
+named_or_want (rejections.Held output version) = inr refl
 named_or_want (rejections.OutOfDomain time) = inr refl
 named_or_want rejections.Empty = inr refl
 named_or_want (rejections.TooMany count) = inr refl
@@ -132,6 +134,8 @@ module _ {D : Type 0} {disk : Ghosts D} where
   lands_rejected s t p added rejections.StreamLimit adds current = (Err (steps.Rejected rejections.StreamLimit), adds, current, refl)
   lands_rejected s t p added rejections.NotWritable adds current = (Err (steps.Rejected rejections.NotWritable), adds, current, refl)
   lands_rejected s t p added rejections.BadSpec adds current = (Err (steps.Rejected rejections.BadSpec), adds, current, refl)
+  lands_rejected s t p added (rejections.BadFirst least present last) adds current = (Err (steps.Rejected (rejections.BadFirst least present last)), adds, current, refl)
+  lands_rejected s t p added (rejections.Held output version) adds current = (Err (steps.Rejected (rejections.Held output version)), adds, current, refl)
   lands_rejected s t p added (rejections.OutOfDomain time) adds current = (Err (steps.Rejected (rejections.OutOfDomain time)), adds, current, refl)
   lands_rejected s t p added rejections.Empty adds current = (Err (steps.Rejected rejections.Empty), adds, current, refl)
   lands_rejected s t p added (rejections.TooMany count) adds current = (Err (steps.Rejected (rejections.TooMany count)), adds, current, refl)
@@ -161,6 +165,8 @@ module _ {D : Type 0} {disk : Ghosts D} where
     rejected_replies rejections.StreamLimit now may says = absurd may
     rejected_replies rejections.NotWritable now may says = absurd may
     rejected_replies rejections.BadSpec now may says = absurd may
+    rejected_replies (rejections.BadFirst least present last) now may says = absurd may
+    rejected_replies (rejections.Held output version) now may says = absurd may
     rejected_replies (rejections.OutOfDomain time) now may says = absurd may
     rejected_replies rejections.Empty now may says = absurd may
     rejected_replies (rejections.TooMany count) now may says = absurd may
@@ -191,14 +197,14 @@ module _ {D : Type 0} {disk : Ghosts D} where
   said_item (Err (steps.DeviceFull need left)) e y = refl
   said_item (Err steps.DeviceFault) e y = refl
 
-  said_effect : (a b : Engine D disk) (result : Result Receipt StepFault) → HasResult a b result → HasResult a b (step_result (said_result result))
-  said_effect a b (Ok receipt) has = has
-  said_effect a b (Err (steps.Stopped entries)) has = has
-  said_effect a b (Err (steps.Rejected why)) has =
-      ⊎_elim (λ named. subst (λ f. HasResult a b (Err f)) (sym named) has) (λ want. subst (λ f. HasResult a b (Err (step_fault f))) (sym want) has) (named_or_want why)
-  said_effect a b (Err steps.Want) has = has
-  said_effect a b (Err (steps.DeviceFull need left)) has = has
-  said_effect a b (Err steps.DeviceFault) has = has
+  said_effect : (a b : Engine D disk) (e : Entry) (result : Result Receipt StepFault) → HasResult a b e result → HasResult a b e (step_result (said_result result))
+  said_effect a b e (Ok receipt) has = has
+  said_effect a b e (Err (steps.Stopped entries)) has = has
+  said_effect a b e (Err (steps.Rejected why)) has =
+      ⊎_elim (λ named. subst (λ f. HasResult a b e (Err f)) (sym named) has) (λ want. subst (λ f. HasResult a b e (Err (step_fault f))) (sym want) has) (named_or_want why)
+  said_effect a b e (Err steps.Want) has = has
+  said_effect a b e (Err (steps.DeviceFull need left)) has = has
+  said_effect a b e (Err steps.DeviceFault) has = has
 
   -- ---- the turn
 
@@ -219,7 +225,7 @@ module _ {D : Type 0} {disk : Ghosts D} where
           effect =
               let at : engine_of hall new ≡ engine_after x before = ap (engine_after x) still in
               let runs : is_stopped (engine_after x before) ≡ false = sym (ap (λ e. is_stopped e) (engine_at s before x of home)) ∙ passed.by.0 in
-              subst (λ r. HasResult (engine_after x before) (engine_of hall new) r) (sym nothing) (runs, at);
+              subst (λ r. HasResult (engine_after x before) (engine_of hall new) (entry_of p) r) (sym nothing) (runs, at);
           stopped = λ stopped h with_h.
               let here = ap (λ e. is_stopped e) (engine_at s before x of home) ∙ stopped_of_list x before of.trace ∙ stopped in
               absurd (not_both (is_stopped s.engine) here passed.by.0);
@@ -252,7 +258,7 @@ module _ {D : Type 0} {disk : Ghosts D} where
           trace = subst (IsTraceOf x) (sym is) (list_push x y before e did of.trace step);
           seen = is ∙ ap (λ o. before ++ option_to_list o) item;
           mine = new_mine hall old new s t before e did added of home adds seen mine ∙ ap (λ o. mine_of old ++ option_to_list o) number;
-          effect = subst (λ r. HasResult (engine_after x before) y (step_result r)) (sym stepped.is) (said_effect (engine_after x before) y did step.effect.has_result);
+          effect = subst (λ r. HasResult (engine_after x before) y e (step_result r)) (sym stepped.is) (said_effect (engine_after x before) y e did step.effect.has_result);
           stopped = λ stopped h with_h.
               stepped.is ∙ ap said_result (says_stopped h x y before e did with_h of.trace step stopped);
           replies = λ h with_h.

@@ -99,7 +99,7 @@ module _ {D : Type 0} {disk : Ghosts D} where
       let stepped : IsStepped h x engine.value entry.value trace.0.0 = trace.0.1.stepped h of in
       subst (λ k. IsEngineOf k (engine_after engine.value l)) (append_assoc h (entry.value ∷ []) (entries_in l)) (trace_engine (h ++ entry.value ∷ []) engine.value l stepped.of trace.1)
   trace_engine h x (Halted entry engine ∷ l) of trace =
-      let fault : CanStep h x entry.value × StopsByFault x engine.value = trace.0.cause h of in
+      let fault : CanStep h x entry.value × StopsByFault x engine.value entry.value = trace.0.cause h of in
       trace_engine h engine.value l (subst (IsBoardOf h) (sym fault.1.board) of) trace.1
 
   -- The engine at the end of a list is of its history.
@@ -115,10 +115,10 @@ module _ {D : Type 0} {disk : Ghosts D} where
       elim (is_stopped x) as (λ b. b ≡ (b || false)) [ true ↦ refl | false ↦ refl ]
   trace_stopped x (Earlier ∷ l) trace = absurd trace
   trace_stopped x (Added entry engine ∷ l) trace =
-      let adds : AddsOne x engine.value trace.0.0 = trace.0.1.effect.has_result in
+      let adds : AddsOne x engine.value entry.value trace.0.0 = trace.0.1.effect.has_result in
       trace_stopped engine.value l trace.1 ∙ ap (λ b. b || has_halt l) (adds.runs ∙ sym adds.ran)
   trace_stopped x (Halted entry engine ∷ l) trace =
-      let fault : (is_stopped x ≡ false) × StopsByFault x engine.value = trace.0.effect.has_result in
+      let fault : (is_stopped x ≡ false) × StopsByFault x engine.value entry.value = trace.0.effect.has_result in
       trace_stopped engine.value l trace.1 ∙ ap (λ b. b || has_halt l) fault.1.stopped ∙ sym (ap (λ b. b || true) fault.0)
 
   -- The engine at the end is stopped exactly if the first one was, or the device has failed since.
@@ -183,7 +183,7 @@ module _ {D : Type 0} {disk : Ghosts D} where
       let less = room_less (blocks_of x) (tail_of x) (need_of h entry.value) stepped.could.fits in
       omega (arith, next, room, less)
   trace_room h x (Halted entry engine ∷ l) of trace =
-      let fault : CanStep h x entry.value × StopsByFault x engine.value = trace.0.cause h of in
+      let fault : CanStep h x entry.value × StopsByFault x engine.value entry.value = trace.0.cause h of in
       let next = trace_room h engine.value l (subst (IsBoardOf h) (sym fault.1.board) of) trace.1 in
       let room : room_of engine.value ≡ room_of x = ap (λ b. left b (tail_of engine.value)) trace.0.kept.blocks ∙ ap (left (blocks_of x)) fault.1.tail in
       next ∙ room
@@ -204,7 +204,7 @@ module _ {D : Type 0} {disk : Ghosts D} where
       let next : IsAtRest (h ++ entry.value ∷ []) engine.value = trace.0.1.at_rest seen h rest in
       subst (λ k. IsAtRest k (engine_after engine.value l)) (append_assoc h (entry.value ∷ []) (entries_in l)) (trace_at_rest seen (h ++ entry.value ∷ []) engine.value l next trace.1 runs)
   trace_at_rest seen h x (Halted entry engine ∷ l) rest trace runs =
-      let fault : CanStep h x entry.value × StopsByFault x engine.value = trace.0.cause h rest.of in
+      let fault : CanStep h x entry.value × StopsByFault x engine.value entry.value = trace.0.cause h rest.of in
       let none = ends_stopped engine.value l fault.1.stopped trace.1 in
       let still : is_stopped engine.value ≡ false = sym (ap (λ m. is_stopped (engine_after engine.value m)) none) ∙ runs in
       absurd (not_both (is_stopped engine.value) fault.1.stopped still)
@@ -226,7 +226,7 @@ module _ {D : Type 0} {disk : Ghosts D} where
       let held : IsDurable (h ++ entry.value ∷ []) calls entries engine.value more = trace.0.1.durable seen h more calls entries rest durable in
       subst (λ k. IsDurable k calls entries (engine_after engine.value l) (in_flight_in more l)) (append_assoc h (entry.value ∷ []) (entries_in l)) (trace_durable seen (h ++ entry.value ∷ []) more calls entries engine.value l (λ _. next) held trace.1)
   trace_durable seen h more calls entries x (Halted entry engine ∷ l) rest durable trace =
-      let fault : CanStep h x entry.value × StopsByFault x engine.value = trace.0.cause h durable.of in
+      let fault : CanStep h x entry.value × StopsByFault x engine.value entry.value = trace.0.cause h durable.of in
       let held : IsDurable h calls entries engine.value (entry.value ∷ []) = trace.0.durable seen h more calls entries rest durable in
       trace_durable seen h (entry.value ∷ []) calls entries engine.value l (λ still. absurd (not_both (is_stopped engine.value) fault.1.stopped still)) held trace.1
 

@@ -14,6 +14,7 @@ use Rattle.btr_engine.specs.declared.travel.Ready.{Ready}
 use Rattle.btr_streams.specs.Board.{Kept}
 use Rattle.btr_engine.specs.Engine.{log_of, is_home}
 use Rattle.btr_engine.specs.Step.{IsStep, HasResult}
+use Rattle.btr_engine.specs.Raise.{raise_for, super_after}
 use Rattle.btr_engine.specs.Travel.{IsLike, IsReadyOn, IsStaged, IsWritten, HasFailed, HoldsNow, LeavesEntry}
 use Rattle.btr_engine.proofs.TravelLemmas.{HasMoments, StagesOn, written_step, failed_step}
 use Rattle.btr_gate.specs.declared.view.View.{View}
@@ -150,7 +151,7 @@ module _ {D : Type 0} {disk : Ghosts D} where
       like_two t.engine (engine_after x l) s.engine (subst (λ k. IsLike t.engine (engine_after x k)) same next.engine) (like_back s.engine (engine_after x l) of.engine)
 
   -- An entry that was refused adds nothing.
-  pub refused_adds : (s t : Store D disk) (e : Entry) (fault : StepFault) → IsStep s.engine t.engine e (Err fault) → HasResult s.engine s.engine (Err fault) → t.opening ≡ s.opening → t.halted ≡ s.halted → Adds s t e (Err fault) None
+  pub refused_adds : (s t : Store D disk) (e : Entry) (fault : StepFault) → IsStep s.engine t.engine e (Err fault) → HasResult s.engine s.engine e (Err fault) → t.opening ≡ s.opening → t.halted ≡ s.halted → Adds s t e (Err fault) None
   refused_adds s t e (Stopped n) step has opening halted = record { step = step; opening = ap (λ o. o.value) opening; halted = halted ∙ or_false s.halted; item = refl }
   refused_adds s t e (Rejected why) step has opening halted = record { step = step; opening = ap (λ o. o.value) opening; halted = halted ∙ or_false s.halted; item = refl }
   refused_adds s t e Want step has opening halted = record { step = step; opening = ap (λ o. o.value) opening; halted = halted ∙ or_false s.halted; item = refl }
@@ -160,11 +161,11 @@ module _ {D : Type 0} {disk : Ghosts D} where
   -- What `write` says of the device, if this is its result.
   abbrev pub HoldsIf : {A B : Type 0} → Log D disk → Log D disk → Entry → Ready → Result A B → Type 0
   HoldsIf l after e r written =
-      disk.is_observable → (h : List Entry) (b : Kept) (s : Super) → IsStaged h b (log_tail l) e r → HoldsNow h b s l
-      → OnOk written (HoldsNow (h ++ e ∷ []) r.staged.next s after)
+      disk.is_observable → (h : List Entry) (b : Kept) (s : Super) → IsStaged h b (log_tail l) e r → r.raise ≡ raise_for s e
+      → HoldsNow h b s l → OnOk written (HoldsNow (h ++ e ∷ []) r.staged.next (super_after s r.raise) after)
 
   -- The log is back: the store did the step that began in the turn in which it was at home.
-  pub brought_in : {A B : Type 0} → HasMoments disk → (s u t : Store D disk) (l : Log D disk) (e : Entry) (r : Ready) → IsLike u.engine s.engine → u.opening.value ≡ s.opening.value → u.halted ≡ s.halted → IsReadyOn s.engine e r → StagesOn s.engine e r → LeavesEntry (log_of s.engine) l e r → (written : Result A B) (result : Result Receipt StepFault) (added : Option (Item D disk)) → OnOk written (IsWritten (log_of s.engine) l r) → IfErr written (λ _. HasFailed (log_of s.engine) l) → HoldsIf (log_of s.engine) l e r written → Brings u t l r e written result added → Adds s t e result added
+  pub brought_in : {A B : Type 0} → HasMoments disk → (s u t : Store D disk) (l : Log D disk) (e : Entry) (r : Ready) → IsLike u.engine s.engine → u.opening.value ≡ s.opening.value → u.halted ≡ s.halted → IsReadyOn s.engine e r → StagesOn s.engine e r → LeavesEntry (log_of s.engine) l e r → (written : Result A B) (result : Result Receipt StepFault) (added : Option (Item D disk)) → OnOk written (IsWritten (log_of s.engine) l r) → IfErr written (λ _. HasFailed r.raise (log_of s.engine) l) → HoldsIf (log_of s.engine) l e r written → Brings u t l r e written result added → Adds s t e result added
   brought_in laws s u t l e r like opening halted on staged moments (Ok w) result added written failed holds b =
       let step = written_step laws s.engine u.engine t.engine l e r like on staged moments (Some b.0) b.0 refl written holds b.2 in
       record {

@@ -33,6 +33,7 @@ is_distillate (entries.Create id) = false
 is_distillate (entries.Define id spec) = false
 is_distillate (entries.Commit stream cut added) = false
 is_distillate (entries.Distillate stream cut added reads) = true
+is_distillate (entries.Retire stream first) = false
 
 -- The device failed in the step.
 abbrev pub has_failed : Result Receipt StepFault → Bool

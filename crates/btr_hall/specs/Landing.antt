@@ -77,7 +77,7 @@ module _ {D : Type 0} {disk : Ghosts D} where
     pub trace : IsTraceOf (opening_of hall) (seen_of new)
     pub seen : seen_of new ≡ before ++ option_to_list (item_by (step_result result) (entry_of p) (engine_of hall new))
     pub mine : mine_of new ≡ mine_of old ++ option_to_list (number_by (step_result result) (length (seen_of new)))
-    pub effect : HasResult (engine_after (opening_of hall) before) (engine_of hall new) (step_result result)
+    pub effect : HasResult (engine_after (opening_of hall) before) (engine_of hall new) (entry_of p) (step_result result)
     pub stopped : stopped_in (opening_of hall) before ≡ true
         → (h : List Entry) → IsEngineOf h (opening_of hall) → result ≡ Err (faults.Stopped (length (history_of h before)))
     pub replies : (h : List Entry) → IsEngineOf h (opening_of hall)

@@ -45,11 +45,11 @@ module _ {D : Type 0} {disk : Ghosts D} where
   trace_length x [] trace = omega arith
   trace_length x (Earlier ∷ l) trace = absurd trace
   trace_length x (Added entry engine ∷ l) trace =
-      let adds : AddsOne x engine.value trace.0.0 = trace.0.1.effect.has_result in
+      let adds : AddsOne x engine.value entry.value trace.0.0 = trace.0.1.effect.has_result in
       let next = trace_length engine.value l trace.1 in
       omega (arith, next, adds.entries)
   trace_length x (Halted entry engine ∷ l) trace =
-      let fault : (is_stopped x ≡ false) × StopsByFault x engine.value = trace.0.effect.has_result in
+      let fault : (is_stopped x ≡ false) × StopsByFault x engine.value entry.value = trace.0.effect.has_result in
       let none = ends_stopped engine.value l fault.1.stopped trace.1 in
       let same : entries_of engine.value ≡ entries_of x = ap (λ b. b.entries) fault.1.board in
       let after : entries_of (engine_after engine.value l) ≡ entries_of engine.value =

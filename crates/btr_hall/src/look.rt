@@ -1,6 +1,7 @@
 //! The turns that change nothing: snapshots, and questions about the store as it is.
-ghost use Rattle.std.specs.Prelude.{◌≡◌, List, IfOk};
+ghost use Rattle.std.specs.Prelude.{◌≡◌, List, slice_get, IfOk};
 ghost use Rattle.btr_hist.specs.declared.entry.Entry.{Entry as EntrySpec};
+ghost use Rattle.btr_hist.specs.History.{ids};
 ghost use Rattle.btr_hist.specs.Answer.{answer};
 ghost use Rattle.btr_engine.specs.Engine.{entries_of, is_stopped, IsEngineOf};
 ghost use Rattle.btr_streams.specs.Snapshot.{IsSnapshotOf};
@@ -74,6 +75,22 @@ impl<D: Disk> Session<D> {
     {
         let turn = hall.gate.enter(rt, &mut self.pass);
         let result = look_up(&turn.state.engine, id);
+        hall.gate.leave(&mut self.pass, turn);
+        result
+    }
+
+    /// Returns the id of a stream, if there is such a stream. The id of a stream never changes. It waits for a turn, takes logarithmic
+    /// time in it, and no memory.
+    pub fn id<R: Wait>(&mut self, rt: &R, hall: &Hall<D>, stream: u32) -> Option<u128>
+        requires session { IsSessionOf hall.now self.old }
+        ensures session { IsSessionOf hall.now self.new }
+        ensures looks { Looks hall.now self.old self.new }
+        ensures id { (h : List EntrySpec) → IsEngineOf h (opening_of hall.now)
+            → result ≡ slice_get (ids (history_of h (seen_of self.new))) stream }
+        ensures of { (h : List EntrySpec) → IsEngineOf h (engine_of hall.now self.new) → result ≡ slice_get (ids h) stream }
+    {
+        let turn = hall.gate.enter(rt, &mut self.pass);
+        let result = turn.state.engine.id(stream);
         hall.gate.leave(&mut self.pass, turn);
         result
     }

@@ -122,7 +122,7 @@ impl<D: Disk> Store<D> {
         requires out { is_home self.old.engine ≡ false }
         requires written { OnOk written
             (((e : EntrySpec) × IsReadyOn self.old.engine e ready) × IsWritten (log_of self.old.engine) log ready) }
-        requires failed { IfErr written (λ _. HasFailed (log_of self.old.engine) log) }
+        requires failed { IfErr written (λ _. HasFailed ready.raise (log_of self.old.engine) log) }
         ensures { Brings self.old self.new log ready entry.now written result.0 result.1 }
     {
         if let Err(_) = written {

@@ -1,7 +1,8 @@
-//! What the tests of several modules share: halls over devices in memory, paces by which turns meet, and the end of a table.
+//! What the tests of several modules share: halls over devices in memory, the spec of an output, paces by which turns meet, and tables.
 ghost use Rattle.std.specs.Prelude.{◌≡◌, ◌≤◌, true, IfOk};
 ghost use Rattle.btr_super.specs.Super.{first_super};
 ghost use Rattle.btr_engine.specs.Engine.{is_home};
+ghost use Rattle.btr_engine.specs.Raise.{IsFollowable};
 ghost use Rattle.btr_hall.specs.Session.{IsSessionOf, IsAlone};
 ghost use Rattle.btr_jobs.specs.Jobs.{IsAt};
 
@@ -9,6 +10,7 @@ use btr_base::Point;
 use btr_disk::{Capacity, MemDisk};
 use btr_engine::{Board, Engine, Receipt, StepFault};
 use btr_hall::{Hall, Session};
+use btr_hist::{Kernel, Spec};
 use btr_jobs::Pace;
 use btr_log::Log;
 use btr_super::Super;
@@ -44,6 +46,17 @@ pub(crate) fn points_of(alloc: Global, pairs: &[(i64, i64)]) -> Result<Vec<Point
     Ok(points)
 }
 
+/// The spec of an output of the sums of a stream over 10 ns.
+pub(crate) fn sums(first: u32) -> Spec {
+    Spec {
+        kernel: Kernel::Sum,
+        lead: 10,
+        grain: 0,
+        first,
+        second: None,
+    }
+}
+
 /// Returns an engine of no entries over a device of this many blocks. The calls of the device in the list fail.
 pub(crate) fn empty(
     alloc: Global,
@@ -66,7 +79,8 @@ pub(crate) fn empty(
 
 /// Returns the superblock of an empty store of this many blocks. The engines of these tests are not opened, so no device has it.
 pub(crate) fn first_super(blocks: u32) -> Super
-    ensures { result ≡ first_super blocks }
+    ensures first { result ≡ first_super blocks }
+    ensures followable { IsFollowable result }
 {
     Super {
         seq: 1,

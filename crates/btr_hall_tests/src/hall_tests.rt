@@ -9,14 +9,14 @@ ghost use Rattle.btr_hall.specs.Trace.{history_of};
 ghost use Rattle.btr_hall.specs.Session.{IsSessionOf, opening_of, seen_of, share_of};
 ghost use Rattle.btr_hall.specs.Commit.{is_distillate};
 
-use crate::fixture::{Place, Stepped, User, begun_empty, close, points_of};
+use crate::fixture::{Place, Stepped, User, begun_empty, close, points_of, sums};
 use btr_base::{Bag, Ranges};
 use btr_disk::{Disk, MemDisk};
 use btr_distil::Plan;
 use btr_engine::{Engine, Receipt, StepFault};
 use btr_entry::decode;
 use btr_hall::*;
-use btr_hist::{Answer, At, Entry, Kernel, Query, Rows, Spec};
+use btr_hist::{Answer, At, Entry, Query, Rejection, Rows, Spec};
 use btr_log::{Found, HEAD_BYTES, Log};
 use btr_plan::{Next, next_plan};
 use std::alloc::{AllocError, Global};
@@ -133,24 +133,18 @@ fn add_points<R: Threads + Wait + Sync>(
     Ok(commit(rt, alloc, hall, user, &entry).is_ok())
 }
 
-/// Makes a plain stream with three points, and an output of their sums over 10 ns. Returns whether all was accepted.
+/// Makes a plain stream with three points, and an output of this spec. Returns whether all was accepted.
 fn define<R: Threads + Wait + Sync>(
     rt: &R,
     alloc: Global,
     hall: &Place,
     user: &mut User,
+    spec: Spec,
 ) -> Result<bool, AllocError>
     requires { IsSessionOf hall.now user.old }
     ensures own { IsSessionOf hall.now user.new }
     ensures share { share_of user.new ≡ share_of user.old }
 {
-    let spec = Spec {
-        kernel: Kernel::Sum,
-        lead: 10,
-        grain: 0,
-        first: 0,
-        second: None,
-    };
     let is_created = commit(rt, alloc, hall, user, &Entry::Create { id: 7 }).is_ok();
     let is_added = add_points(rt, alloc, hall, user, &[(0, 10), (10, 20), (20, 30)])?;
     let is_defined = commit(rt, alloc, hall, user, &Entry::Define { id: 8, spec }).is_ok();
@@ -168,7 +162,7 @@ fn prepare<R: Threads + Wait + Sync>(
     ensures own { IsSessionOf hall.now user.new }
     ensures share { share_of user.new ≡ share_of user.old }
 {
-    let is_defined = define(rt, alloc, hall, user)?;
+    let is_defined = define(rt, alloc, hall, user, sums(0))?;
     let Some(plan) = plan_now(rt, alloc, hall, user, 1)? else {
         return Ok(false);
     };
@@ -263,6 +257,57 @@ fn a_plan_of_an_output_that_has_moved_is_superseded(rt: HostRuntime) -> Result<(
     assert!(rt; landed == Some((Ok(receipt), Err(superseded))));
     assert!(rt; found == Some((2, 4)));
     assert!(rt; entries == 6);
+    Ok(())
+}
+
+/// Returns the id of a stream. The helper says only what the tests need.
+fn id<R: Wait>(rt: &R, hall: &Place, user: &mut User, stream: u32) -> Option<u128>
+    requires { IsSessionOf hall.now user.old }
+    ensures own { IsSessionOf hall.now user.new }
+    ensures share { share_of user.new ≡ share_of user.old }
+{
+    user.id(rt, hall, stream)
+}
+
+/// What a user found: whether all was prepared, the results of two retirements of versions of the plain stream, and the ids of the
+/// streams 1 and 2.
+type Retired = (bool, Stepped, Stepped, Option<u128>, Option<u128>);
+
+/// Retires a version that the output holds, and one that it does not, in a new hall.
+fn retired<R: Threads + Wait + Sync>(rt: &R, alloc: Global) -> Result<(Retired, u64), Fail> {
+    let (hall, mut user) = begun_empty(alloc, 64, &[])?;
+    let is_prepared = prepare(rt, alloc, &hall, &mut user);
+    let second = Entry::Retire {
+        stream: 0,
+        first: 2,
+    };
+    let held = commit(rt, alloc, &hall, &mut user, &second);
+    let first = Entry::Retire {
+        stream: 0,
+        first: 1,
+    };
+    let done = commit(rt, alloc, &hall, &mut user, &first);
+    let known = id(rt, &hall, &mut user, 1);
+    let unknown = id(rt, &hall, &mut user, 2);
+    let engine = close(hall, user);
+    Ok(((is_prepared?, held, done, known, unknown), engine.entries()))
+}
+
+#[test]
+fn the_output_that_holds_a_version_has_its_id(rt: HostRuntime) -> Result<(), Fail> {
+    let ((is_prepared, held, done, known, unknown), entries) = retired(&rt, rt.alloc())?;
+    let why = Rejection::Held {
+        output: 1,
+        version: 1,
+    };
+    let receipt = Receipt {
+        number: 6,
+        stream: 0,
+        version: 0,
+    };
+    assert!(rt; is_prepared && held == Err(StepFault::Rejected(why)));
+    assert!(rt; done == Ok(receipt) && entries == 6);
+    assert!(rt; known == Some(8) && unknown.is_none());
     Ok(())
 }
 

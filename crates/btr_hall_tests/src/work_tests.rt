@@ -4,7 +4,7 @@ ghost use Rattle.btr_engine.specs.Engine.{is_home};
 ghost use Rattle.btr_hall.specs.Session.{IsAlone};
 ghost use Rattle.btr_jobs.specs.Jobs.{IsAt};
 
-use crate::fixture::{Meeting, begun, close, empty, no_wrong, points_of};
+use crate::fixture::{Meeting, begun, close, empty, no_wrong, points_of, sums};
 use btr_base::{Bag, Ranges};
 use btr_disk::MemDisk;
 use btr_engine::Engine;
@@ -26,17 +26,6 @@ fn add(alloc: Global, engine: &mut Engine<MemDisk>, entry: &Entry) -> Result<(),
     match engine.step(alloc, entry) {
         Ok(_) => Ok(()),
         Err(_) => Err("an entry was refused".into()),
-    }
-}
-
-/// The spec of an output of the sums of a stream over 10 ns.
-fn sums(first: u32) -> Spec {
-    Spec {
-        kernel: Kernel::Sum,
-        lead: 10,
-        grain: 0,
-        first,
-        second: None,
     }
 }
 

@@ -11,7 +11,7 @@ use Rattle.btr_base.specs.Point.{AreInDomain}
 use Rattle.btr_base.specs.Commit.{Change}
 use Rattle.btr_base.specs.Crowded.{crowded}
 use Rattle.btr_hist.specs.declared.entry.Entry.{Entry}
-use Rattle.btr_hist.specs.declared.entry.Entry.TheVariants.{Create, Commit, Define, Distillate}
+use Rattle.btr_hist.specs.declared.entry.Entry.TheVariants.{Create, Commit, Define, Distillate, Retire}
 use Rattle.btr_hist.specs.declared.kernel.Spec.{Spec}
 use Rattle.btr_hist.specs.declared.kernel.Reads.{Reads}
 use Rattle.btr_hist.specs.declared.rejection.Rejection.{Rejection}
@@ -110,6 +110,7 @@ change-accepted h (Distillate s cut added new) stream c accepted is =
     let d : Change = record { cut = cut; added = added } in
     let at = cond_some (s == stream) d c is in
     accepted-here h s stream d c (distillate-accepted h s d new accepted) (eqb-true s stream at.0) at.1
+change-accepted h (Retire s first) stream c accepted is = absurd (cc)
 
 -- ---- what is known of an accepted entry and an output
 
@@ -143,6 +144,7 @@ output-next h (Distillate s cut added new) stream spec c accepted output is =
       is = λ i. Distillate (same i) (at.1 i).cut (at.1 i).added new;
       may = subst (λ (o : Option Spec). takes_reads h stream o new ≡ true) output here;
     }
+output-next h (Retire s first) stream spec c accepted output is = absurd (cc)
 
 -- The entry makes an output with a good spec, whose inputs are streams.
 pub record IsDefined (h : List Entry) (spec : Spec) : Type 0 where
@@ -168,6 +170,7 @@ new-defined h (Define id s) spec accepted is =
     subst (λ x. IsDefined h x) same (define-accepted h id s accepted)
 new-defined h (Commit s cut added) spec accepted is = absurd (cc)
 new-defined h (Distillate s cut added new) spec accepted is = absurd (cc)
+new-defined h (Retire s first) spec accepted is = absurd (cc)
 
 -- An entry that makes a stream is no commit.
 pub new-silent : (e : Entry) (stream : ℕ) (kind : Option Spec) → new_kind e ≡ Some kind → change_of stream e ≡ None
@@ -175,3 +178,4 @@ new-silent (Create id) stream kind is = refl
 new-silent (Define id s) stream kind is = refl
 new-silent (Commit s cut added) stream kind is = absurd (cc)
 new-silent (Distillate s cut added new) stream kind is = absurd (cc)
+new-silent (Retire s first) stream kind is = absurd (cc)

@@ -14,7 +14,7 @@ use Rattle.btr_base.specs.Bag.{IsInOrder, outside, copies}
 use Rattle.btr_base.proofs.ListLemmas.{each-append, each-filter, get-append, get_back, get_last}
 use Rattle.btr_base.proofs.PointLemmas.{each-sort, sort-in_order, copies-sort, copies-append, copies-filter}
 use Rattle.btr_hist.specs.declared.entry.Entry.{Entry}
-use Rattle.btr_hist.specs.declared.entry.Entry.TheVariants.{Create, Commit, Define, Distillate}
+use Rattle.btr_hist.specs.declared.entry.Entry.TheVariants.{Create, Commit, Define, Distillate, Retire}
 use Rattle.btr_hist.specs.declared.kernel.Spec.{Spec}
 use Rattle.btr_hist.specs.declared.kernel.Reads.{Reads}
 use Rattle.btr_base.specs.Commit.{Change, after}
@@ -60,6 +60,7 @@ length-kinds (Create id ∷ h) = let rest = length-kinds h in omega arith
 length-kinds (Define id spec ∷ h) = let rest = length-kinds h in omega arith
 length-kinds (Commit s cut added ∷ h) = length-kinds h
 length-kinds (Distillate s cut added reads ∷ h) = length-kinds h
+length-kinds (Retire s first ∷ h) = length-kinds h
 
 pub streams-append : (h more : List Entry) → length (ids (h ++ more)) ≡ length (ids h) + length (ids more)
 streams-append h more = ap (length {A = ℕ}) (ids-append h more) ∙ length-append (ids h) (ids more)
@@ -86,6 +87,7 @@ length-recorded (Create id ∷ h) stream = length-recorded h stream
 length-recorded (Define id spec ∷ h) stream = length-recorded h stream
 length-recorded (Commit s cut added ∷ h) stream = recorded-more (s == stream) None (record { cut = cut; added = added }) (recorded h stream) (commits h stream) (length-recorded h stream)
 length-recorded (Distillate s cut added reads ∷ h) stream = recorded-more (s == stream) (Some reads) (record { cut = cut; added = added }) (recorded h stream) (commits h stream) (length-recorded h stream)
+length-recorded (Retire s first ∷ h) stream = length-recorded h stream
 
 -- What a version has read never changes.
 pub read_by-append : (h more : List Entry) (stream version : ℕ) → version ≤ latest h stream → read_by (h ++ more) stream version ≡ read_by h stream version
@@ -194,6 +196,7 @@ allowed-of_offered h (Create id) accepted = record { accepted = accepted; comput
 allowed-of_offered h (Define id spec) accepted = record { accepted = accepted; computed = tt }
 allowed-of_offered h (Commit s cut added) accepted = record { accepted = accepted; computed = tt }
 allowed-of_offered h (Distillate s cut added reads) accepted = absurd (cc)
+allowed-of_offered h (Retire s first) accepted = record { accepted = accepted; computed = tt }
 
 -- ---- histories of which each entry is accepted
 
@@ -243,6 +246,7 @@ accepted-other h (Commit s cut added) stream accepted past =
     other_stream h s stream (record { cut = cut; added = added }) past (when_none (nat_le (length (ids h)) s) NoStream (first_none _ _ accepted))
 accepted-other h (Distillate s cut added reads) stream accepted past =
     other_stream h s stream (record { cut = cut; added = added }) past (when_none (nat_le (length (ids h)) s) NoStream (first_none _ _ accepted))
+accepted-other h (Retire s first) stream accepted past = refl
 
 -- A number that is not that of a stream has no versions.
 pub unknown : (h : List Entry) (stream : ℕ) → Follows h → length (ids h) ≤ stream → latest h stream ≡ 0

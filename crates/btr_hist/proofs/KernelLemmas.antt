@@ -1,12 +1,13 @@
 -- Lemmas on the points of an output: filters by time, their order, number and values, and that a version may hold them.
 use Rattle.std.specs.Prelude.{◌≡◌, ℕ, ◌*◌, ◌≤◌, ℤ, pos, ◌+ℤ◌, ◌≤ℤ◌, ◌<ℤ◌, Bool, true, false, not, ◌&&◌}
-use Rattle.std.specs.Prelude.{List, [], ◌∷◌, length, Option, Some, None, cond, IsTrue}
+use Rattle.std.specs.Prelude.{List, [], ◌∷◌, length, map, Option, Some, None, cond, IsTrue}
 use Rattle.std.specs.List.{filter, cons_option, AllByRecursion}
 use Rattle.std.specs.Option.{option_map}
 use Rattle.std.specs.Ordering.{int_eq}
 use Rattle.std.proofs.Common.{zero, suc, refl, sym, ap, ◌∙◌, arith}
 use Rattle.std.proofs.lemmas.Int.{ints}
 use Rattle.std.proofs.lemmas.Bool.{le-ltb}
+use Rattle.std.proofs.lemmas.List.{length-map}
 use Rattle.btr_base.specs.declared.limits.TheConstants.{FIRST, END, MAX_POINTS}
 use Rattle.btr_base.specs.declared.point.Point.{Point}
 use Rattle.btr_base.specs.Point.{is_not_after, InDomain, AreInDomain}
@@ -20,21 +21,35 @@ use Rattle.btr_base.proofs.CrowdedLemmas.{HasRoom, crowded-none}
 use Rattle.btr_hist.specs.declared.kernel.Spec.{Spec}
 use Rattle.btr_hist.specs.declared.rejection.Rejection.{Rejection}
 use Rattle.btr_hist.specs.declared.rejection.Rejection.TheVariants.{Crowded, TooManyPoints}
-use Rattle.btr_hist.specs.Kernel.{anchors}
+use Rattle.btr_hist.specs.Kernel.{distinct, anchors}
 use Rattle.btr_hist.specs.Distil.{Inputs, value_of, points_from, kernel_points}
 use Rattle.btr_hist.specs.Legal.{first_some, when, points_rejection}
 
 -- ---- the distinct times
 
-pub each-anchors : (P : ℤ → Type 0) (b : List Point) → AllByRecursion (λ p. P p.time) b → AllByRecursion P (anchors b)
-each-anchors P [] h = tt
-each-anchors P (p ∷ b) h = (h.0, each-filter P (λ t. not (int_eq p.time t)) (anchors b) (each-anchors P b h.1))
+pub each-map : {A B : Type 0} (P : B → Type 0) (g : A → B) (xs : List A) → AllByRecursion (λ x. P (g x)) xs → AllByRecursion P (map g xs)
+each-map P g [] h = tt
+each-map P g (x ∷ xs) h = (h.0, each-map P g xs h.1)
 
-pub anchors-length : (b : List Point) → length (anchors b) ≤ length b
-anchors-length [] = omega arith
-anchors-length (p ∷ b) =
-    let fewer = length-filter (λ t. not (int_eq p.time t)) (anchors b) in
-    let rest = anchors-length b in
+pub each-distinct : (P : ℤ → Type 0) (ts : List ℤ) → AllByRecursion P ts → AllByRecursion P (distinct ts)
+each-distinct P [] h = tt
+each-distinct P (t ∷ ts) h = (h.0, each-filter P (λ u. not (int_eq t u)) (distinct ts) (each-distinct P ts h.1))
+
+pub each-anchors : (P : ℤ → Type 0) (b : List Point) → AllByRecursion (λ p. P p.time) b → AllByRecursion P (anchors b)
+each-anchors P b h = each-distinct P (map (λ p. p.time) b) (each-map P (λ p. p.time) b h)
+
+distinct-length : (ts : List ℤ) → length (distinct ts) ≤ length ts
+distinct-length [] = omega arith
+distinct-length (t ∷ ts) =
+    let fewer = length-filter (λ u. not (int_eq t u)) (distinct ts) in
+    let rest = distinct-length ts in
+    omega arith
+
+-- There are no more distinct times than elements that they are taken from.
+pub distinct_map-length : {A : Type 0} (g : A → ℤ) (xs : List A) → length (distinct (map g xs)) ≤ length xs
+distinct_map-length g xs =
+    let fewer = distinct-length (map g xs) in
+    let same = length-map xs g in
     omega arith
 
 same-time : (t u : ℤ) → int_eq t u ≡ true → t ≡ u
@@ -48,20 +63,36 @@ other-time f t u fails =
       | false ↦ λ _. refl
     ] refl
 
+-- The distinct times that pass a test are the distinct ones of those that pass it.
+pub filter-distinct : (f : ℤ → Bool) (ts : List ℤ) → filter f (distinct ts) ≡ distinct (filter f ts)
+filter-distinct f [] = refl
+filter-distinct f (t ∷ ts) =
+    let others = λ (u : ℤ). not (int_eq t u) in
+    let rest : filter f (filter others (distinct ts)) ≡ filter others (distinct (filter f ts)) =
+    filter-swap f others (distinct ts) ∙ ap (filter others) (filter-distinct f ts) in
+    elim (f t) as (λ s. f t ≡ s → cond s (t ∷ filter f (filter others (distinct ts))) (filter f (filter others (distinct ts))) ≡ distinct (cond s (t ∷ filter f ts) (filter f ts))) [
+      | true ↦ λ _. ap (λ c. t ∷ c) rest
+      | false ↦ λ fails.
+          filter-filter f others (distinct ts)
+          ∙ filter-same (λ u. others u && f u) f (distinct ts) (λ u. other-time f t u fails)
+          ∙ filter-distinct f ts
+    ] refl
+
+cond-map : {A B : Type 0} (g : A → B) (s : Bool) (x : A) (xs : List A) → map g (cond s (x ∷ xs) xs) ≡ cond s (g x ∷ map g xs) (map g xs)
+cond-map g s x xs = elim s as (λ s. map g (cond s (x ∷ xs) xs) ≡ cond s (g x ∷ map g xs) (map g xs)) [ true ↦ refl | false ↦ refl ]
+
+pub filter-map : {A B : Type 0} (f : B → Bool) (g : A → B) (xs : List A) → filter f (map g xs) ≡ map g (filter (λ x. f (g x)) xs)
+filter-map f g [] = refl
+filter-map f g (x ∷ xs) =
+    ap (λ c. cond (f (g x)) (g x ∷ c) c) (filter-map f g xs) ∙ sym (cond-map g (f (g x)) x (filter (λ x. f (g x)) xs))
+
+-- The distinct times that pass a test are those of the elements of which the time passes it.
+pub filter-distinct_map : {A : Type 0} (f : ℤ → Bool) (g : A → ℤ) (xs : List A) → filter f (distinct (map g xs)) ≡ distinct (map g (filter (λ x. f (g x)) xs))
+filter-distinct_map f g xs = filter-distinct f (map g xs) ∙ ap distinct (filter-map f g xs)
+
 -- The distinct times that pass a test are those of the points that pass it.
 pub filter-anchors : (f : ℤ → Bool) (b : List Point) → filter f (anchors b) ≡ anchors (filter (λ p. f p.time) b)
-filter-anchors f [] = refl
-filter-anchors f (p ∷ b) =
-    let others = λ (u : ℤ). not (int_eq p.time u) in
-    let rest : filter f (filter others (anchors b)) ≡ filter others (anchors (filter (λ q. f q.time) b)) =
-    filter-swap f others (anchors b) ∙ ap (filter others) (filter-anchors f b) in
-    elim (f p.time) as (λ s. f p.time ≡ s → cond s (p.time ∷ filter f (filter others (anchors b))) (filter f (filter others (anchors b))) ≡ anchors (cond s (p ∷ filter (λ q. f q.time) b) (filter (λ q. f q.time) b))) [
-      | true ↦ λ _. ap (λ c. p.time ∷ c) rest
-      | false ↦ λ fails.
-          filter-filter f others (anchors b)
-          ∙ filter-same (λ u. others u && f u) f (anchors b) (λ u. other-time f p.time u fails)
-          ∙ filter-anchors f b
-    ] refl
+filter-anchors f b = filter-distinct_map f (λ p. p.time) b
 
 -- Each time is before all times after it.
 abbrev pub Rising : List ℤ → Type 0
@@ -76,17 +107,30 @@ filter-rising f (t ∷ ts) h =
       | false ↦ filter-rising f ts h.1
     ]
 
+-- No time is before one that precedes it in the list.
+abbrev pub NotFalling : List ℤ → Type 0
+NotFalling [] = Unit {0}
+NotFalling (t ∷ ts) = AllByRecursion (λ u. t ≤ℤ u) ts × NotFalling ts
+
 later-other : (t u : ℤ) → t ≤ℤ u → not (int_eq t u) ≡ true → t <ℤ u
 later-other t u h k = grind (arith, ints)
 
-pub anchors-rising : (b : List Point) → IsInOrder b → Rising (anchors b)
-anchors-rising [] h = tt
-anchors-rising (p ∷ b) h =
-    let others = λ (u : ℤ). not (int_eq p.time u) in
+pub distinct-rising : (ts : List ℤ) → NotFalling ts → Rising (distinct ts)
+distinct-rising [] h = tt
+distinct-rising (t ∷ ts) h =
+    let others = λ (u : ℤ). not (int_eq t u) in
+    let not_before : AllByRecursion (λ u. t ≤ℤ u) (filter others (distinct ts)) = each-filter (λ u. t ≤ℤ u) others (distinct ts) (each-distinct (λ u. t ≤ℤ u) ts h.0) in
+    let both = each-both (λ u. t ≤ℤ u) (λ u. others u ≡ true) (filter others (distinct ts)) not_before (filter-passes others (distinct ts)) in
+    (each-weaker (λ u. (t ≤ℤ u) × (others u ≡ true)) (λ u. t <ℤ u) (λ u k. later-other t u k.0 k.1) (filter others (distinct ts)) both, filter-rising others (distinct ts) (distinct-rising ts h.1))
+
+times-not_falling : (b : List Point) → IsInOrder b → NotFalling (map (λ p. p.time) b)
+times-not_falling [] h = tt
+times-not_falling (p ∷ b) h =
     let late : AllByRecursion (λ q. p.time ≤ℤ q.time) b = each-weaker (λ q. IsTrue (is_not_after p q)) (λ q. p.time ≤ℤ q.time) (λ q k. is_not_after-times p q k) b h.0 in
-    let not_before : AllByRecursion (λ u. p.time ≤ℤ u) (filter others (anchors b)) = each-filter (λ u. p.time ≤ℤ u) others (anchors b) (each-anchors (λ u. p.time ≤ℤ u) b late) in
-    let both = each-both (λ u. p.time ≤ℤ u) (λ u. others u ≡ true) (filter others (anchors b)) not_before (filter-passes others (anchors b)) in
-    (each-weaker (λ u. (p.time ≤ℤ u) × (others u ≡ true)) (λ u. p.time <ℤ u) (λ u k. later-other p.time u k.0 k.1) (filter others (anchors b)) both, filter-rising others (anchors b) (anchors-rising b h.1))
+    (each-map (λ u. p.time ≤ℤ u) (λ q. q.time) b late, times-not_falling b h.1)
+
+pub anchors-rising : (b : List Point) → IsInOrder b → Rising (anchors b)
+anchors-rising b h = distinct-rising (map (λ p. p.time) b) (times-not_falling b h)
 
 -- ---- the points that a function gives at some times
 
@@ -207,16 +251,18 @@ kernel-in_domain spec i h = each-points_from InDomain (value_of spec i) (anchors
 pub kernel-length : (spec : Spec) (i : Inputs) → length (kernel_points spec i) ≤ length i.first
 kernel-length spec i =
     let few = points_from-length (value_of spec i) (anchors i.first) in
-    let times = anchors-length i.first in
+    let times = distinct_map-length (λ (p : Point). p.time) i.first in
     omega arith
 
 pub none-first : (a b : Option Rejection) → a ≡ None → b ≡ None → first_some (a ∷ b ∷ []) ≡ None
 none-first a b h k = ap (λ o. first_some (o ∷ b ∷ [])) h ∙ ap (λ o. first_some (o ∷ [])) k
 
--- A version may hold the points of an output, if its first input has no more than a version may hold.
+-- A version may hold points of which each is at a later time than those before, if they are not too many.
+pub rise-accepted : (b : List Point) → TimesRise b → AreInDomain b → length b ≤ MAX_POINTS → points_rejection b ≡ None
+rise-accepted b rise inside few =
+    none-first _ _ (ap (option_map (λ start. Crowded start)) (rise-uncrowded b rise inside)) (ap (λ s. when s (TooManyPoints (length b))) (le-ltb MAX_POINTS (length b) few))
+
 pub kernel-accepted : (spec : Spec) (i : Inputs) → IsInOrder i.first → AreInDomain i.first → length i.first ≤ MAX_POINTS → points_rejection (kernel_points spec i) ≡ None
 kernel-accepted spec i order inside few =
-    let b = kernel_points spec i in
     let fewer = kernel-length spec i in
-    let uncrowded = rise-uncrowded b (kernel-times spec i order) (kernel-in_domain spec i inside) in
-    none-first _ _ (ap (option_map (λ start. Crowded start)) uncrowded) (ap (λ s. when s (TooManyPoints (length b))) (le-ltb MAX_POINTS (length b) (omega arith)))
+    rise-accepted (kernel_points spec i) (kernel-times spec i order) (kernel-in_domain spec i inside) (omega arith)

@@ -53,7 +53,8 @@ abbrev pub Stands : List Entry → Option Landing → Type 0
 Stands h None = Unit {0}
 Stands h (Some p) = StandsFor h p
 
-stands-stays : (h more : List Entry) (p : Landing) → StandsFor h p → StandsFor (h ++ more) p
+-- A plan that stands stands after more entries.
+pub stands-stays : (h more : List Entry) (p : Landing) → StandsFor h p → StandsFor (h ++ more) p
 stands-stays h more p is =
     let base = is.base in
     let same = reads-append h more p.stream is.spec p.base base in

@@ -6,12 +6,12 @@ use Rattle.btr_hist.specs.declared.answer.Answer.TheVariants.{Found, Refused}
 use Rattle.btr_hist.specs.declared.answer.Refusal.{Refusal}
 use Rattle.btr_hist.specs.declared.answer.Rows.{Rows}
 use Rattle.btr_hist.specs.History.{bag}
-use Rattle.btr_hist.specs.Answer.{answer_at}
+use Rattle.btr_hist.specs.Answer.{answer_from}
 
 -- An `Ok` is the version that was asked for, and its rows are the answer. An `Err` is the answer, whatever rows were asked for.
-abbrev pub IsAsked : List Entry → ℕ → ℕ → Bool → Result ℕ Refusal → Type 0
-IsAsked h stream version good (Ok v) =
+abbrev pub IsAsked : List Entry → ℕ → ℕ → ℕ → Bool → Result ℕ Refusal → Type 0
+IsAsked h stream least version good (Ok v) =
     (v ≡ version) × (good ≡ true)
-    × ((rows : List Point → Rows) → answer_at h stream version good rows ≡ Found v (rows (bag h stream v)))
-IsAsked h stream version good (Err r) =
-    (rows : List Point → Rows) → answer_at h stream version good rows ≡ Refused r
+    × ((rows : List Point → Rows) → answer_from h stream least version good rows ≡ Found v (rows (bag h stream v)))
+IsAsked h stream least version good (Err r) =
+    (rows : List Point → Rows) → answer_from h stream least version good rows ≡ Refused r

@@ -1,4 +1,5 @@
--- Histories: their streams, the points of each version of a stream, and what each version of an output was computed from.
+-- Histories: their streams, the points of each version of a stream, what each version of an output was computed from, and the
+-- first version of a stream that is not retired.
 use Rattle.std.specs.Prelude.{ℕ, Bool, nat_eq, ◌==◌, List, [], ◌∷◌, length, take, slice_index_or, if◌then◌else◌}
 use Rattle.std.specs.Prelude.{Option, Some, None}
 use Rattle.std.specs.List.{position_from, filter_map}
@@ -6,7 +7,7 @@ use Rattle.std.specs.Option.{option_map, unwrap_or, is_some}
 use Rattle.btr_base.specs.declared.point.Point.{Point}
 use Rattle.btr_base.specs.Commit.{Change, after}
 use Rattle.btr_hist.specs.declared.entry.Entry.{Entry}
-use Rattle.btr_hist.specs.declared.entry.Entry.TheVariants.{Create, Commit, Define, Distillate}
+use Rattle.btr_hist.specs.declared.entry.Entry.TheVariants.{Create, Commit, Define, Distillate, Retire}
 use Rattle.btr_hist.specs.declared.kernel.Spec.{Spec}
 use Rattle.btr_hist.specs.declared.kernel.Reads.{Reads}
 use Rattle.btr_hist.specs.Distil.{Inputs}
@@ -17,6 +18,7 @@ new_id (Create id) = Some id
 new_id (Define id spec) = Some id
 new_id (Commit s cut added) = None
 new_id (Distillate s cut added reads) = None
+new_id (Retire s first) = None
 
 -- The kind of the stream that an entry makes, if it makes one: the spec of an output, none of a plain stream.
 abbrev pub new_kind : Entry → Option (Option Spec)
@@ -24,6 +26,7 @@ new_kind (Create id) = Some None
 new_kind (Define id spec) = Some (Some spec)
 new_kind (Commit s cut added) = None
 new_kind (Distillate s cut added reads) = None
+new_kind (Retire s first) = None
 
 -- What an entry does to the points of a stream, if it is a commit of the stream.
 abbrev pub change_of : ℕ → Entry → Option Change
@@ -31,6 +34,7 @@ change_of stream (Create id) = None
 change_of stream (Define id spec) = None
 change_of stream (Commit s cut added) = if s == stream then Some (record { cut = cut; added = added }) else None
 change_of stream (Distillate s cut added reads) = if s == stream then Some (record { cut = cut; added = added }) else None
+change_of stream (Retire s first) = None
 
 -- The versions that an entry has read, if it is a commit of the stream: none of a user's commit.
 abbrev pub read_of : ℕ → Entry → Option (Option Reads)
@@ -38,6 +42,7 @@ read_of stream (Create id) = None
 read_of stream (Define id spec) = None
 read_of stream (Commit s cut added) = if s == stream then Some None else None
 read_of stream (Distillate s cut added reads) = if s == stream then Some (Some reads) else None
+read_of stream (Retire s first) = None
 
 -- The ids of the streams. A stream's number is its index in this list.
 abbrev pub ids : List Entry → List ℕ
@@ -104,3 +109,20 @@ second_points h s version = []
 -- The points of the inputs of a distiller at these versions.
 abbrev pub inputs_at : List Entry → Spec → Reads → Inputs
 inputs_at h spec r = record { first = bag h spec.first r.first; second = second_points h spec.second r.second }
+
+-- The first version that an entry leaves, if it retires the versions of the stream before that one.
+abbrev pub first_of : ℕ → Entry → Option ℕ
+first_of stream (Create id) = None
+first_of stream (Define id spec) = None
+first_of stream (Commit s cut added) = None
+first_of stream (Distillate s cut added reads) = None
+first_of stream (Retire s first) = if s == stream then Some first else None
+
+-- The last of some numbers, or n if there are none.
+abbrev pub last_or : ℕ → List ℕ → ℕ
+last_or n [] = n
+last_or n (m ∷ ms) = last_or m ms
+
+-- The first version of a stream that is not retired: that of its last retirement, or 0 if there is none.
+abbrev pub earliest : List Entry → ℕ → ℕ
+earliest h stream = last_or 0 (filter_map (first_of stream) h)

@@ -1,10 +1,10 @@
 -- The laws of all histories.
-use Rattle.std.specs.Prelude.{◌≡◌, ℕ, ◌+◌, ◌<◌, ◌≤◌, true, List, [], ◌∷◌, ◌++◌, take, if◌then◌else◌, Some}
+use Rattle.std.specs.Prelude.{◌≡◌, ◌↔◌, ℕ, ◌+◌, ◌<◌, ◌≤◌, ℤ, ◌⊎◌, true, List, [], ◌∷◌, ◌++◌, take, if◌then◌else◌, Option, Some, None}
 use Rattle.std.specs.List.{AllByRecursion}
 use Rattle.btr_base.specs.declared.limits.TheConstants.{MAX_VERSIONS}
 use Rattle.btr_base.specs.declared.point.Point.{Point}
 use Rattle.btr_base.specs.Point.{InDomain}
-use Rattle.btr_base.specs.Range.{covered}
+use Rattle.btr_base.specs.Range.{RangeValue, IsRange, contains, covered}
 use Rattle.btr_base.specs.Bag.{copies}
 use Rattle.btr_base.specs.Commit.{Change, after}
 use Rattle.btr_hist.specs.declared.entry.Entry.{Entry}
@@ -12,17 +12,19 @@ use Rattle.btr_hist.specs.declared.entry.Entry.TheVariants.{Distillate}
 use Rattle.btr_hist.specs.declared.kernel.Spec.{Spec}
 use Rattle.btr_hist.specs.declared.kernel.Reads.{Reads}
 use Rattle.btr_hist.specs.declared.query.Query.{Query}
-use Rattle.btr_hist.specs.Kernel.{is_good}
-use Rattle.btr_hist.specs.Distil.{Inputs, AreBags, IsLocal, value_of, output_points, looks_at, widened, DependsOn, IsWidened, distillate}
-use Rattle.btr_hist.specs.History.{spec_of, commits, latest, bag, reads, inputs_at}
+use Rattle.btr_hist.specs.Kernel.{WindowKernel, window_kernel, is_good}
+use Rattle.btr_hist.specs.Distil.{Inputs, AreBags, IsLocal, value_of, window_start, whole, output_points, looks_at, widened}
+use Rattle.btr_hist.specs.Distil.{DependsOn, IsWidened, distillate}
+use Rattle.btr_hist.specs.History.{spec_of, commits, latest, bag, reads, inputs_at, earliest}
 use Rattle.btr_hist.specs.Legal.{Legal, Allowed, IsDistillate, takes_reads}
 use Rattle.btr_hist.specs.Query.{IsSettled}
 use Rattle.btr_hist.specs.Answer.{answer}
 use Rattle.btr_hist.specs.Machine.{Event, start, run}
 
--- The answer about versions that exist never changes.
+-- The answer about versions that exist stays what it is for as long as they are not retired.
 abbrev pub OldVersionsStay : Type 0
-OldVersionsStay = (h more : List Entry) (q : Query) → IsSettled h q → answer (h ++ more) q ≡ answer h q
+OldVersionsStay =
+    (h more : List Entry) (q : Query) → IsSettled h q → IsSettled (h ++ more) q → answer (h ++ more) q ≡ answer h q
 
 -- How often a point occurs after some commits, if it occurred n times before. A commit that cuts its time removes all of them,
 -- and adds it as often as it is among the added points.
@@ -48,10 +50,26 @@ OutputsAreLocal = (spec : Spec) → DependsOn (looks_at spec) (output_points spe
 abbrev pub ChangesAreWidened : Type 0
 ChangesAreWidened = (spec : Spec) → is_good spec ≡ true → IsWidened (looks_at spec) (widened spec)
 
+-- A time of the range in the same aligned window, `2^p` ns wide, as another time.
+pub record SharesWindow (p : ℕ) (r : RangeValue) (t : ℤ) : Type 0 where
+  pub time : ℤ
+  pub inside : contains r time ≡ true
+  pub same : window_start p time ≡ window_start p t
+
+-- The aligned windows that a range meets contain a time exactly if the range has a time of the same window.
+abbrev pub WindowsAreWhole : Type 0
+WindowsAreWhole =
+    (p : ℕ) (r : RangeValue) (t : ℤ) → p ≤ 62 → IsRange r → InDomain t → contains (whole p r) t ≡ true ↔ SharesWindow p r t
+
+-- The aligned windows of a kernel, if it has some, are at most 2^62 ns wide.
+abbrev pub HasSmallWindows : Option WindowKernel → Type 0
+HasSmallWindows None = Unit {0}
+HasSmallWindows (Some c) = c.p ≤ 62
+
 -- The distillate brings the output from the old inputs to the new ones, whatever changed in them.
 abbrev pub DistillatesAreRight : Type 0
 DistillatesAreRight =
-    (spec : Spec) (old new : Inputs) → spec.grain ≤ 62 → AreBags old → AreBags new
+    (spec : Spec) (old new : Inputs) → spec.grain ≤ 62 → HasSmallWindows (window_kernel spec.kernel) → AreBags old → AreBags new
     → after (output_points spec old) (distillate spec old new) ≡ output_points spec new
 
 -- Each version of each output has the points of the output over all time, at the versions of its inputs that it has read. Version 0
@@ -85,3 +103,30 @@ PointsLieInTheDomain =
 -- The history is legal, and so each version of each output is right, whatever users do and in whatever order.
 abbrev pub MachineStaysLegal : Type 0
 MachineStaysLegal = (events : List (ℕ × Event)) → Legal (run start events).history
+
+-- The latest version of a stream of a legal history is not retired.
+abbrev pub LatestIsNotRetired : Type 0
+LatestIsNotRetired = (h : List Entry) (stream : ℕ) → Legal h → earliest h stream ≤ latest h stream
+
+-- The version is version 0, which holds nothing, or is not retired.
+abbrev pub IsPresent : List Entry → ℕ → ℕ → Type 0
+IsPresent h stream version = (version ≡ 0) ⊎ (earliest h stream ≤ version)
+
+-- The version of a second input, if there are both, is as above.
+abbrev pub IsSecondPresent : List Entry → Option ℕ → Option ℕ → Type 0
+IsSecondPresent h (Some stream) (Some version) = IsPresent h stream version
+IsSecondPresent h stream version = Unit {0}
+
+-- The versions of the inputs are as above.
+pub record ArePresent (h : List Entry) (spec : Spec) (r : Reads) : Type 0 where
+  pub first : IsPresent h spec.first r.first
+  pub second : IsSecondPresent h spec.second r.second
+
+-- What the latest version of each output was computed from is not retired.
+abbrev pub ReadsArePresent : List Entry → Type 0
+ReadsArePresent h =
+    (stream : ℕ) (spec : Spec) → spec_of h stream ≡ Some spec → ArePresent h spec (reads h stream spec (latest h stream))
+
+-- What the latest version of each output was computed from is not retired, whatever users do and in whatever order.
+abbrev pub MachineReadsPresent : Type 0
+MachineReadsPresent = (events : List (ℕ × Event)) → ReadsArePresent (run start events).history

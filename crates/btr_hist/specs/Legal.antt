@@ -1,23 +1,24 @@
 -- The entries that may follow a history, and legal histories.
-use Rattle.std.specs.Prelude.{◌≡◌, ℕ, ◌^◌, max, Bool, true, false, not, ◌&&◌, ◌||◌, nat_eq, nat_lt, nat_le, ◌==◌}
+use Rattle.std.specs.Prelude.{◌≡◌, ℕ, ◌+◌, ◌^◌, min, max, Bool, true, false, not, ◌&&◌, ◌||◌, nat_eq, nat_lt, nat_le, ◌==◌}
 use Rattle.std.specs.Prelude.{List, [], ◌∷◌, length, take, slice_get, if◌then◌else◌, Option, Some, None}
 use Rattle.std.specs.List.{list_any, find}
 use Rattle.std.specs.Option.{option_map}
 use Rattle.btr_base.specs.declared.point.Point.{Point}
 use Rattle.btr_base.specs.Point.{in_domain}
 use Rattle.btr_hist.specs.declared.entry.Entry.{Entry}
-use Rattle.btr_hist.specs.declared.entry.Entry.TheVariants.{Create, Commit, Define, Distillate}
+use Rattle.btr_hist.specs.declared.entry.Entry.TheVariants.{Create, Commit, Define, Distillate, Retire}
 use Rattle.btr_hist.specs.declared.kernel.Spec.{Spec}
 use Rattle.btr_hist.specs.declared.kernel.Reads.{Reads}
 use Rattle.btr_hist.specs.declared.rejection.Rejection.{Rejection}
 use Rattle.btr_hist.specs.declared.rejection.Rejection.TheVariants.{NoStream, StreamExists, NotWritable, OutOfDomain, Empty, TooMany}
-use Rattle.btr_hist.specs.declared.rejection.Rejection.TheVariants.{StreamLimit, VersionLimit, BadSpec, Crowded, TooManyPoints}
+use Rattle.btr_hist.specs.declared.rejection.Rejection.TheVariants.{StreamLimit, VersionLimit, BadSpec, BadFirst, Held}
+use Rattle.btr_hist.specs.declared.rejection.Rejection.TheVariants.{Crowded, TooManyPoints}
 use Rattle.btr_base.specs.declared.limits.TheConstants.{MAX_STREAMS, MAX_VERSIONS, MAX_POINTS, MAX_COMMIT_POINTS, MAX_COMMIT_RANGES}
 use Rattle.btr_base.specs.Commit.{Change, after}
 use Rattle.btr_base.specs.Crowded.{crowded}
 use Rattle.btr_hist.specs.Kernel.{is_good}
 use Rattle.btr_hist.specs.Distil.{distillate}
-use Rattle.btr_hist.specs.History.{ids, spec_of, is_output, latest, bag, reads, inputs_at}
+use Rattle.btr_hist.specs.History.{ids, kinds, spec_of, is_output, latest, bag, reads, inputs_at, earliest}
 
 -- The first that there is.
 abbrev pub first_some : {A : Type 0} → List (Option A) → Option A
@@ -134,12 +135,52 @@ distillate_rejection h stream c new = first_some (
     ∷ points_rejection (next_bag h stream c)
     ∷ [])
 
+-- The version that was read of an input, if there is one and the input is the stream.
+abbrev pub read_from : ℕ → Option ℕ → Option ℕ → Option ℕ
+read_from stream (Some s) (Some version) = if s == stream then Some version else None
+read_from stream s version = None
+
+-- The lesser of two numbers, or the one that is there, if there is one.
+abbrev pub lesser : Option ℕ → Option ℕ → Option ℕ
+lesser None b = b
+lesser (Some a) None = Some a
+lesser (Some a) (Some b) = Some (min a b)
+
+-- The version of a stream among those that an output of this spec has read, if the stream is an input: the lesser one, if it is both
+-- inputs.
+abbrev pub least_read : ℕ → Spec → Reads → Option ℕ
+least_read stream spec r = lesser (read_from stream (Some spec.first) (Some r.first)) (read_from stream spec.second r.second)
+
+-- The reason why an output that has read this version of a stream, if any, holds the versions of the stream before the first.
+abbrev pub held_at : ℕ → ℕ → Option ℕ → Option Rejection
+held_at first output None = None
+held_at first output (Some version) = when (nat_lt version first) (Held output version)
+
+-- The reason why a stream of this kind holds the versions of another stream before the first: it is an output, and has read last
+-- one of them.
+abbrev pub held_by : List Entry → ℕ → ℕ → ℕ → Option Spec → Option Rejection
+held_by h stream first output None = None
+held_by h stream first output (Some spec) = held_at first output (least_read stream spec (reads h output spec (latest h output)))
+
+-- For each stream of these kinds, which are numbered from the given number on, the reason why it holds versions before the first.
+abbrev pub held_from : List Entry → ℕ → ℕ → ℕ → List (Option Spec) → List (Option Rejection)
+held_from h stream first number [] = []
+held_from h stream first number (kind ∷ more) = held_by h stream first number kind ∷ held_from h stream first (number + 1) more
+
+-- The reason why the versions of a stream before the first may not be retired after h.
+abbrev pub retire_rejection : List Entry → ℕ → ℕ → Option Rejection
+retire_rejection h stream first = first_some (
+    when (nat_le (length (ids h)) stream) NoStream
+    ∷ when (nat_le first (earliest h stream) || nat_lt (latest h stream) first) (BadFirst first (earliest h stream) (latest h stream))
+    ∷ held_from h stream first 0 (kinds h))
+
 -- The reason why an entry may not follow h, if there is one.
 abbrev pub rejection : List Entry → Entry → Option Rejection
 rejection h (Create id) = create_rejection h id
 rejection h (Define id spec) = define_rejection h id spec
 rejection h (Commit stream cut added) = commit_rejection h stream (record { cut = cut; added = added })
 rejection h (Distillate stream cut added new) = distillate_rejection h stream (record { cut = cut; added = added }) new
+rejection h (Retire stream first) = retire_rejection h stream first
 
 -- The commit is the distillate that brings the output from the versions read last to these.
 pub record IsDistillate (h : List Entry) (stream : ℕ) (c : Change) (new : Reads) : Type 0 where
@@ -153,6 +194,7 @@ IsComputed h (Create id) = Unit {0}
 IsComputed h (Define id spec) = Unit {0}
 IsComputed h (Commit stream cut added) = Unit {0}
 IsComputed h (Distillate stream cut added new) = IsDistillate h stream (record { cut = cut; added = added }) new
+IsComputed h (Retire stream first) = Unit {0}
 
 -- The entry is allowed after h.
 pub record Allowed (h : List Entry) (e : Entry) : Type 0 where

@@ -26,7 +26,8 @@ pub data Event : Type 0 where
   Plan : ℕ → Event
   Land : Event
 
--- The reply to an accepted entry: the number of entries with it, its stream, and the version that it made (0 for a new stream).
+-- The reply to an accepted entry: the number of entries with it, its stream, and the version that it made (0 for a new stream and
+-- for a retirement).
 pub record Receipt : Type 0 where
   pub number : ℕ
   pub stream : ℕ
@@ -68,6 +69,7 @@ receipt h (entries.Define id spec) = record { number = length h + 1; stream = le
 receipt h (entries.Commit stream cut added) = record { number = length h + 1; stream = stream; version = latest h stream + 1 }
 receipt h (entries.Distillate stream cut added new) =
     record { number = length h + 1; stream = stream; version = latest h stream + 1 }
+receipt h (entries.Retire stream first) = record { number = length h + 1; stream = stream; version = 0 }
 
 -- The reason why a user's entry may not follow h, if there is one. Users do not commit distillates.
 abbrev pub offered : List Entry → Entry → Option Rejection

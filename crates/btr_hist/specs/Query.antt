@@ -7,7 +7,7 @@ use Rattle.btr_hist.specs.declared.query.Query.{Query}
 use Rattle.btr_hist.specs.declared.query.Query.TheVariants as ask
 use Rattle.btr_hist.specs.declared.query.StreamQuery.{StreamQuery}
 use Rattle.btr_hist.specs.declared.query.StreamQuery.TheVariants.{Points, Nearest, Aligned, Windows, Changes, Info}
-use Rattle.btr_hist.specs.History.{ids, latest}
+use Rattle.btr_hist.specs.History.{ids, latest, earliest}
 
 -- The question, asked of the stream of this number.
 abbrev pub of_stream : StreamQuery → ℕ → Query
@@ -18,12 +18,12 @@ of_stream (Windows from to width at) stream = ask.Windows stream from to width a
 of_stream (Changes old new p) stream = ask.Changes stream old new p
 of_stream (Info at) stream = ask.Info stream at
 
--- The stream exists, and the version is given by its number and exists.
+-- The stream exists, and the version is given by its number, exists and is not retired.
 abbrev pub IsThere : List Entry → ℕ → At → Type 0
-IsThere h stream (Number version) = (stream < length (ids h)) × (version ≤ latest h stream)
+IsThere h stream (Number version) = (stream < length (ids h)) × (version ≤ latest h stream) × (earliest h stream ≤ version)
 IsThere h stream Latest = ⊥
 
--- The question is about versions that exist.
+-- The question is about versions that exist and are not retired.
 abbrev pub IsSettled : List Entry → Query → Type 0
 IsSettled h (ask.Points stream from to at) = IsThere h stream at
 IsSettled h (ask.Nearest stream time way at) = IsThere h stream at

@@ -150,6 +150,9 @@ pub enum Refusal {
     /// The stream has no such version yet: the version that was asked for, and the latest.
     NoVersion { asked: u64, latest: u64 },
 
+    /// The version is retired: the version that was asked for (the lesser of two), and the first one that is not retired.
+    Retired { asked: u64, first: u64 },
+
     /// The range is empty, or a bound lies outside the domain; or windows or slots of this width cannot be asked for; or the
     /// first of two versions is later than the second.
     BadRange,

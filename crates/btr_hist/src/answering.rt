@@ -14,7 +14,7 @@ use crate::cells::{aligned_cells, whole_cells};
 use crate::changed::changed_ranges;
 use crate::entry::Entry;
 use crate::query::{At, Query, VersionAsked};
-use crate::walks::{latest_of, points_of_version, read_by, spec_of, stream_count};
+use crate::walks::{earliest_of, latest_of, points_of_version, read_by, spec_of, stream_count};
 use btr_base::{Agg, END, FIRST, MAX_EXPONENT, MAX_WIDTH, Point, Toward, parted, points_between};
 use std::alloc::{AllocError, Global};
 
@@ -66,21 +66,44 @@ pub(crate) fn answer_of(
 
 /// The version that is asked for, or the reason of a refusal. `good` says whether the other numbers of the question are good.
 fn version_asked(entries: &[Entry], asked: VersionAsked, good: bool) -> Result<u64, Refusal>
-    ensures { IsAsked entries.now asked.stream (version_of entries.now asked.stream asked.at) good result }
+    ensures { IsAsked entries.now asked.stream (version_of entries.now asked.stream asked.at)
+        (version_of entries.now asked.stream asked.at) good result }
 {
     let VersionAsked { stream, at } = asked;
-    if stream as usize >= stream_count(entries) {
-        return Err(Refusal::NoStream);
-    }
     let latest = latest_of(entries, stream as usize) as u64;
     let version = match at {
         At::Number(number) => number,
         At::Latest => latest,
     };
+    versions_asked(entries, stream, version, version, good)
+}
+
+/// The greater of two versions that are asked for, or the reason of a refusal. `good` says whether the other numbers of the question
+/// are good.
+fn versions_asked(
+    entries: &[Entry],
+    stream: u32,
+    least: u64,
+    version: u64,
+    good: bool,
+) -> Result<u64, Refusal>
+    ensures { IsAsked entries.now stream least version good result }
+{
+    if stream as usize >= stream_count(entries) {
+        return Err(Refusal::NoStream);
+    }
+    let latest = latest_of(entries, stream as usize) as u64;
     if version > latest {
         return Err(Refusal::NoVersion {
             asked: version,
             latest,
+        });
+    }
+    let first = earliest_of(entries, stream);
+    if least < first {
+        return Err(Refusal::Retired {
+            asked: least,
+            first,
         });
     }
     if good {
@@ -191,11 +214,8 @@ fn changes_answer(
 ) -> Result<Answer, AllocError>
     ensures { IfOk result (λ a. a ≡ answer entries.now (AskChanges stream old new p)) }
 {
-    let asked = VersionAsked {
-        stream,
-        at: At::Number(old.max(new)),
-    };
-    let version = match version_asked(entries, asked, can_compare(old, new, p)) {
+    let good = can_compare(old, new, p);
+    let version = match versions_asked(entries, stream, old.min(new), old.max(new), good) {
         Ok(version) => version,
         Err(refusal) => return Ok(Answer::Refused(refusal)),
     };

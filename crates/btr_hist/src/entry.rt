@@ -1,6 +1,6 @@
 ghost use Rattle.std.specs.Prelude.{◌≡◌, MatchOption, None, Some};
 ghost use Rattle.std.specs.Option.{is_some};
-ghost use Rattle.btr_hist.specs.History.{new_id, new_kind, change_of, read_of};
+ghost use Rattle.btr_hist.specs.History.{new_id, new_kind, change_of, read_of, first_of};
 
 use crate::kernel::{Reads, Spec};
 use btr_base::{Bag, Ranges};
@@ -34,6 +34,13 @@ pub enum Entry {
         added: Bag,
         reads: Reads,
     },
+
+    /// A retirement, which makes the versions of a stream before the first unreadable by questions. Nothing is removed: outputs may
+    /// still be computed from these versions.
+    Retire {
+        stream: u32,
+        first: u64,
+    },
 }
 
 impl Entry {
@@ -44,7 +51,7 @@ impl Entry {
         match self {
             Entry::Create { id } => Some(*id),
             Entry::Define { id, .. } => Some(*id),
-            Entry::Commit { .. } | Entry::Distillate { .. } => None,
+            Entry::Commit { .. } | Entry::Distillate { .. } | Entry::Retire { .. } => None,
         }
     }
 
@@ -55,7 +62,7 @@ impl Entry {
         match self {
             Entry::Create { .. } => Some(None),
             Entry::Define { spec, .. } => Some(Some(*spec)),
-            Entry::Commit { .. } | Entry::Distillate { .. } => None,
+            Entry::Commit { .. } | Entry::Distillate { .. } | Entry::Retire { .. } => None,
         }
     }
 
@@ -64,7 +71,7 @@ impl Entry {
         ensures { result ≡ is_some (change_of stream self.now) }
     {
         match self {
-            Entry::Create { .. } | Entry::Define { .. } => false,
+            Entry::Create { .. } | Entry::Define { .. } | Entry::Retire { .. } => false,
             Entry::Commit { stream: of, .. } => *of as usize == stream,
             Entry::Distillate { stream: of, .. } => *of as usize == stream,
         }
@@ -76,7 +83,7 @@ impl Entry {
             (λ c. change_of stream self.now ≡ Some (record { cut = c.0.now; added = c.1.now })) }
     {
         match self {
-            Entry::Create { .. } | Entry::Define { .. } => None,
+            Entry::Create { .. } | Entry::Define { .. } | Entry::Retire { .. } => None,
             Entry::Commit {
                 stream: of,
                 cut,
@@ -102,13 +109,26 @@ impl Entry {
         ensures { result ≡ read_of stream self.now }
     {
         match self {
-            Entry::Create { .. } | Entry::Define { .. } => None,
+            Entry::Create { .. } | Entry::Define { .. } | Entry::Retire { .. } => None,
             Entry::Commit { stream: of, .. } => (*of == stream).then_some(None),
             Entry::Distillate {
                 stream: of,
                 reads,
                 ..
             } => (*of == stream).then_some(Some(*reads)),
+        }
+    }
+
+    /// The first version that the entry leaves, if it retires the versions of this stream before that one.
+    pub fn first(&self, stream: u32) -> Option<u64>
+        ensures { result ≡ first_of stream self.now }
+    {
+        match self {
+            Entry::Retire { stream: of, first } => (*of == stream).then_some(*first),
+            Entry::Create { .. }
+            | Entry::Define { .. }
+            | Entry::Commit { .. }
+            | Entry::Distillate { .. } => None,
         }
     }
 }

@@ -1,5 +1,5 @@
 ghost use Rattle.std.specs.Prelude.{◌≡◌, ℕ, [], ◌∷◌, ◌++◌, length, IfOk, IfSome, IsNone, OnOk, OnErr};
-ghost use Rattle.btr_hist.specs.History.{ids, stream_of, spec_of, latest, read_by};
+ghost use Rattle.btr_hist.specs.History.{ids, stream_of, spec_of, latest, read_by, earliest};
 ghost use Rattle.btr_hist.specs.Legal.{rejection};
 ghost use Rattle.btr_hist.specs.Answer.{answer};
 
@@ -10,7 +10,8 @@ use crate::kernel::{Reads, Spec};
 use crate::query::Query;
 use crate::rejecting::{commit, creation, definition, distillate};
 use crate::rejection::Rejection;
-use crate::walks::{latest_of, read_by, spec_of, stream_count, stream_number};
+use crate::retiring::retirement;
+use crate::walks::{earliest_of, latest_of, read_by, spec_of, stream_count, stream_number};
 use std::alloc::{AllocError, Global};
 use std::marker::Model;
 
@@ -86,6 +87,14 @@ impl History {
         latest_of(&self.entries, stream as usize)
     }
 
+    /// The first version of a stream that is not retired: that of its last retirement, or 0 if there is none. It goes through all
+    /// entries, and takes no memory.
+    pub fn earliest(&self, stream: u32) -> u64
+        ensures { result ≡ earliest self.now stream }
+    {
+        earliest_of(&self.entries, stream)
+    }
+
     /// The spec of an output. A plain stream, and a number that is not that of a stream, have none. It goes through all entries,
     /// and takes no memory.
     pub fn spec(&self, stream: u32) -> Option<Spec>
@@ -131,6 +140,7 @@ impl History {
                 added,
                 reads,
             } => distillate(alloc, &self.entries, *stream, cut, added, reads),
+            Entry::Retire { stream, first } => retirement(&self.entries, *stream, *first),
         }
     }
 }

@@ -3,9 +3,9 @@ ghost use Rattle.std.specs.Prelude.{◌≡◌};
 ghost use Rattle.btr_hist.specs.Kernel.{is_good, has_second};
 ghost use Rattle.btr_hist.specs.History.{nothing_read};
 
-/// What a distiller computes at an anchor, which is a time t at which its first input has a point. It looks at the points of its
-/// inputs in the window from t - lead to t, both included. x is the greatest value of the first input at t. All is exact; a
-/// result that is no i64 gives no point. Floors round toward minus infinity.
+/// What a distiller computes. All kernels but [`Kernel::Cell`] compute at an anchor, which is a time t at which the first input has a
+/// point. They look at the points of the inputs in the window from t - lead to t, both included. x is the greatest value of the
+/// first input at t. All is exact; a result that is no i64 gives no point. Floors round toward minus infinity.
 #[derive(Clone, Copy, PartialEq, Eq)]
 pub enum Kernel {
     /// `floor((a * x + b) / d)`, with d at least 1.
@@ -37,6 +37,10 @@ pub enum Kernel {
 
     /// x minus the greatest value at the last time of the second input's window, if it has a point.
     Hold,
+
+    /// Another kind: a value of each aligned window of `2^p` ns of the first input that has a point, at the window's start. `which`
+    /// names the value of the whole window: 1 the sum, 2 the mean, 3 the least, 4 the greatest, 5 the count of its points.
+    Cell { which: u8, p: u8 },
 }
 
 impl Kernel {
@@ -52,7 +56,8 @@ impl Kernel {
             | Kernel::Least
             | Kernel::Greatest
             | Kernel::Count
-            | Kernel::Delta => false,
+            | Kernel::Delta
+            | Kernel::Cell { .. } => false,
         }
     }
 }
@@ -77,7 +82,8 @@ pub struct Spec {
 
 impl Spec {
     /// Whether the spec has as many inputs as its kernel, a divisor of at least 1, a lead of at most 2^60 and a grain of at most
-    /// 62. It says nothing of whether the inputs exist.
+    /// 62; and, if the kernel is [`Kernel::Cell`], `which` is 1 to 5, p at most 62 and the lead 0. It says nothing of whether the
+    /// inputs exist.
     pub fn is_good(&self) -> bool
         ensures { result ≡ is_good self.now }
     {
@@ -85,8 +91,12 @@ impl Spec {
             Kernel::Affine { d, .. } => d >= 1,
             _ => true,
         };
+        let windows = match self.kernel {
+            Kernel::Cell { which, p } => 1 <= which && which <= 5 && p <= 62 && self.lead == 0,
+            _ => true,
+        };
         let fits = self.kernel.has_second() == self.second.is_some();
-        fits && divides && self.lead <= 1_152_921_504_606_846_976 && self.grain <= 62
+        fits && divides && self.lead <= 1_152_921_504_606_846_976 && self.grain <= 62 && windows
     }
 
     /// Returns version 0 of each input.

@@ -1,10 +1,12 @@
 //! The laws of all histories. Each is a function with an empty body, and its contract is the law.
 
 ghost use Rattle.btr_hist.specs.Laws.{OldVersionsStay, HoldsWhatWasPutIn, KernelsAreLocal, OutputsAreLocal, ChangesAreWidened};
+ghost use Rattle.btr_hist.specs.Laws.{WindowsAreWhole};
 ghost use Rattle.btr_hist.specs.Laws.{DistillatesAreRight, LegalIsRight, DistillatesAreAllowed, PrefixesAreLegal};
-ghost use Rattle.btr_hist.specs.Laws.{PointsLieInTheDomain, MachineStaysLegal};
+ghost use Rattle.btr_hist.specs.Laws.{PointsLieInTheDomain, MachineStaysLegal, LatestIsNotRetired, MachineReadsPresent};
 
-/// The answer to a question about versions that exist, given by their numbers, never changes, whatever is committed later.
+/// The answer to a question about versions that exist, given by their numbers, stays what it is, whatever is committed later, for as
+/// long as they are not retired.
 pub fn old_versions_stay()
     ensures { OldVersionsStay }
 {}
@@ -29,8 +31,13 @@ pub fn changes_are_widened()
     ensures { ChangesAreWidened }
 {}
 
+/// The aligned windows that a range meets contain a time of the domain exactly if the range has a time of the same window.
+pub fn windows_are_whole()
+    ensures { WindowsAreWhole }
+{}
+
 /// The distillate brings the points of an output from those of the old inputs to those of the new ones, whatever changed in
-/// them. The inputs are bags of the domain, and slots are at most `2^62` ns wide.
+/// them. The inputs are bags of the domain, and slots and windows are at most `2^62` ns wide.
 pub fn distillates_are_right()
     ensures { DistillatesAreRight }
 {}
@@ -60,4 +67,15 @@ pub fn points_lie_in_the_domain()
 /// The history is legal, whatever users commit, plan and land, and in whatever order.
 pub fn the_machine_stays_legal()
     ensures { MachineStaysLegal }
+{}
+
+/// The latest version of a stream of a legal history is not retired.
+pub fn latest_versions_are_not_retired()
+    ensures { LatestIsNotRetired }
+{}
+
+/// What the latest version of an output was computed from is not retired, whatever users commit, plan and land, and in whatever order.
+/// Version 0 of an input counts as not retired.
+pub fn outputs_read_no_retired_version()
+    ensures { MachineReadsPresent }
 {}

@@ -22,6 +22,7 @@ mod changed;
 mod history;
 mod laws;
 mod rejecting;
+mod retiring;
 mod walks;
 
 pub use answer::{Answer, CellList, PointList, Refusal, Rows, StreamList, StreamRow};
@@ -31,11 +32,13 @@ pub use history::History;
 pub use kernel::{Kernel, Reads, Spec};
 pub use laws::{
     changes_are_widened, distillates_are_allowed, distillates_are_right, kernels_are_local,
-    legal_histories_are_right, old_versions_stay, outputs_are_local, points_lie_in_the_domain,
-    prefixes_are_legal, the_machine_stays_legal, versions_hold_what_was_put_in,
+    latest_versions_are_not_retired, legal_histories_are_right, old_versions_stay,
+    outputs_are_local, outputs_read_no_retired_version, points_lie_in_the_domain,
+    prefixes_are_legal, the_machine_stays_legal, versions_hold_what_was_put_in, windows_are_whole,
 };
 pub use query::{At, Query, StreamQuery, VersionAsked};
 pub use rejecting::{
     MAX_DISTILLATE_RANGES, change_rejection, distillate_change_rejection, points_rejection,
 };
 pub use rejection::Rejection;
+pub use retiring::least_read;

@@ -141,7 +141,7 @@ fn takes_reads(entries: &[Entry], stream: u32, new: &Reads) -> bool
 }
 
 /// The versions of the inputs that the latest version of an output stands for: what it has read, or version 0 of each.
-fn last_read(entries: &[Entry], stream: u32, spec: &Spec) -> Reads
+pub(crate) fn last_read(entries: &[Entry], stream: u32, spec: &Spec) -> Reads
     ensures { result ≡ reads entries.now stream spec.now (latest entries.now stream) }
 {
     let latest = latest_of(entries, stream as usize) as u64;

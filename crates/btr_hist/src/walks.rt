@@ -2,7 +2,7 @@
 ghost use Rattle.std.specs.Prelude.{◌≡◌, length, nat_eq, IfOk};
 ghost use Rattle.std.specs.List.{list_any};
 ghost use Rattle.btr_base.specs.Commit.{after};
-ghost use Rattle.btr_hist.specs.History.{ids, stream_of, spec_of, latest, bag, read_by};
+ghost use Rattle.btr_hist.specs.History.{ids, stream_of, spec_of, latest, bag, read_by, earliest};
 
 use crate::entry::Entry;
 use crate::kernel::{Reads, Spec};
@@ -79,6 +79,19 @@ pub(crate) fn latest_of(entries: &[Entry], stream: usize) -> usize
         }
     }
     count
+}
+
+/// The first version of a stream that is not retired: that of its last retirement, or 0 if there is none.
+pub(crate) fn earliest_of(entries: &[Entry], stream: u32) -> u64
+    ensures { result ≡ earliest entries.now stream }
+{
+    let mut first = 0;
+    for entry in entries {
+        if let Some(next) = entry.first(stream) {
+            first = next;
+        }
+    }
+    first
 }
 
 /// The versions of the inputs that a version of a stream has read. Version 0 has read none.

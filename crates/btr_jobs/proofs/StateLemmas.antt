@@ -64,7 +64,7 @@ module _ {D : Type 0} {disk : Ghosts D} where
       let stepped : IsStepped h x engine.value entry.value trace.0.0 = trace.0.1.stepped h of in
       trace_ends (h ++ entry.value ∷ []) engine.value l rest stepped.of trace.1 failed
   trace_ends h x (Halted entry engine ∷ l) rest of trace failed =
-      let fault : CanStep h x entry.value × StopsByFault x engine.value = trace.0.cause h of in
+      let fault : CanStep h x entry.value × StopsByFault x engine.value entry.value = trace.0.cause h of in
       no_rest l rest (ends_stopped engine.value (l ++ rest) fault.1.stopped trace.1)
 
   list_ends : (n : ℕ) (h : List Entry) (x : Engine D disk) (steps l rest : List (Item D disk)) → IsEngineOf h x → replicate n Earlier ++ steps ≡ l ++ rest → IsTrace x steps → is_some (failed_in l) ≡ true → rest ≡ []

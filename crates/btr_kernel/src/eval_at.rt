@@ -9,7 +9,8 @@ use btr_base::{Agg, Point};
 use btr_hist::{Kernel, Spec};
 
 /// The value of a spec's kernel at an anchor `t`, in nanoseconds, if there is one. `first` and `second` are the windows of the
-/// inputs that end with `t`, and `second` is empty if there is no second input. A value that is no `i64` is none.
+/// inputs that end with `t`, and `second` is empty if there is no second input. A value that is no `i64` is none. A kernel of
+/// aligned windows, [`Kernel::Cell`], has no value at an anchor.
 ///
 /// `Sum`, `Mean`, `Least`, `Greatest` and `Count` take time linear in the points of the first window. `Delta` takes time linear
 /// in the points at `t`, and the others constant time. It takes no memory. The kernels are in the manner of DISTIL
@@ -41,5 +42,6 @@ fn computed(kernel: Kernel, t: i64, first: &[Point], second: &[Point]) -> Option
         Kernel::Sum | Kernel::Mean | Kernel::Least | Kernel::Greatest | Kernel::Count => {
             of_total(kernel, &Agg::of_points(first))
         }
+        Kernel::Cell { .. } => None,
     }
 }

@@ -3,7 +3,7 @@
 //! [`eval`] computes the value at one anchor from the windows of the inputs. [`run_over`] computes all points of an output in
 //! some ranges of time from the trees of its inputs, in one sweep. [`anchors`] are the times at which an output may have a point,
 //! and [`point_at`] is its point at one time. [`Eval`] is the law that all rest on: a kernel looks at nothing but the windows that
-//! end with its anchor.
+//! end with its anchor. Kernels of aligned windows are another kind: they have no value at an anchor.
 #![tactic(auto)]
 
 // a kernel at one anchor

@@ -81,8 +81,12 @@ pub(crate) fn is_total(kernel: Kernel) -> bool
 {
     match kernel {
         Kernel::Sum | Kernel::Mean | Kernel::Least | Kernel::Greatest | Kernel::Count => true,
-        Kernel::Affine { .. } | Kernel::Delta | Kernel::Minus | Kernel::Angle | Kernel::Hold =>
-            false,
+        Kernel::Affine { .. }
+        | Kernel::Delta
+        | Kernel::Minus
+        | Kernel::Angle
+        | Kernel::Hold
+        | Kernel::Cell { .. } => false,
     }
 }
 
@@ -97,7 +101,11 @@ pub(crate) fn of_total(kernel: Kernel, all: &Agg) -> Option<i128>
         Kernel::Least => all.ends.map(|ends| i128::from(ends.0)),
         Kernel::Greatest => all.ends.map(|ends| i128::from(ends.1)),
         Kernel::Count => Some(i128::from(all.count)),
-        Kernel::Affine { .. } | Kernel::Delta | Kernel::Minus | Kernel::Angle | Kernel::Hold =>
-            None,
+        Kernel::Affine { .. }
+        | Kernel::Delta
+        | Kernel::Minus
+        | Kernel::Angle
+        | Kernel::Hold
+        | Kernel::Cell { .. } => None,
     }
 }

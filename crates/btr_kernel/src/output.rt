@@ -19,7 +19,7 @@ use btr_tree::Tree;
 use std::alloc::{AllocError, Global};
 
 /// Returns the points of an output whose times ranges cover, from the trees of its inputs: at each distinct time of the first
-/// input the value, if there is one.
+/// input the value, if there is one. A kernel of aligned windows has no value at such a time, and gives no points here.
 ///
 /// It reads from the trees the points of the ranges, each begun as much earlier as the kernel looks back, and no others. Then it
 /// goes over them once. The cost is that of reading, and time linear in the points read, whatever the lead. An `Err` means out of
@@ -45,7 +45,8 @@ pub fn run_over(
 }
 
 /// Returns the point of an output at a time, in nanoseconds, from the trees of its inputs. It returns `None` if the first input has
-/// no point at the time, or the kernel has no value there, and so at each time outside the domain.
+/// no point at the time, or the kernel has no value there, and so at each time outside the domain, and always for a kernel of aligned
+/// windows.
 ///
 /// It reads from the trees the points of the time and those before it for as long as the kernel looks back. The cost is that of
 /// reading, and time linear in the points read. For many times, one call of [`run_over`] costs less than a call for each time. An

@@ -119,6 +119,8 @@ computed_meaning batch h w (Some (lines.Distiller id kernel lead grain first sec
     computed_on_stream h (stream_of h first) (λ f. on_second h second (defined f)) (λ f. computed_on_second h second (defined f) (λ s. tt))
 computed_meaning batch h w (Some (lines.Refresh id)) =
     computed_on_stream h (stream_of h id) (λ stream. refresh h stream (spec_of h stream)) (λ stream. computed_refresh h stream (spec_of h stream) refl)
+computed_meaning batch h w (Some (lines.Retire id first)) =
+    computed_on_stream h (stream_of h id) (λ stream. Commits (entries.Retire stream first)) (λ stream. tt)
 computed_meaning batch h w (Some (lines.Ask id query)) =
     computed_on_stream h (stream_of h id) (λ stream. Asks (of_stream query stream)) (λ stream. tt)
 computed_meaning batch h w (Some lines.Streams) = tt

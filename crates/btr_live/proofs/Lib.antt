@@ -6,6 +6,7 @@ mod FeedLines
 mod OutputLines
 mod DeleteLines
 -- the turns of a line
+pub mod HolderLemmas
 mod ReportedLemmas
 mod ServeLemmas
 mod RefreshLines

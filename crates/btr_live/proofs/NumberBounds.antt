@@ -89,6 +89,7 @@ module _ (start : StoreState) (log : LogState) (sound : log.failed ≡ None) (n 
   offers_within saw_failure low (entries.Define id spec) reply own next is some = committed_after low (entries.Define id spec) is.0 own next is.1 some
   offers_within saw_failure low (entries.Commit stream cut more) reply own next is some = committed_after low (entries.Commit stream cut more) is.0 own next is.1 some
   offers_within saw_failure low (entries.Distillate stream cut more reads) reply own next is some = landed_after low is.0 is.3 own next is.4 some
+  offers_within saw_failure low (entries.Retire stream first) reply own next is some = committed_after low (entries.Retire stream first) is.0 own next is.1 some
 
   answers_within : (saw_failure : Bool) (low : List Entry) (m : Meaning) (reply : LineReply) (own : List ℕ) (next : List Entry) → Answers start log saw_failure low m reply own next → 1 ≤ times n own → IsWithin log low n
   answers_within saw_failure low (Commits e) reply own next is some = offers_within saw_failure low e reply own next is some

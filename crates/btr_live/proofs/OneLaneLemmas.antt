@@ -32,7 +32,7 @@ use Rattle.btr_live.specs.declared.live.LiveReport.{LiveReport}
 use Rattle.btr_live.specs.Feeds.{none_waiting, fed}
 use Rattle.btr_live.specs.Meaning.{Meaning, Commits, Asks, Holds, Current, Refuses}
 use Rattle.btr_live.specs.Replies.{waiting_after, Means}
-use Rattle.btr_live.specs.Lanes.{reply_of_step, Offers, Answers, LaneState, tells_failure, RunsLine, RunsLines}
+use Rattle.btr_live.specs.Lanes.{reply_of_step, OffersEntry, Offers, Answers, LaneState, tells_failure, RunsLine, RunsLines}
 use Rattle.btr_live.specs.Lanes.{begun as lane_begun}
 use Rattle.btr_live.specs.LaneLaws.{lines_last}
 use Rattle.btr_live.specs.OneHistory.{of_lane, lanes_of, lane_lines}
@@ -95,14 +95,8 @@ module _ (start : StoreState) (log : LogState) (all : Follows log.history) where
     pub stops : saw_failure ≡ true → own ≡ []
     pub done : a ≡ at → IsDone start log saw_failure at m reply own next
 
-  -- An entry was offered, but no distillate.
-  abbrev OffersPlain : Bool → List Entry → Entry → LineReply → List ℕ → List Entry → Type 0
-  OffersPlain saw_failure a e reply own next =
-      (result : Result Receipt StepFault) × CommittedAfter start log a e result own next × (reply ≡ reply_of_step result)
-      × (saw_failure ≡ true → (count : ℕ) × (reply ≡ No (reasons.Stopped count)))
-
   -- The turn of an entry that is no distillate.
-  plain_turn : (saw_failure : Bool) (a : List Entry) (e : Entry) (reply : LineReply) (own : List ℕ) (next : List Entry) → OffersPlain saw_failure a e reply own next → InTurn saw_failure a (Commits e) reply own next
+  plain_turn : (saw_failure : Bool) (a : List Entry) (e : Entry) (reply : LineReply) (own : List ℕ) (next : List Entry) → OffersEntry start log saw_failure a e reply own next → InTurn saw_failure a (Commits e) reply own next
   plain_turn saw_failure a e reply own next is =
       let adds : Adds is.1.0 reply own next = subst (λ r. Adds is.1.0 r own next) (sym is.2) (committed_adds start log is.1.0 e is.0 own next is.1.3) in record {
         at = is.1.0;
@@ -148,6 +142,7 @@ module _ (start : StoreState) (log : LogState) (all : Follows log.history) where
   in_turn saw_failure a (Commits (entries.Commit stream cut added)) reply own next begins is = plain_turn saw_failure a (entries.Commit stream cut added) reply own next is
   in_turn saw_failure a (Commits (entries.Distillate stream cut added reads)) reply own next begins is =
       landing_turn saw_failure a stream cut added reads reply own next is
+  in_turn saw_failure a (Commits (entries.Retire stream first)) reply own next begins is = plain_turn saw_failure a (entries.Retire stream first) reply own next is
   in_turn saw_failure a (Asks query) reply own next begins is = idle_turn saw_failure a (Asks query) reply own next begins is.1 is
   in_turn saw_failure a (Holds count) reply own next begins is = idle_turn saw_failure a (Holds count) reply own next begins is.1 is
   in_turn saw_failure a (Current version) reply own next begins is = idle_turn saw_failure a (Current version) reply own next begins is.1 is

@@ -18,6 +18,7 @@ use Rattle.btr_text.specs.declared.reply.LineReply.TheVariants.{Done, No}
 use Rattle.btr_text.specs.declared.reply.Reason.{Reason}
 use Rattle.btr_text.specs.declared.reply.Reason.TheVariants as reasons
 use Rattle.btr_text.specs.Reasons.{reason_of_rejection}
+use Rattle.btr_live.specs.Reasons.{holder}
 use Rattle.btr_engine.specs.Body.{need_of}
 use Rattle.btr_live.specs.Meaning.{Meaning, Commits, Current, Refuses, on_stream, land, refresh, meaning}
 use Rattle.btr_live.specs.Replies.{reply_of_commit}
@@ -124,7 +125,7 @@ accepted_so s t stream spec version None replied store =
     let more : version ≡ suc (latest h stream) = omega (arith, is) in
     subst (λ (x : StoreState). IsRefreshed s x stream spec version) (sym store)
     (more ∙ sym (latest_next h stream spec), ap (λ (v : ℕ). reads (h ++ e ∷ []) stream spec v) more ∙ reads_next h stream spec)
-accepted_so s t stream spec version (Some why) replied store = absurd (not_refused version (reason_of_rejection why) replied)
+accepted_so s t stream spec version (Some why) replied store = absurd (not_refused version (reason_of_rejection (holder s.history why) why) replied)
 
 -- A commit that was not done has no version.
 not_done : (s t : StoreState) (e : Entry) (version : ℕ) → IsNotDone s (Commits e) (Done version) t → ⊥

@@ -30,6 +30,7 @@ use Rattle.btr_jobs.specs.States.{StoreState, LogState, log_seen, start_of}
 use Rattle.btr_jobs.specs.Turns.{Committed, CommittedAfter, Landed, LandedAfter}
 use Rattle.btr_jobs.proofs.StateLemmas.{failed_halt}
 use Rattle.btr_live.specs.Meaning.{Meaning, Commits, Asks, Holds, Current, Refuses}
+use Rattle.btr_live.specs.Reasons.{holder}
 use Rattle.btr_live.specs.Lanes.{reply_of_step, reply_of_landing, Offers, Answers, is_failure, tells_failure}
 use Rattle.btr_live.specs.Serving.{was_reported}
 
@@ -43,27 +44,29 @@ never P is = absurd (cc)
 -- ---- replies
 
 -- The reason of a rejection tells nothing of a failure.
-pub rejection_tells : (why : Rejection) → is_failure (No (reason_of_rejection why)) ≡ false
-rejection_tells rejections.NoStream = refl
-rejection_tells rejections.StreamExists = refl
-rejection_tells rejections.NotWritable = refl
-rejection_tells (rejections.OutOfDomain time) = refl
-rejection_tells rejections.Empty = refl
-rejection_tells (rejections.TooMany count) = refl
-rejection_tells rejections.StreamLimit = refl
-rejection_tells rejections.VersionLimit = refl
-rejection_tells rejections.BadSpec = refl
-rejection_tells (rejections.Crowded at) = refl
-rejection_tells (rejections.TooManyPoints count) = refl
+pub rejection_tells : (id : ℕ) (why : Rejection) → is_failure (No (reason_of_rejection id why)) ≡ false
+rejection_tells id rejections.NoStream = refl
+rejection_tells id rejections.StreamExists = refl
+rejection_tells id rejections.NotWritable = refl
+rejection_tells id (rejections.OutOfDomain time) = refl
+rejection_tells id rejections.Empty = refl
+rejection_tells id (rejections.TooMany count) = refl
+rejection_tells id rejections.StreamLimit = refl
+rejection_tells id rejections.VersionLimit = refl
+rejection_tells id rejections.BadSpec = refl
+rejection_tells id (rejections.BadFirst first present last) = refl
+rejection_tells id (rejections.Held output version) = refl
+rejection_tells id (rejections.Crowded at) = refl
+rejection_tells id (rejections.TooManyPoints count) = refl
 
 module _ (start : StoreState) (log : LogState) where
   stopped_by : (e : Entry) → log.failed ≡ Some e → has_failed start log ≡ true
   stopped_by e is = or_right start.stopped (is_some log.failed) (ap is_some is)
 
-  step_tells : (p : List Entry) (e : Entry) (result : Result Receipt StepFault) (own : List ℕ) (next : List Entry) → Committed start log p e result own next → is_failure (reply_of_step result) ≡ true → has_failed start log ≡ true
+  step_tells : (p : List Entry) (e : Entry) (result : Result Receipt StepFault) (own : List ℕ) (next : List Entry) → Committed start log p e result own next → is_failure (reply_of_step p result) ≡ true → has_failed start log ≡ true
   step_tells p e (Ok receipt) own next is tells = never _ tells
   step_tells p e (Err (steps.Stopped entries)) own next is tells = is.0.stopped
-  step_tells p e (Err (steps.Rejected why)) own next is tells = never _ (sym (rejection_tells why) ∙ tells)
+  step_tells p e (Err (steps.Rejected why)) own next is tells = never _ (sym (rejection_tells (holder p why) why) ∙ tells)
   step_tells p e (Err steps.Want) own next is tells = never _ tells
   step_tells p e (Err (steps.DeviceFull need left)) own next is tells = never _ tells
   step_tells p e (Err steps.DeviceFault) own next is tells = stopped_by e is.1.failed
@@ -79,7 +82,7 @@ module _ (start : StoreState) (log : LogState) where
   landing_tells p plan (Err (faults.DeviceFull need left)) own next is tells = never _ tells
   landing_tells p plan (Err faults.DeviceFault) own next is tells = stopped_by (entry_of plan) is.2.failed
 
-  step_after : (a : List Entry) (e : Entry) (result : Result Receipt StepFault) (reply : LineReply) (own : List ℕ) (next : List Entry) → CommittedAfter start log a e result own next → reply ≡ reply_of_step result → is_failure reply ≡ true → has_failed start log ≡ true
+  step_after : (a : List Entry) (e : Entry) (result : Result Receipt StepFault) (reply : LineReply) (own : List ℕ) (next : List Entry) → (turn : CommittedAfter start log a e result own next) → reply ≡ reply_of_step turn.0 result → is_failure reply ≡ true → has_failed start log ≡ true
   step_after a e result reply own next is same tells = step_tells is.0 e result own next is.3 (ap is_failure (sym same) ∙ tells)
 
   landing_after : (a : List Entry) (plan : PlanValue) (result : Result Receipt LandFault) (reply : LineReply) (own : List ℕ) (next : List Entry) → LandedAfter start log a plan result own next → reply ≡ reply_of_landing result → is_failure reply ≡ true → has_failed start log ≡ true
@@ -92,6 +95,8 @@ module _ (start : StoreState) (log : LogState) where
       step_after a (entries.Commit stream cut added) is.0 reply own next is.1 is.2 tells
   offers_tells saw_failure a (entries.Distillate stream cut added reads) reply own next is tells =
       landing_after a is.0 is.3 reply own next is.4 is.5 tells
+  offers_tells saw_failure a (entries.Retire stream first) reply own next is tells =
+      step_after a (entries.Retire stream first) is.0 reply own next is.1 is.2 tells
 
   -- A reply to what a line asks for tells of a failure only if there was one.
   pub answers_tell : (saw_failure : Bool) (a : List Entry) (m : Meaning) (reply : LineReply) (own : List ℕ) (next : List Entry) → Answers start log saw_failure a m reply own next → tells_failure m reply ≡ true → has_failed start log ≡ true
@@ -109,6 +114,7 @@ module _ (start : StoreState) (log : LogState) where
   offers_reported more saw_failure implies a (entries.Commit stream cut added) reply own next is = (is.0, is.1, is.2, λ t. is.3 (implies t))
   offers_reported more saw_failure implies a (entries.Distillate stream cut added reads) reply own next is =
       (is.0, is.1, is.2, is.3, is.4, is.5, λ t. is.6 (implies t))
+  offers_reported more saw_failure implies a (entries.Retire stream first) reply own next is = (is.0, is.1, is.2, λ t. is.3 (implies t))
 
   -- What is replied to who saw it is also replied to who did not.
   pub answers_reported : (more saw_failure : Bool) → (saw_failure ≡ true → more ≡ true) → (a : List Entry) (m : Meaning) (reply : LineReply) (own : List ℕ) (next : List Entry) → Answers start log more a m reply own next → Answers start log saw_failure a m reply own next

@@ -1,9 +1,10 @@
 -- Lemmas on the turns of a line: a look, what is asked for after it, and replies that take no turn.
-use Rattle.std.specs.Prelude.{◌≡◌, ℕ, Bool, List, [], ◌++◌, length, true, false, Result}
-use Rattle.std.proofs.Common.{refl, sym, ap, subst}
+use Rattle.std.specs.Prelude.{◌≡◌, ℕ, Bool, List, [], ◌++◌, length, slice_get, true, false, Some, unwrap_or, Result}
+use Rattle.std.proofs.Common.{refl, sym, ap, ◌∙◌, subst, append-nil}
 use Rattle.btr_disk.specs.declared.disk.Disk.{Ghosts}
 use Rattle.btr_hist.specs.declared.entry.Entry.{Entry}
 use Rattle.btr_hist.specs.declared.entry.Entry.TheVariants as entries
+use Rattle.btr_hist.specs.History.{ids}
 use Rattle.btr_distil.specs.Plan.{PlanValue, entry_of}
 use Rattle.btr_plan.specs.Next.{IsNextPlan}
 use Rattle.btr_streams.specs.declared.board.Receipt.{Receipt}
@@ -25,23 +26,27 @@ use Rattle.btr_hall.specs.Commit.{Commits, is_distillate}
 use Rattle.btr_hall.specs.Landing.{Lands}
 use Rattle.btr_jobs.specs.States.{StoreState, LogState, log_seen, start_of}
 use Rattle.btr_jobs.specs.Turns.{Committed, CommittedAfter, LandedAfter}
+use Rattle.btr_jobs.specs.TurnLaws.{history_later}
 use Rattle.btr_jobs.specs.Jobs.{IsAt}
 use Rattle.btr_jobs.proofs.DoesLemmas.{goes_none, does_then}
 use Rattle.btr_jobs.proofs.StateLemmas.{history_goes_on}
 use Rattle.btr_jobs.proofs.TurnLemmas.{commit_turn, land_turn, look_turn}
 use Rattle.btr_live.specs.Meaning.{Meaning, Commits as CommitsEntry, Holds, Current, Refuses}
 use Rattle.btr_live.specs.Lanes.{reply_of_step, reply_of_landing, Offers, Answers}
-use Rattle.btr_live.specs.Serving.{Asking, Serves, Knows, was_reported, RepliesIn, ServesIn}
+use Rattle.btr_live.specs.LaneLaws.{answers_lasts}
+use Rattle.btr_live.specs.Serving.{Asking, HasReply, Serves, Knows, was_reported, RepliesIn, ServesIn, holding_output, reply_with}
+use Rattle.btr_live.proofs.HolderLemmas.{same_reply}
 use Rattle.btr_live.proofs.ReportedLemmas.{answers_reported, stopped_longer}
 
 -- ---- entries
 
 -- A user's entry is offered in a turn.
-pub offers : (start : StoreState) (log : LogState) (saw_failure : Bool) (a : List Entry) (e : Entry) (result : Result Receipt StepFault) (own : List ℕ) (next : List Entry) → is_distillate e ≡ false → CommittedAfter start log a e result own next → (saw_failure ≡ true → (count : ℕ) × (reply_of_step result ≡ No (reasons.Stopped count))) → Offers start log saw_failure a e (reply_of_step result) own next
+pub offers : (start : StoreState) (log : LogState) (saw_failure : Bool) (a : List Entry) (e : Entry) (result : Result Receipt StepFault) (own : List ℕ) (next : List Entry) → is_distillate e ≡ false → (turn : CommittedAfter start log a e result own next) → (saw_failure ≡ true → (count : ℕ) × (reply_of_step turn.0 result ≡ No (reasons.Stopped count))) → Offers start log saw_failure a e (reply_of_step turn.0 result) own next
 offers start log saw_failure a (entries.Create id) result own next user is again = (result, is, refl, again)
 offers start log saw_failure a (entries.Define id spec) result own next user is again = (result, is, refl, again)
 offers start log saw_failure a (entries.Commit stream cut added) result own next user is again = (result, is, refl, again)
 offers start log saw_failure a (entries.Distillate stream cut added reads) result own next user is again = absurd (cc)
+offers start log saw_failure a (entries.Retire stream first) result own next user is again = (result, is, refl, again)
 
 module _ {D : Type 0} {disk : Ghosts D} (hall : Hall D disk) where
   -- ---- replies
@@ -68,30 +73,58 @@ module _ {D : Type 0} {disk : Ghosts D} (hall : Hall D disk) where
   pub is_current : (s : Session D disk) (version : ℕ) → RepliesIn hall s s (Current version) (replies.Done version)
   is_current s version = here_replies s (Current version) (replies.Done version) (λ h of. (refl, record { own = refl; next = refl }))
 
-  -- The turn of an entry.
-  pub commit_replies : (old new : Session D disk) (e : Entry) (result : Result Receipt StepFault) → is_distillate e ≡ false → IsSame old new → Commits hall old new e result → RepliesIn hall old new (CommitsEntry e) (reply_of_step result)
-  commit_replies old new e result user same commits =
+  -- The turn of an entry. If an output holds a version that the entry would retire, `id` is the id of that in a later history.
+  pub commit_replies : (old new : Session D disk) (e : Entry) (result : Result Receipt StepFault) (id : ℕ) → is_distillate e ≡ false → IsSame old new → Commits hall old new e result → ((h : List Entry) → IsEngineOf h (opening_of hall) → (late : List Entry) × StartsWith late (log_seen h new).history × ((output : ℕ) → holding_output result ≡ Some output → id ≡ unwrap_or (slice_get (ids late) output) 0)) → RepliesIn hall old new (CommitsEntry e) (reply_with id result)
+  commit_replies old new e result id user same commits names =
       let does = commit_turn hall old new e result same commits in (
         does.0,
         does.1,
         λ h of.
             let said = does.2 h of in
-            record { next = said.0; answers = offers (start_of h hall) (log_seen h new) (was_reported hall old) (log_seen h old).history e result does.0 said.0 user said.1 (λ saw_failure. (length (history_of h commits.before), ap reply_of_step (commits.stopped (stopped_longer (opening_of hall) commits.before (seen_of old) commits.grows saw_failure) h of))); ends = said.2 },
+            let turn : CommittedAfter (start_of h hall) (log_seen h new) (log_seen h old).history e result does.0 said.0 = said.1 in
+            let named = names h of in
+            let reply : reply_with id result ≡ reply_of_step turn.0 result = same_reply (start_of h hall) (log_seen h new) turn.0 named.0 e result does.0 said.0 id (starts_trans named.0 (log_seen h new).history turn.0 named.1 turn.2) turn.3 named.2 in
+            let offered = offers (start_of h hall) (log_seen h new) (was_reported hall old) (log_seen h old).history e result does.0 said.0 user turn (λ saw_failure. (length (history_of h commits.before), ap (reply_of_step turn.0) (commits.stopped (stopped_longer (opening_of hall) commits.before (seen_of old) commits.grows saw_failure) h of))) in
+            record {
+              next = said.0;
+              answers = subst (λ r. Offers (start_of h hall) (log_seen h new) (was_reported hall old) (log_seen h old).history e r does.0 said.0) (sym reply) offered;
+              ends = said.2;
+            },
       )
 
+  -- After a look a reply is as before.
+  pub replies_look : (old mid new : Session D disk) (m : Meaning) (reply : LineReply) → IsAt hall new → Looks hall mid new → RepliesIn hall old mid m reply → RepliesIn hall old new m reply
+  replies_look old mid new m reply at looks replies =
+      does_then hall old mid new
+      (λ start log low own. HasReply start log (was_reported hall old) low m reply own)
+      (λ start log low own. (own ≡ []) × StartsWith log.history low × Unit {0})
+      (λ start log low own. HasReply start log (was_reported hall old) low m reply own)
+      at
+      (λ start late early low a b on starts first second. record {
+        next = first.next;
+        answers = subst (λ l. Answers start late (was_reported hall old) low m reply l first.next) (sym (ap (λ l. a ++ l) second.0 ∙ append-nil a))
+            (answers_lasts start late early on (was_reported hall old) low m reply a first.next first.answers);
+        ends = history_later start late early first.next on first.ends;
+      })
+      replies
+      (look_turn hall mid new looks (λ _. Unit {0}) (λ h of. tt))
+
   -- An entry of a user was refused after a look.
-  pub look_commits : (old new : Session D disk) (e : Entry) (result : Result Receipt StepFault) → is_distillate e ≡ false → Looks hall old new → ((h : List Entry) → IsEngineOf h (opening_of hall) → Committed (start_of h hall) (log_seen h new) (log_seen h new).history e result [] (log_seen h new).history) → ((h : List Entry) → IsEngineOf h (opening_of hall) → was_reported hall new ≡ true → (count : ℕ) × (reply_of_step result ≡ No (reasons.Stopped count))) → RepliesIn hall old new (CommitsEntry e) (reply_of_step result)
-  look_commits old new e result user looks says again =
+  pub look_commits : (old new : Session D disk) (e : Entry) (result : Result Receipt StepFault) (reply : LineReply) → is_distillate e ≡ false → ((p : List Entry) → reply_of_step p result ≡ reply) → Looks hall old new → ((h : List Entry) → IsEngineOf h (opening_of hall) → Committed (start_of h hall) (log_seen h new) (log_seen h new).history e result [] (log_seen h new).history) → ((h : List Entry) → IsEngineOf h (opening_of hall) → was_reported hall new ≡ true → (count : ℕ) × (reply ≡ No (reasons.Stopped count))) → RepliesIn hall old new (CommitsEntry e) reply
+  look_commits old new e result reply user same looks says again =
       let does = look_turn hall old new looks (λ _. Unit {0}) (λ h of. tt) in (
         does.0,
         does.1,
         λ h of.
             let seen = (log_seen h new).history in
-            let none : [] ≡ does.0 = sym (does.2 h of).0 in record {
+            let none : [] ≡ does.0 = sym (does.2 h of).0 in
+            let turn : CommittedAfter (start_of h hall) (log_seen h new) (log_seen h old).history e result does.0 seen =
+            (seen, history_goes_on h new old looks.grows, starts_refl seen, subst (λ own. Committed (start_of h hall) (log_seen h new) seen e result own seen) none (says h of)) in
+            let offered = offers (start_of h hall) (log_seen h new) (was_reported hall old) (log_seen h old).history e result does.0 seen user turn
+            (λ saw_failure. let heard = again h of (stopped_longer (opening_of hall) (seen_of new) (seen_of old) looks.grows saw_failure) in (heard.0, same turn.0 ∙ heard.1)) in
+            record {
               next = seen;
-              answers = offers (start_of h hall) (log_seen h new) (was_reported hall old) (log_seen h old).history e result does.0 seen user
-                  (seen, history_goes_on h new old looks.grows, starts_refl seen, subst (λ own. Committed (start_of h hall) (log_seen h new) seen e result own seen) none (says h of))
-                  (λ saw_failure. again h of (stopped_longer (opening_of hall) (seen_of new) (seen_of old) looks.grows saw_failure));
+              answers = subst (λ r. Offers (start_of h hall) (log_seen h new) (was_reported hall old) (log_seen h old).history e r does.0 seen) (same turn.0) offered;
               ends = starts_refl seen;
             },
       )

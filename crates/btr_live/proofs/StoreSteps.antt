@@ -22,6 +22,7 @@ use Rattle.btr_gate.proofs.PrefixLemmas.{starts_length}
 use Rattle.btr_jobs.specs.States.{StoreState, LogState}
 use Rattle.btr_jobs.specs.Turns.{IsAdded, IsFailed, IsIdle, IsFull, Committed}
 use Rattle.btr_live.specs.Meaning.{Meaning, Commits, Asks, Holds, Current, Refuses}
+use Rattle.btr_live.specs.Reasons.{holder}
 use Rattle.btr_live.specs.Replies.{reply_of_answer, reply_of_commit}
 use Rattle.btr_live.specs.Lanes.{reply_of_step, is_failure, tells_failure}
 use Rattle.btr_live.specs.Script.{store_with_entry, after_commit, IsModel, IsDeviceFault, RepliesTo}
@@ -46,7 +47,7 @@ reported_still false b is = absurd (cc)
 -- What was done in a turn at the history to which the line was admitted. Who saw the device fail gets a reply that says so again.
 abbrev pub IsDone : StoreState → LogState → Bool → List Entry → Meaning → LineReply → List ℕ → List Entry → Type 0
 IsDone start log saw_failure h (Commits e) reply own next =
-    (result : Result Receipt StepFault) × Committed start log h e result own next × (reply ≡ reply_of_step result)
+    (result : Result Receipt StepFault) × Committed start log h e result own next × (reply ≡ reply_of_step h result)
     × (saw_failure ≡ true → (count : ℕ) × (reply ≡ No (reasons.Stopped count)))
 IsDone start log saw_failure h (Asks query) reply own next =
     ((reply ≡ reply_of_answer (answer h query)) ⊎ (reply ≡ No reasons.Memory)) × IsIdle h own next
@@ -165,7 +166,7 @@ module _ (start : StoreState) (log : LogState) (fits : FitsLeft start log) (runs
         }
 
     -- A commit while the store runs.
-    running : (is_failure reply ≡ true → own ≡ [] → log.history ≡ h → is_some log.failed ≡ true → ⊥) → (result : Result Receipt StepFault) → Committed start log h e result own next → reply ≡ reply_of_step result → Stepped h false saw_failure (Commits e) reply own next
+    running : (is_failure reply ≡ true → own ≡ [] → log.history ≡ h → is_some log.failed ≡ true → ⊥) → (result : Result Receipt StepFault) → Committed start log h e result own next → reply ≡ reply_of_step h result → Stepped h false saw_failure (Commits e) reply own next
     running no_stop (Ok receipt) is replied =
         added receipt.version is.2 (record {
           allowed = (refl, λ none. entry_fits h e (begins_fits (h ++ e ∷ []) is.2.follows));
@@ -210,7 +211,7 @@ module _ (start : StoreState) (log : LogState) (fits : FitsLeft start log) (runs
         })
 
     -- A commit after the store was stopped.
-    stopped_so : IsLast log h saw_failure → (count : ℕ) → reply ≡ No (reasons.Stopped count) → (result : Result Receipt StepFault) → Committed start log h e result own next → reply ≡ reply_of_step result → Stepped h true saw_failure (Commits e) reply own next
+    stopped_so : IsLast log h saw_failure → (count : ℕ) → reply ≡ No (reasons.Stopped count) → (result : Result Receipt StepFault) → Committed start log h e result own next → reply ≡ reply_of_step h result → Stepped h true saw_failure (Commits e) reply own next
     stopped_so last count refused (Ok receipt) is replied =
         not_both (is_failure reply) (ap is_failure replied) (ap is_failure refused)
     stopped_so last count refused (Err (steps.Stopped entries)) is replied =
@@ -220,7 +221,7 @@ module _ (start : StoreState) (log : LogState) (fits : FitsLeft start log) (runs
           store = refl;
         })))))
     stopped_so last count refused (Err (steps.Rejected why)) is replied =
-        not_both (is_failure reply) (ap is_failure replied ∙ rejection_tells why) (ap is_failure refused)
+        not_both (is_failure reply) (ap is_failure replied ∙ rejection_tells (holder h why) why) (ap is_failure refused)
     stopped_so last count refused (Err steps.Want) is replied =
         not_both (is_failure reply) (ap is_failure replied) (ap is_failure refused)
     stopped_so last count refused (Err (steps.DeviceFull need left)) is replied =

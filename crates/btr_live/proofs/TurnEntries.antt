@@ -90,12 +90,12 @@ module _ (start : StoreState) (log : LogState) (p : List Entry) where
   }
 
   -- What a turn of an entry added.
-  pub committed_adds : (e : Entry) (result : Result Receipt StepFault) (own : List ℕ) (next : List Entry) → Committed start log p e result own next → Adds p (reply_of_step result) own next
+  pub committed_adds : (e : Entry) (result : Result Receipt StepFault) (own : List ℕ) (next : List Entry) → Committed start log p e result own next → Adds p (reply_of_step p result) own next
   committed_adds e (Ok receipt) own next is = adds_one e receipt.version own next is.2
-  committed_adds e (Err (steps.Stopped entries)) own next is = adds_none p (reply_of_step (Err (steps.Stopped entries))) own next is.1
-  committed_adds e (Err (steps.Rejected why)) own next is = adds_none p (reply_of_step (Err (steps.Rejected why))) own next is.1
-  committed_adds e (Err steps.Want) own next is = adds_none p (reply_of_step (Err steps.Want)) own next is.1
-  committed_adds e (Err (steps.DeviceFull need left)) own next is = adds_none p (reply_of_step (Err (steps.DeviceFull need left))) own next is.2
+  committed_adds e (Err (steps.Stopped entries)) own next is = adds_none p (reply_of_step p (Err (steps.Stopped entries))) own next is.1
+  committed_adds e (Err (steps.Rejected why)) own next is = adds_none p (reply_of_step p (Err (steps.Rejected why))) own next is.1
+  committed_adds e (Err steps.Want) own next is = adds_none p (reply_of_step p (Err steps.Want)) own next is.1
+  committed_adds e (Err (steps.DeviceFull need left)) own next is = adds_none p (reply_of_step p (Err (steps.DeviceFull need left))) own next is.2
   committed_adds e (Err steps.DeviceFault) own next is = adds_failed e own next is.1
 
   -- What a turn of a plan added.
@@ -142,7 +142,7 @@ module _ (start : StoreState) (log : LogState) (all : Follows log.history) where
     pub record IsStepOf (result : Result Receipt LandFault) (own : List ℕ) (next : List Entry) : Type 0 where
       pub step : Result Receipt StepFault
       pub committed : Committed start log h (entry_of plan) step own next
-      pub same : reply_of_landing result ≡ reply_of_step step
+      pub same : reply_of_landing result ≡ reply_of_step h step
 
     -- The entry of such a landing is rejected for that reason.
     limited : reply_to h plan ≡ Rejected rejections.VersionLimit → rejection h (entry_of plan) ≡ Some rejections.VersionLimit

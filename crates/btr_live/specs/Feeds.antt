@@ -38,6 +38,7 @@ added_of (entries.Create id) = []
 added_of (entries.Define id spec) = []
 added_of (entries.Commit stream cut added) = added
 added_of (entries.Distillate stream cut added new) = added
+added_of (entries.Retire stream first) = []
 
 -- ---- feeds in memory
 

@@ -8,24 +8,33 @@ use Rattle.btr_text.specs.declared.reply.LineReply.{LineReply}
 use Rattle.btr_gate.specs.Prefixes.{StartsWith}
 use Rattle.btr_gate.proofs.PrefixLemmas.{starts_trans}
 use Rattle.btr_jobs.specs.States.{StoreState, LogState, GoesOn}
-use Rattle.btr_jobs.specs.TurnLaws.{history_later, committed_lasts, landed_lasts}
+use Rattle.btr_jobs.specs.TurnLaws.{history_later, committed_still, landed_lasts}
 use Rattle.btr_live.specs.Meaning.{Meaning, Commits, Asks, Holds, Current, Refuses}
-use Rattle.btr_live.specs.Lanes.{Offers, Answers, LaneState, begun, RunsLine, RunsLines}
+use Rattle.btr_live.specs.Lanes.{OffersEntry, Offers, Answers, LaneState, begun, RunsLine, RunsLines}
 use Rattle.btr_live.specs.Running.{RunsLane}
 
 module _ (start : StoreState) (late early : LogState) (on : GoesOn start late early) where
+  entry_lasts : (saw_failure : Bool) (a : List Entry) (e : Entry) (reply : LineReply) (own : List ℕ) (next : List Entry)
+      → OffersEntry start early saw_failure a e reply own next → OffersEntry start late saw_failure a e reply own next
+  entry_lasts saw_failure a e reply own next is =
+      let p = is.1.0 in
+      let turn = committed_still start late early p e is.0 own next on is.1.3 in
+      (is.0, (p, is.1.1, history_later start late early p on is.1.2, turn), is.2, is.3)
+
   offers_lasts : (saw_failure : Bool) (a : List Entry) (e : Entry) (reply : LineReply) (own : List ℕ) (next : List Entry)
       → Offers start early saw_failure a e reply own next → Offers start late saw_failure a e reply own next
-  offers_lasts saw_failure a (entries.Create id) reply own next is =
-      (is.0, committed_lasts start late early a (entries.Create id) is.0 own next on is.1, is.2, is.3)
+  offers_lasts saw_failure a (entries.Create id) reply own next is = entry_lasts saw_failure a (entries.Create id) reply own next is
   offers_lasts saw_failure a (entries.Define id spec) reply own next is =
-      (is.0, committed_lasts start late early a (entries.Define id spec) is.0 own next on is.1, is.2, is.3)
+      entry_lasts saw_failure a (entries.Define id spec) reply own next is
   offers_lasts saw_failure a (entries.Commit stream cut added) reply own next is =
-      (is.0, committed_lasts start late early a (entries.Commit stream cut added) is.0 own next on is.1, is.2, is.3)
+      entry_lasts saw_failure a (entries.Commit stream cut added) reply own next is
   offers_lasts saw_failure a (entries.Distillate stream cut added reads) reply own next is =
       (is.0, is.1, is.2, is.3, landed_lasts start late early a is.0 is.3 own next on is.4, is.5, is.6)
+  offers_lasts saw_failure a (entries.Retire stream first) reply own next is =
+      entry_lasts saw_failure a (entries.Retire stream first) reply own next is
 
-  answers_lasts : (saw_failure : Bool) (a : List Entry) (m : Meaning) (reply : LineReply) (own : List ℕ) (next : List Entry)
+  -- What was asked for had its reply for ever.
+  pub answers_lasts : (saw_failure : Bool) (a : List Entry) (m : Meaning) (reply : LineReply) (own : List ℕ) (next : List Entry)
       → Answers start early saw_failure a m reply own next → Answers start late saw_failure a m reply own next
   answers_lasts saw_failure a (Commits e) reply own next is = offers_lasts saw_failure a e reply own next is
   answers_lasts saw_failure a (Asks query) reply own next is = is

@@ -18,15 +18,15 @@ use Rattle.btr_jobs.specs.States.{StoreState, LogState}
 use Rattle.btr_jobs.specs.Turns.{IsIdle, CommittedAfter, LandedAfter}
 use Rattle.btr_live.specs.Feeds.{Waiting, none_waiting, fed}
 use Rattle.btr_live.specs.Meaning.{Meaning, Commits, Asks, Holds, Current, Refuses}
-use Rattle.btr_live.specs.Reasons.{reason_of_step, reason_of_landing}
+use Rattle.btr_live.specs.Reasons.{holder_of_step, reason_of_step, reason_of_landing}
 use Rattle.btr_live.specs.Replies.{reply_of_answer, waiting_after, Means}
 
 -- ---- replies to what was done in a turn
 
--- The reply to an entry, by the result of its turn.
-abbrev pub reply_of_step : Result Receipt StepFault → LineReply
-reply_of_step (Ok receipt) = Done receipt.version
-reply_of_step (Err fault) = No (reason_of_step fault)
+-- The reply to an entry that was offered after p, by the result of its turn.
+abbrev pub reply_of_step : List Entry → Result Receipt StepFault → LineReply
+reply_of_step p (Ok receipt) = Done receipt.version
+reply_of_step p (Err fault) = No (reason_of_step (holder_of_step p fault) fault)
 
 -- The reply to a plan, by the result of its turn.
 abbrev pub reply_of_landing : Result Receipt LandFault → LineReply
@@ -36,16 +36,19 @@ reply_of_landing (Err fault) = No (reason_of_landing fault)
 -- ---- what is asked for
 
 -- The entry was offered in a turn after `a`, and this is the reply. `own` are the numbers of what the turn added, and the history that
--- is known after it begins with `next`. A distillate is that of a plan of `a`: it is refused if its output has another version since.
--- Who saw the device fail gets a reply that says so again.
+-- is known after it begins with `next`. Who saw the device fail gets a reply that says so again.
+abbrev pub OffersEntry : StoreState → LogState → Bool → List Entry → Entry → LineReply → List ℕ → List Entry → Type 0
+OffersEntry start log saw_failure a e reply own next =
+    (result : Result Receipt StepFault) × (turn : CommittedAfter start log a e result own next) × (reply ≡ reply_of_step turn.0 result)
+    × (saw_failure ≡ true → (count : ℕ) × (reply ≡ No (reasons.Stopped count)))
+
+-- So was this one. A distillate is that of a plan of `a`: it is refused if its output has another version since.
 abbrev pub Offers : StoreState → LogState → Bool → List Entry → Entry → LineReply → List ℕ → List Entry → Type 0
 Offers start log saw_failure a (entries.Distillate stream cut added reads) reply own next =
     (plan : PlanValue) × IsNextPlan a stream plan × (entry_of plan ≡ entries.Distillate stream cut added reads)
     × (result : Result Receipt LandFault) × LandedAfter start log a plan result own next × (reply ≡ reply_of_landing result)
     × (saw_failure ≡ true → (count : ℕ) × (reply ≡ No (reasons.Stopped count)))
-Offers start log saw_failure a e reply own next =
-    (result : Result Receipt StepFault) × CommittedAfter start log a e result own next × (reply ≡ reply_of_step result)
-    × (saw_failure ≡ true → (count : ℕ) × (reply ≡ No (reasons.Stopped count)))
+Offers start log saw_failure a e reply own next = OffersEntry start log saw_failure a e reply own next
 
 -- What a line asked for that was admitted to `a` had this reply. Memory may run out in an answer.
 abbrev pub Answers : StoreState → LogState → Bool → List Entry → Meaning → LineReply → List ℕ → List Entry → Type 0

@@ -120,6 +120,7 @@ meaning batch h w (Some (lines.Flush id)) = on_stream (stream_of h id)
 meaning batch h w (Some (lines.Discard id)) = on_stream (stream_of h id) (λ stream. Holds 0)
 meaning batch h w (Some (lines.Distiller id kernel lead grain first second)) = define h id kernel lead grain first second
 meaning batch h w (Some (lines.Refresh id)) = on_stream (stream_of h id) (λ stream. refresh h stream (spec_of h stream))
+meaning batch h w (Some (lines.Retire id first)) = on_stream (stream_of h id) (λ stream. Commits (entries.Retire stream first))
 meaning batch h w (Some (lines.Ask id query)) = on_stream (stream_of h id) (λ stream. Asks (of_stream query stream))
 meaning batch h w (Some lines.Streams) = Asks queries.Streams
 

@@ -20,6 +20,7 @@ use Rattle.btr_text.specs.declared.reply.Reason.TheVariants as reasons
 use Rattle.btr_text.specs.Reasons.{reason_of_rejection, reason_of_refusal}
 use Rattle.btr_live.specs.Feeds.{Waiting, with_points, feed_of}
 use Rattle.btr_live.specs.Meaning.{Meaning, Commits, Asks, Holds, Current, Refuses, meaning}
+use Rattle.btr_live.specs.Reasons.{holder}
 
 -- ---- what the model replies
 
@@ -29,7 +30,7 @@ reply_of_answer (Refused refusal) = No (reason_of_refusal refusal)
 
 abbrev pub reply_of_commit : List Entry → Entry → Option Rejection → LineReply
 reply_of_commit h e None = Done (receipt h e).version
-reply_of_commit h e (Some why) = No (reason_of_rejection why)
+reply_of_commit h e (Some why) = No (reason_of_rejection (holder h why) why)
 
 -- The model's reply to what is asked for.
 abbrev pub model_reply : List Entry → Meaning → LineReply

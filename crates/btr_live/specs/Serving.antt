@@ -1,8 +1,9 @@
 -- Private promises: what the turns of one line did, in a session.
-use Rattle.std.specs.Prelude.{◌≡◌, ◌⊎◌, ℕ, Bool, List, ◌++◌, Option, None}
+use Rattle.std.specs.Prelude.{◌≡◌, ◌⊎◌, ℕ, Bool, List, ◌++◌, Option, Some, None, Result, Ok, Err}
 use Rattle.btr_disk.specs.declared.disk.Disk.{Ghosts}
 use Rattle.btr_base.specs.declared.point.Point.{Point}
 use Rattle.btr_hist.specs.declared.entry.Entry.{Entry}
+use Rattle.btr_hist.specs.declared.rejection.Rejection.TheVariants.{Held}
 use Rattle.btr_text.specs.declared.script.Line.{Line}
 use Rattle.btr_text.specs.declared.reply.LineReply.{LineReply}
 use Rattle.btr_text.specs.declared.reply.LineReply.TheVariants.{Done, No}
@@ -10,6 +11,9 @@ use Rattle.btr_text.specs.declared.reply.Reason.TheVariants as reasons
 use Rattle.btr_feed.specs.Feed.{insert_fault}
 use Rattle.btr_hist.specs.History.{spec_of}
 use Rattle.btr_hist.specs.Answer.{answer}
+use Rattle.btr_streams.specs.declared.board.Receipt.{Receipt}
+use Rattle.btr_engine.specs.declared.step.StepFault.{StepFault}
+use Rattle.btr_engine.specs.declared.step.StepFault.TheVariants.{Rejected}
 use Rattle.btr_engine.specs.Engine.{IsEngineOf}
 use Rattle.btr_gate.specs.Prefixes.{StartsWith}
 use Rattle.btr_hall.specs.declared.session.Hall.{Hall}
@@ -23,7 +27,7 @@ use Rattle.btr_live.specs.Meaning.{Meaning, Asks, Refuses, feed, refresh}
 use Rattle.btr_live.specs.Replies.{reply_of_answer, model_reply, points_after, waiting_after, Means}
 use Rattle.btr_work.specs.declared.report.Refreshed.{Refreshed}
 use Rattle.btr_work.specs.declared.report.Refreshed.TheVariants.{Landed, Current, Refused}
-use Rattle.btr_live.specs.Reasons.{reason_of_landing}
+use Rattle.btr_live.specs.Reasons.{reason_of_step, reason_of_landing}
 use Rattle.btr_live.specs.Lanes.{Answers}
 
 -- What is asked for at a history.
@@ -66,6 +70,16 @@ pub record AddsPoints (batch : ℕ) (w : Waiting) (stream : ℕ) (added : List P
 -- To bring a stream up to date asks for this, or there was no memory to plan it.
 abbrev pub RefreshAsks : ℕ → Asking
 RefreshAsks stream = λ a m. (m ≡ refresh a stream (spec_of a stream)) ⊎ (m ≡ Refuses reasons.Memory)
+
+-- The reply to an entry, by the result of its turn. If it was rejected and the rejection names an output, `id` is the id of that.
+abbrev pub reply_with : ℕ → Result Receipt StepFault → LineReply
+reply_with id (Ok receipt) = Done receipt.version
+reply_with id (Err fault) = No (reason_of_step id fault)
+
+-- The number of the output that holds a version which the entry would retire, by the result of its turn.
+abbrev pub holding_output : Result Receipt StepFault → Option ℕ
+holding_output (Err (Rejected (Held output version))) = Some output
+holding_output result = None
 
 -- The reply to a line that brings an output up to date, by what became of the output.
 abbrev pub reply_of_refreshed : Refreshed → LineReply

@@ -1,4 +1,4 @@
-//! The lines of outputs: one defines an output, and one brings it up to date.
+//! The lines of outputs: two define an output, and one brings it up to date.
 ghost use Rattle.std.specs.Prelude.{◌≡◌, ℕ, Some};
 ghost use Rattle.btr_hist.specs.declared.entry.Entry.TheVariants.{Define as DefineSpec};
 ghost use Rattle.btr_hist.specs.History.{stream_of};
@@ -21,7 +21,8 @@ use std::marker::Sync;
 use std::sync::Wait;
 use std::thread::Threads;
 
-/// `distiller ID KERNEL LEAD GRAIN ID [ID]`: defines an output, whose inputs are the streams with the ids `first` and `second`.
+/// `distiller ID KERNEL LEAD GRAIN ID [ID]`: defines an output, whose inputs are the streams with the ids `first` and `second`. A line
+/// `cell ID WHICH P GRAIN ID` comes here too, with a kernel of aligned windows, a lead of 0 and one input.
 pub(crate) fn define<R: Threads + Wait + Sync, D: Disk>(
     system: System<'_, R>,
     hall: &Hall<D>,

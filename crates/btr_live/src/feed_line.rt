@@ -164,7 +164,9 @@ fn added_of(alloc: Global, entry: Entry) -> Bag
     ensures { result ≡ added_of entry }
 {
     match entry {
-        Entry::Create { .. } | Entry::Define { .. } => Bag::from_points(Vec::new(alloc)),
+        Entry::Create { .. } | Entry::Define { .. } | Entry::Retire { .. } => {
+            Bag::from_points(Vec::new(alloc))
+        }
         Entry::Commit { added, .. } => added,
         Entry::Distillate { added, .. } => added,
     }

@@ -1,15 +1,14 @@
 //! One line of a lane: what it asks for is done in turns of the lane's session, and it has its reply.
 ghost use Rattle.std.specs.Prelude.{◌≡◌, ℕ, [], ◌∷◌, false, Some, IfOk};
 ghost use Rattle.btr_base.specs.Range.{RangeValue};
-ghost use Rattle.btr_hist.specs.declared.entry.Entry.TheVariants.{Commit as CommitSpec};
+ghost use Rattle.btr_hist.specs.declared.entry.Entry.TheVariants.{Commit as CommitSpec, Retire as RetireSpec};
 ghost use Rattle.btr_hist.specs.History.{stream_of};
 ghost use Rattle.btr_hist.specs.Query.{of_stream};
 ghost use Rattle.btr_hall.specs.Found.{IsFound};
 ghost use Rattle.btr_hall.specs.Commit.{is_distillate};
 ghost use Rattle.btr_jobs.specs.Jobs.{IsAt};
 ghost use Rattle.btr_live.specs.Meaning.{Asks, Commits, delete, on_stream};
-ghost use Rattle.btr_live.specs.Lanes.{reply_of_step};
-ghost use Rattle.btr_live.specs.Serving.{AsksFor, Knows, RepliesIn, ServesIn, ServesLine};
+ghost use Rattle.btr_live.specs.Serving.{AsksFor, Knows, RepliesIn, ServesIn, ServesLine, holding_output, reply_with};
 
 use crate::distill_line::{define, refresh};
 use crate::feed_line::{discard, feed, flush};
@@ -20,7 +19,7 @@ use btr_base::{Bag, Range, Ranges};
 use btr_disk::Disk;
 use btr_engine::{Receipt, StepFault};
 use btr_hall::{FoundStream, Hall, Session};
-use btr_hist::{Entry, Query, StreamQuery};
+use btr_hist::{Entry, Query, Rejection, StreamQuery};
 use btr_jobs::System;
 use btr_text::{Line, LineReply, Reason};
 use std::alloc::{AllocError, Global};
@@ -63,6 +62,7 @@ pub(crate) fn answer_line<R: Threads + Wait + Sync, D: Disk>(
             )
         }
         Some(Line::Refresh { id }) => refresh(system, hall, session, id),
+        Some(Line::Retire { id, first }) => retire(system, hall, session, id, first),
         Some(Line::Ask { id, query }) => ask_stream(system, hall, session, id, query),
         Some(Line::Streams) => ask(system, hall, session, &Query::Streams),
         None => LineReply::No(Reason::Line),
@@ -87,6 +87,27 @@ fn insert<R: Threads + Wait + Sync, D: Disk>(
         Some(FoundStream { stream, .. }) => {
             let cut = Ranges::none(system.alloc);
             commit(system, hall, session, &Entry::Commit { stream, cut, added })
+        }
+    }
+}
+
+/// Retires the versions of the stream with this id before the first.
+fn retire<R: Threads + Wait + Sync, D: Disk>(
+    system: System<'_, R>,
+    hall: &Hall<D>,
+    session: &mut Session<D>,
+    id: u128,
+    first: u64,
+) -> LineReply
+    requires at { IsAt hall.now session.old }
+    ensures at { IsAt hall.now session.new }
+    ensures serves { ServesIn hall.now session.old session.new
+        (AsksFor (λ h. on_stream (stream_of h id) (λ stream. Commits (RetireSpec stream first)))) result }
+{
+    match session.find(system.rt, hall, id) {
+        None => LineReply::No(Reason::Stream),
+        Some(FoundStream { stream, .. }) => {
+            commit(system, hall, session, &Entry::Retire { stream, first })
         }
     }
 }
@@ -171,7 +192,8 @@ fn one_range(alloc: Global, range: Range) -> Result<Ranges, AllocError>
     }
 }
 
-/// Commits an entry, which is no distillate.
+/// Commits an entry, which is no distillate. If an output holds the version that the entry would retire, it takes one more turn, which
+/// looks up the id of that output.
 pub(crate) fn commit<R: Threads + Wait + Sync, D: Disk>(
     system: System<'_, R>,
     hall: &Hall<D>,
@@ -184,18 +206,34 @@ pub(crate) fn commit<R: Threads + Wait + Sync, D: Disk>(
     ensures replies { RepliesIn hall.now session.old session.new (Commits entry.now) result }
 {
     let result = session.commit(system.rt, system.alloc, hall, entry);
-    reply_of(result)
+    match holding_output(&result) {
+        None => reply_with(result, 0),
+        Some(output) => {
+            let id = session.id(system.rt, hall, output).unwrap_or(0);
+            reply_with(result, id)
+        }
+    }
 }
 
-/// The reply to an entry, by the result of its turn.
-fn reply_of(step: Result<Receipt, StepFault>) -> LineReply
-    ensures { result ≡ reply_of_step step }
+/// The number of the output that holds a version which the entry would retire, by the result of its turn.
+fn holding_output(step: &Result<Receipt, StepFault>) -> Option<u32>
+    ensures { result ≡ holding_output step.now }
+{
+    match step {
+        Err(StepFault::Rejected(Rejection::Held { output, .. })) => Some(*output),
+        Ok(_) | Err(_) => None,
+    }
+}
+
+/// The reply to an entry, by the result of its turn. If its rejection names an output, `id` is the id of that.
+fn reply_with(step: Result<Receipt, StepFault>, id: u128) -> LineReply
+    ensures { result ≡ reply_with id step }
 {
     match step {
         Ok(receipt) => LineReply::Done {
             version: receipt.version,
         },
-        Err(fault) => LineReply::No(reason_of_step(fault)),
+        Err(fault) => LineReply::No(reason_of_step(fault, id)),
     }
 }
 

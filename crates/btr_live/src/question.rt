@@ -30,7 +30,9 @@ pub fn answer_question(alloc: Global, snapshot: &Snapshot, line: Option<Line>) -
         Line::Feed { .. } | Line::Flush { .. } | Line::Discard { .. } => {
             LineReply::No(Reason::Line)
         }
-        Line::Distiller { .. } | Line::Refresh { .. } => LineReply::No(Reason::Line),
+        Line::Distiller { .. } | Line::Refresh { .. } | Line::Retire { .. } => {
+            LineReply::No(Reason::Line)
+        }
     }
 }
 

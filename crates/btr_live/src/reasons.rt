@@ -6,13 +6,14 @@ use btr_engine::StepFault;
 use btr_hall::LandFault;
 use btr_text::Reason;
 
-/// Returns the reason that a reply gives for an entry that was not added. It takes constant time.
-pub fn reason_of_step(fault: StepFault) -> Reason
-    ensures { result ≡ reason_of_step fault }
+/// Returns the reason that a reply gives for an entry that was not added. If the rejection of the entry names an output, `id` is the id of
+/// that; else it is not looked at. It takes constant time.
+pub fn reason_of_step(fault: StepFault, id: u128) -> Reason
+    ensures { result ≡ reason_of_step id fault }
 {
     match fault {
         StepFault::Stopped { entries } => Reason::Stopped { entries },
-        StepFault::Rejected(why) => Reason::of_rejection(why),
+        StepFault::Rejected(why) => Reason::of_rejection(why, id),
         StepFault::Want => Reason::Memory,
         StepFault::DeviceFull { need, left } => Reason::Full { need, left },
         StepFault::DeviceFault => Reason::Device,

@@ -1,8 +1,10 @@
 -- Lemmas on the bytes of a head: they give the head back, so no other head has them.
-use Rattle.std.specs.Prelude.{◌≡◌, ℕ, ◌+◌, ◌^◌, ◌<◌, ◌≤◌, List, length}
+use Rattle.std.specs.Prelude.{◌≡◌, ℕ, ◌+◌, ◌^◌, ◌<◌, ◌≤◌, List, ◌++◌, length, take, drop}
 use Rattle.std.proofs.Common.{refl, sym, ap, ◌∙◌, arith, inl, ⊎_elim}
+use Rattle.std.proofs.lemmas.List.{take-append-drop}
 use Rattle.std.proofs.lemmas.Nat.{from_be_bytes-to_be_bytes_4, from_be_bytes-to_be_bytes_8}
 use Rattle.btr_disk.specs.Gate.{zeros}
+use Rattle.btr_disk.specs.Numbers.{u32_at}
 use Rattle.btr_log.specs.declared.head.Head.{Head}
 use Rattle.btr_log.specs.Head.{content_blocks, head_bytes, head_at, entry_head, IsHead, Spells}
 
@@ -15,7 +17,7 @@ pub head_at-head_bytes : (head : Head) → IsHead head → head_at (head_bytes h
 unfolding head_bytes head_at
 head_at-head_bytes head is =
     let kind : head.kind < 2 ^ 32 = ⊎_elim (λ e. omega (arith, e.0)) (λ c. omega (arith, c.0)) is.kind in
-    let format : head.format < 2 ^ 32 = omega (arith, is.format) in
+    let format : head.format < 2 ^ 32 = omega (arith, is.format.1) in
     let fits = is.fits in
     let e1 = from_be_bytes-to_be_bytes_4 head.kind kind in
     let e2 = from_be_bytes-to_be_bytes_4 head.format format in
@@ -35,12 +37,21 @@ pub Spells-one : (bytes : List ℕ) (first second : Head) → Spells bytes first
 Spells-one bytes first second one other =
     head_bytes-one first second one.is_head other.is_head (sym one.spelling ∙ other.spelling)
 
+-- the format is read in the bytes of a body, which begin with the head's
+pub format-head : (head : Head) (rest : List ℕ) → IsHead head → u32_at 12 (head_bytes head ++ rest) ≡ head.format
+unfolding head_bytes
+format-head head rest is = from_be_bytes-to_be_bytes_4 head.format (omega (arith, is.format.1))
+
+pub format-spells : (body : List ℕ) (head : Head) → Spells (take 64 body) head → u32_at 12 body ≡ head.format
+format-spells body head spells =
+    ap (u32_at 12) (sym (take-append-drop 64 body) ∙ ap (λ l. l ++ drop 64 body) spells.spelling) ∙ format-head head (drop 64 body) spells.is_head
+
 -- the head of an entry keeps the grammar
-pub IsHead-entry_head : (number length nodes root : ℕ) → 1 ≤ number → number < 2 ^ 64 → length < 2 ^ 64
-    → content_blocks length + nodes < 2 ^ 64 → root < 2 ^ 64 → IsHead (entry_head number length nodes root)
-IsHead-entry_head number length nodes root least most few fit low = record {
+pub IsHead-entry_head : (format number length nodes root : ℕ) → 1 ≤ format → format ≤ 3 → 1 ≤ number → number < 2 ^ 64 → length < 2 ^ 64
+    → content_blocks length + nodes < 2 ^ 64 → root < 2 ^ 64 → IsHead (entry_head format number length nodes root)
+IsHead-entry_head format number length nodes root some known least most few fit low = record {
   kind = inl (refl, least);
-  format = refl;
+  format = (some, known);
   blocks = refl;
   fits = record { number = most; n = fit; length = few; nodes = omega (arith, fit); root = low };
 }

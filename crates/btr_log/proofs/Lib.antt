@@ -6,4 +6,5 @@ pub mod LogLemmas
 mod Pieces
 mod AppendImages
 mod GateAndHead
-mod PieceLemmas
+pub mod PieceLemmas
+pub mod OnlyReading

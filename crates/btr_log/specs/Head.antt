@@ -32,15 +32,16 @@ IsCheckpointHead head = (head.kind ≡ 2) × (head.nodes ≡ 0) × (head.root �
 -- The grammar of a head, apart from its bytes.
 pub record IsHead (head : Head) : Type 0 where
   pub kind : IsEntryHead head ⊎ IsCheckpointHead head
-  pub format : head.format ≡ 1
+  pub format : (1 ≤ head.format) × (head.format ≤ 3)
   pub blocks : head.n ≡ content_blocks head.length + head.nodes
   pub fits : FitsFields head
 
--- The head of the entry with this number and a content of `length` bytes, in a body with this many node blocks and this root.
-abbrev pub entry_head : ℕ → ℕ → ℕ → ℕ → Head
-entry_head number length nodes root = record {
+-- The head, in this format, of the entry with this number and a content of `length` bytes, in a body with this many node blocks and
+-- this root.
+abbrev pub entry_head : ℕ → ℕ → ℕ → ℕ → ℕ → Head
+entry_head format number length nodes root = record {
   kind = 1;
-  format = 1;
+  format = format;
   number = number;
   n = content_blocks length + nodes;
   length = length;
@@ -48,11 +49,11 @@ entry_head number length nodes root = record {
   root = root;
 }
 
--- The head of a checkpoint after this number of entries, with a content of `length` bytes.
-abbrev pub checkpoint_head : ℕ → ℕ → Head
-checkpoint_head number length = record {
+-- The head, in this format, of a checkpoint after this number of entries, with a content of `length` bytes.
+abbrev pub checkpoint_head : ℕ → ℕ → ℕ → Head
+checkpoint_head format number length = record {
   kind = 2;
-  format = 1;
+  format = format;
   number = number;
   n = content_blocks length;
   length = length;

@@ -5,3 +5,4 @@ pub mod Append
 pub mod Found
 pub mod Piece
 pub mod Ahead
+pub mod Reads

@@ -10,17 +10,20 @@ pub const HEAD_BYTES: usize = 64;
 /// The first eight bytes of a head: ASCII `BTR-BODY`.
 pub const HEAD_MARK: [u8; 8] = *b"BTR-BODY";
 
+/// The greatest format of a body.
+const MAX_FORMAT: u32 = 3;
+
 /// The head of an extent's body.
 ///
 /// Its 64 bytes are the mark, the fields in their order and width with the highest byte first, and 8 zero
-/// bytes. The grammar of a head: its format is 1, its kind is 1 or 2, and `n` is the number of blocks of
-/// head and content, the last one filled up, and of node blocks.
+/// bytes. The grammar of a head: its format is 1 to 3, its kind is 1 or 2, and `n` is the number of blocks
+/// of head and content, the last one filled up, and of node blocks.
 #[derive(Clone, Copy, PartialEq, Eq)]
 pub struct Head {
     /// 1 for an entry, whose number is at least 1, or 2 for a checkpoint, which has no nodes and no root.
     pub kind: u32,
 
-    /// The format of the body, 1.
+    /// The format of the body, 1 to 3.
     pub format: u32,
 
     /// The number of the entry, from 1 on; for a checkpoint, the number of entries before it.
@@ -40,14 +43,15 @@ pub struct Head {
 }
 
 impl Head {
-    /// The head of the entry with this number and a content of `length` bytes, in a body with this many node blocks and this root.
-    pub fn for_entry(number: u64, length: u64, nodes: u64, root: u64) -> Head
+    /// The head, in this format, of the entry with this number and a content of `length` bytes, in a body with this many node blocks and
+    /// this root.
+    pub fn for_entry(format: u32, number: u64, length: u64, nodes: u64, root: u64) -> Head
         requires { content_blocks length + nodes < 2 ^ 64 }
-        ensures { result ≡ entry_head number length nodes root }
+        ensures { result ≡ entry_head format number length nodes root }
     {
         Head {
             kind: 1,
-            format: 1,
+            format,
             number,
             n: blocks_of_content(length) + nodes,
             length,
@@ -56,13 +60,14 @@ impl Head {
         }
     }
 
-    /// The head of a checkpoint after this number of entries, with a content of `length` bytes. Its body has no node blocks and no root.
-    pub fn for_checkpoint(number: u64, length: u64) -> Head
-        ensures { result ≡ checkpoint_head number length }
+    /// The head, in this format, of a checkpoint after this number of entries, with a content of `length` bytes. Its body has no node
+    /// blocks and no root.
+    pub fn for_checkpoint(format: u32, number: u64, length: u64) -> Head
+        ensures { result ≡ checkpoint_head format number length }
     {
         Head {
             kind: 2,
-            format: 1,
+            format,
             number,
             n: blocks_of_content(length),
             length,
@@ -112,8 +117,9 @@ fn keeps_grammar(head: Head) -> bool
 {
     let is_kind = (head.kind == 1 && head.number >= 1)
         || (head.kind == 2 && head.nodes == 0 && head.root == 0);
+    let is_format = head.format >= 1 && head.format <= MAX_FORMAT;
     let content = blocks_of_content(head.length);
-    head.format == 1 && is_kind && head.n >= content && head.n - content == head.nodes
+    is_format && is_kind && head.n >= content && head.n - content == head.nodes
 }
 
 /// The number of blocks that the head and a content of `length` bytes fill, the last one filled up.

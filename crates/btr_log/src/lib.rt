@@ -18,5 +18,5 @@ pub use append::AppendFault;
 pub use found::{ExtentFault, Found};
 pub use head::{HEAD_BYTES, HEAD_MARK, Head, blocks_of_content};
 pub use log::Log;
-pub use piece::Piece;
+pub use piece::{Piece, READ_AHEAD};
 pub use read::find_extent;

@@ -12,8 +12,8 @@ use btr_disk::{BLOCK, Disk};
 use std::alloc::Global;
 use std::marker::Model;
 
-/// The number of blocks that a read takes at least, if the log has as many: 1 MiB.
-const AHEAD: u64 = 256;
+/// The number of blocks that a read of a log takes at least, if the log has as many: 1 MiB.
+pub const READ_AHEAD: u64 = 256;
 
 /// A run of blocks that was read from a device.
 #[derive(Drop)]
@@ -58,6 +58,17 @@ impl Piece {
         &self.bytes[at..at + BLOCK * count as usize]
     }
 
+    /// The bytes of a block that the piece holds. They are not copied.
+    pub fn held(&self, block: u64) -> &[u8; BLOCK]
+        requires { HoldsBlocks self.now block 1 }
+        ensures { result.now ≡ bytes_at self.now block 1 }
+    {
+        match self.blocks(block, 1).first_chunk::<BLOCK>() {
+            Some(bytes) => bytes,
+            None => unreachable!(),
+        }
+    }
+
     /// Makes the piece hold the `count` blocks from this one on, of a log of `blocks` blocks on the device.
     ///
     /// If it holds all of them, it makes no call of the device, and stays. Else it reads from this block on in one call, and holds
@@ -81,7 +92,7 @@ impl Piece {
         if self.holds(block, count) {
             return Ok(());
         }
-        let more = count.max(AHEAD).min(blocks - block);
+        let more = count.max(READ_AHEAD).min(blocks - block);
         self.read(disk, block, more)
     }
 

@@ -3,7 +3,7 @@ ghost use Rattle.btr_entry.specs.Grammar.{IsWithinBounds};
 
 use super::fixture::{Row, all_hold};
 use btr_base::{END, FIRST, Point};
-use btr_entry::{append_entry, decode, one_spelling, spelling_length};
+use btr_entry::{append_entry, decode, format_of, one_spelling, spec_format, spelling_length};
 use btr_hist::{Entry, Kernel, Reads, Spec};
 use std::alloc::{AllocError, Global};
 use std::test::Fail;
@@ -59,6 +59,25 @@ const DEFINE: [u8; 32] = [
     0, 0, 0, 0, 0, 0, 0, 10, // lead
     0, // grain
     1, 0, 0, 0, 0, // inputs
+];
+
+/// The greatest value of each window of 2^10 ns of stream 258.
+const GREATEST: Spec = Spec {
+    kernel: Kernel::Cell { which: 4, p: 10 },
+    lead: 0,
+    grain: 7,
+    first: 258,
+    second: None,
+};
+
+/// The bytes of the definition of `OUTPUT` as `GREATEST`.
+const DEFINE_WINDOWS: [u8; 34] = [
+    3, 0x33, 0x33, 0x33, 0x33, 0x33, 0x33, 0x43, 0x33, 0x83, 0x33, 0x33, 0x33, 0x33, 0x33, 0x33,
+    0x33, // kind and id
+    11, 4, 10, // kernel
+    0, 0, 0, 0, 0, 0, 0, 0, // lead
+    7, // grain
+    1, 0, 0, 1, 2, // inputs
 ];
 
 /// The points of `DISTILLATE`.
@@ -202,6 +221,19 @@ fn definition_has_its_spelling(rt: HostRuntime) -> Result<(), Fail> {
     Ok(())
 }
 
+#[test]
+fn definition_of_windows_has_its_spelling(rt: HostRuntime) -> Result<(), Fail> {
+    let entry = Entry::Define {
+        id: OUTPUT,
+        spec: GREATEST,
+    };
+    assert!(rt; is_spelling(rt.alloc(), &entry, &DEFINE_WINDOWS)?);
+    assert!(rt; defined(rt.alloc(), &DEFINE_WINDOWS)? == Some((OUTPUT, GREATEST)));
+    assert!(rt; is_read(rt.alloc(), &DEFINE_WINDOWS, true)?);
+    assert!(rt; (format_of(&entry), spec_format(&GREATEST), spec_format(&SUM)) == (3, 3, 1));
+    Ok(())
+}
+
 /// Whether an entry is the distillate with the bytes `DISTILLATE`.
 fn is_distillate(entry: &Entry) -> bool {
     match entry {
@@ -230,6 +262,47 @@ fn distillate_has_its_spelling(rt: HostRuntime) -> Result<(), Fail> {
     // and so the entry is written as these bytes
     assert!(rt; is_read(rt.alloc(), &DISTILLATE, true)?);
     Ok(())
+}
+
+/// The bytes of a retirement of the versions of stream 0 before version 2.
+const RETIREMENT: [u8; 13] = [5, 0, 0, 0, 0, 0, 0, 0, 0, 0, 0, 0, 2];
+
+#[test]
+fn retirement_has_its_spelling(rt: HostRuntime) -> Result<(), Fail> {
+    let entry = Entry::Retire {
+        stream: 0,
+        first: 2,
+    };
+    assert!(rt; is_spelling(rt.alloc(), &entry, &RETIREMENT)?);
+    assert!(rt; is_read(rt.alloc(), &RETIREMENT, true)?);
+    assert!(rt; (format_of(&entry), format_of(&Entry::Create { id: 0 })) == (2, 1));
+    Ok(())
+}
+
+/// The bytes of a retirement after the stream, which is 258, and whether they are those of an entry.
+struct First(Bytes, bool);
+
+impl Row for First {
+    fn holds(&self, alloc: Global) -> Result<bool, Fail> {
+        let mut bytes = Vec::from_slice(alloc, &[5, 0, 0, 1, 2])?;
+        bytes.extend_from_slice(self.0)?;
+        Ok(is_read(alloc, &bytes, self.1)?)
+    }
+}
+
+const RETIREMENTS: &[First] = &[
+    First(&[0, 0, 0, 0, 0, 0, 0, 1], true),
+    First(&[0, 0, 0, 0, 255, 255, 255, 255], true),
+    // version 0, a version that no stream can have, a byte less, and a byte more
+    First(&[0, 0, 0, 0, 0, 0, 0, 0], false),
+    First(&[0, 0, 0, 1, 0, 0, 0, 0], false),
+    First(&[0, 0, 0, 0, 0, 0, 1], false),
+    First(&[0, 0, 0, 0, 0, 0, 0, 1, 0], false),
+];
+
+#[test]
+fn retirements_at_the_bounds(rt: HostRuntime) -> Result<(), Fail> {
+    all_hold(rt.alloc(), RETIREMENTS)
 }
 
 /// Returns the bytes of the definition of an output, with these bytes of its spec.
@@ -307,6 +380,36 @@ fn each_number_of_a_definition_is_read(rt: HostRuntime) -> Result<(), Fail> {
     Ok(())
 }
 
+/// The two numbers of a kernel of windows and the last byte of the lead, and whether the spec is one.
+struct Windows(u8, u8, u8, bool);
+
+impl Row for Windows {
+    fn holds(&self, alloc: Global) -> Result<bool, Fail> {
+        let lead = [0, 0, 0, 0, 0, 0, 0, self.2];
+        let bytes = define(alloc, &[&[11, self.0, self.1], &lead, &[62], &ONE])?;
+        Ok(is_read(alloc, &bytes, self.3)?)
+    }
+}
+
+const WINDOWS: &[Windows] = &[
+    Windows(1, 0, 0, true),
+    Windows(2, 1, 0, true),
+    Windows(3, 61, 0, true),
+    Windows(5, 62, 0, true),
+    // values that do not exist, windows that are too wide, and a lead
+    Windows(0, 2, 0, false),
+    Windows(6, 2, 0, false),
+    Windows(255, 2, 0, false),
+    Windows(1, 63, 0, false),
+    Windows(1, 255, 0, false),
+    Windows(1, 2, 1, false),
+];
+
+#[test]
+fn kernels_of_windows_at_the_bounds(rt: HostRuntime) -> Result<(), Fail> {
+    all_hold(rt.alloc(), WINDOWS)
+}
+
 /// The parts of a spec that is none.
 struct NoSpec(Parts);
 
@@ -322,7 +425,7 @@ const NO_LEAD: [u8; 8] = [0; 8];
 const NO_SPECS: &[NoSpec] = &[
     // Kernels that do not exist, and a divisor of 0.
     NoSpec(&[&[0], &NO_LEAD, &[0], &ONE]),
-    NoSpec(&[&[11], &NO_LEAD, &[0], &ONE]),
+    NoSpec(&[&[12], &NO_LEAD, &[0], &ONE]),
     NoSpec(&[&[255], &NO_LEAD, &[0], &ONE]),
     NoSpec(&[&DIVISOR_0, &NO_LEAD, &[0], &ONE]),
     // A lead and a grain that are too great.
@@ -341,6 +444,11 @@ const NO_SPECS: &[NoSpec] = &[
     NoSpec(&[&[2], &NO_LEAD, &[0], &[1, 0, 0, 0, 0, 0]]),
     NoSpec(&[&[2], &NO_LEAD, &[], &[]]),
     NoSpec(&[&[1], &NO_LEAD, &[0], &[]]),
+    // A kernel of windows with two inputs, and with bytes that lack.
+    NoSpec(&[&[11, 1, 2], &NO_LEAD, &[0], &TWO]),
+    NoSpec(&[&[11, 1], &NO_LEAD, &[0], &ONE]),
+    NoSpec(&[&[11, 1]]),
+    NoSpec(&[&[11]]),
     // No spec at all.
     NoSpec(&[]),
 ];
@@ -470,11 +578,13 @@ const OTHER_KINDS: &[Changed] = &[
     Changed(&CREATE, &[(0, 2)], 17),
     Changed(&CREATE, &[(0, 3)], 17),
     Changed(&CREATE, &[(0, 4)], 17),
+    Changed(&CREATE, &[(0, 5)], 17),
     Changed(&CREATE, &[(0, 255)], 17),
     Changed(&INSERT, &[(0, 0)], 69),
     Changed(&INSERT, &[(0, 1)], 69),
     Changed(&INSERT, &[(0, 3)], 69),
     Changed(&INSERT, &[(0, 4)], 69),
+    Changed(&INSERT, &[(0, 5)], 69),
     Changed(&INSERT, &[(0, 255)], 69),
 ];
 

@@ -4,15 +4,16 @@
 mod distillers;
 mod histories;
 mod questions;
+mod retirements;
 
 use self::histories::{Added, Next, Put, TWO_STREAMS, history_of, is_rejected, runs};
 use super::fixture::{Row, all_hold};
 use btr_base::{END, FIRST, Range, Ranges};
 use btr_hist::{
     Entry, History, PointList, Rejection, distillates_are_allowed, distillates_are_right,
-    first_crowded, kernels_are_local, legal_histories_are_right, old_versions_stay,
-    points_lie_in_the_domain, prefixes_are_legal, the_machine_stays_legal,
-    versions_hold_what_was_put_in,
+    first_crowded, kernels_are_local, latest_versions_are_not_retired, legal_histories_are_right,
+    old_versions_stay, outputs_read_no_retired_version, points_lie_in_the_domain,
+    prefixes_are_legal, the_machine_stays_legal, versions_hold_what_was_put_in,
 };
 use std::alloc::Global;
 use std::test::Fail;
@@ -293,4 +294,6 @@ fn the_laws_of_histories_are_called() {
     prefixes_are_legal();
     points_lie_in_the_domain();
     the_machine_stays_legal();
+    latest_versions_are_not_retired();
+    outputs_read_no_retired_version();
 }

@@ -9,22 +9,17 @@ use Rattle.std.proofs.lemmas.List.Concat.{flat_map-cons}
 use Rattle.btr_disk.specs.Bytes.{Image, Has, Same}
 use Rattle.btr_disk.proofs.ByteLemmas.{Has-one, Has-append, Has-take, Has-Same, Same-sym}
 use Rattle.btr_log.specs.Piece.{PieceValue, IsPieceOf, HoldsBlocks, bytes_at}
+use Rattle.btr_log.proofs.PieceLemmas.{length-bytes_at, Has-bytes_at, Has-bytes_before}
 use Rattle.btr_node.specs.Page.{page_bytes, Fits, Spells, slots_of_page}
 use Rattle.btr_node.specs.declared.page.NodePage.{NodePage}
 use Rattle.btr_node.specs.declared.page.PageSlot.{PageSlot}
 use Rattle.btr_node.proofs.PageLemmas.{page-once}
 use Rattle.btr_pages.specs.Pages.{Pages, with_pages, IsPageAt, IsChildPage, HasChildPage}
-use Rattle.btr_pages.proofs.BlockLemmas.{length-pages, each-places}
+use Rattle.btr_pages.proofs.BlockLemmas.{one-block}
 use Rattle.btr_pages.proofs.KnownLemmas.{pages-below, pages-from}
 use Rattle.btr_pages.proofs.PagesLemmas.{right-along}
 use Rattle.btr_open.specs.Below.{IsStoredPage, HasNoPage, StandBelow, pages_joined, IsWrongChild, BreaksAlong, BreaksBelow}
 use Rattle.btr_open.specs.Loading.{IsDeviceBlock}
-
--- The bytes of a page are a block.
-pub one-block : (page : NodePage) → Fits page → length (page_bytes page) ≡ 4096
-one-block page fits =
-    ap (λ (xs : List ℕ). length xs) (sym (append-nil (page_bytes page)) ∙ sym (flat_map-cons page_bytes page []))
-    ∙ length-pages (page ∷ []) (each-places (page ∷ []) (fits, tt))
 
 -- At most one page is stored in a block.
 pub stored-one : (image : Image) (block : ℕ) (p q : NodePage) → IsStoredPage image block p → IsStoredPage image block q → p ≡ q
@@ -135,25 +130,8 @@ read-page image block bytes (Some page) size has found fits only =
 -- ---- the blocks that a piece holds
 
 module _ (p : PieceValue) (block : ℕ) (holds : HoldsBlocks p block 1) where
-  pub length-held : length (bytes_at p block 1) ≡ 4096
-  length-held =
-      length-take-le 4096 (drop (4096 * (block - p.first)) p.bytes) (omega (arith, holds.begins, holds.ends, length-drop (4096 * (block - p.first)) p.bytes))
-
-  has-held : (image : Image) → IsPieceOf image p → Has image (4096 * block) (bytes_at p block 1)
-  has-held image has =
-      let at = 4096 * (block - p.first) in
-      let parts = Has-append image (4096 * p.first) (take at p.bytes) (drop at p.bytes) (subst (Has image (4096 * p.first)) (sym (take-append-drop at p.bytes)) has) in
-      let le : at ≤ length p.bytes = omega (arith, holds.begins, holds.ends) in
-      let same : 4096 * p.first + length (take at p.bytes) ≡ 4096 * block = omega (arith, holds.begins, length-take-le at p.bytes le) in
-      Has-take image (4096 * block) 4096 (drop at p.bytes) (subst (λ a. Has image a (drop at p.bytes)) same parts.1)
-
-  -- The same, in an image of before.
-  had-held : (old new : Image) → Same old new → IsPieceOf new p → Has old (4096 * block) (bytes_at p block 1)
-  had-held old new same has =
-      Has-Same new old (4096 * block) (bytes_at p block 1) (Same-sym old new same) (has-held new has)
-
   pub block-held : (image : Image) → IsPieceOf image p → IsDeviceBlock image block (bytes_at p block 1)
-  block-held image has = record { size = length-held; has = has-held image has }
+  block-held image has = record { size = length-bytes_at p block 1 holds; has = Has-bytes_at p block 1 holds image has }
 
   pub block-was : (old new : Image) → Same old new → IsPieceOf new p → IsDeviceBlock old block (bytes_at p block 1)
-  block-was old new same has = record { size = length-held; has = had-held old new same has }
+  block-was old new same has = record { size = length-bytes_at p block 1 holds; has = Has-bytes_before old new same p block 1 holds has }

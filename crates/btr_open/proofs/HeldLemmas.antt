@@ -1,6 +1,6 @@
 -- What a device that holds a history has, as an opening sees it: where the reading of its log starts, what is before that, and that the bodies
 -- after it lead on.
-use Rattle.std.specs.Prelude.{◌≡◌, ℕ, ◌+◌, ◌^◌, ◌<◌, List, [], ◌∷◌, ◌++◌, length}
+use Rattle.std.specs.Prelude.{◌≡◌, ℕ, ◌+◌, ◌^◌, ◌<◌, ◌≤◌, max, List, [], ◌∷◌, ◌++◌, length}
 use Rattle.std.specs.List.{AllByRecursion}
 use Rattle.std.proofs.Common.{refl, sym, ◌∙◌, ap, subst, inl, inr, arith, append_assoc, length-append, ⊎_elim}
 use Rattle.btr_base.proofs.ListLemmas.{each-append}
@@ -13,19 +13,20 @@ use Rattle.btr_hist.specs.declared.entry.Entry.{Entry}
 use Rattle.btr_hist.specs.Legal.{Follows}
 use Rattle.btr_hist.proofs.HistoryLemmas.{follows-none, follows-prefix, follows-last}
 use Rattle.btr_entry.specs.Grammar.{IsSpelled}
+use Rattle.btr_entry.specs.Format.{format_of}
 use Rattle.btr_roll.specs.Roll.{roll_bytes}
-use Rattle.btr_engine.specs.Body.{Prefix, prefix_to, no_extents, pages_after, with_extent, with_checkpoint, IsBodyOf, IsCheckpointOf, checkpoint_body, LeadTo}
+use Rattle.btr_engine.specs.Body.{Prefix, prefix_to, no_extents, pages_after, with_extent, with_checkpoint, IsBodyOf, MayStandUnder, needed_format, IsCheckpointOf, checkpoint_body, LeadTo}
 use Rattle.btr_engine.specs.Holds.{IsMarked, HoldsHistoryTo}
 use Rattle.btr_engine.specs.Mark.{body_of_roll}
 use Rattle.btr_streams.specs.Outline.{refusal}
 use Rattle.btr_streams.specs.Rolling.{roll_of}
 use Rattle.btr_engine.specs.Roots.{IsRootOf}
-use Rattle.btr_engine.proofs.BodyLemmas.{LeadTo-mark, LeadTo-split, LeadTo-length, LeadTo-roots, LeadTo-gate, LeadTo-one, kinds-apart}
+use Rattle.btr_engine.proofs.BodyLemmas.{some-needed, needed-push, formats-rest, LeadTo-mark, LeadTo-split, LeadTo-length, LeadTo-roots, LeadTo-gate, LeadTo-one, kinds-apart}
 use Rattle.btr_streams.proofs.RollFits.{roll-fits}
 use Rattle.btr_open.specs.Reached.{Reached, with_entry, pages_with}
 use Rattle.btr_open.specs.Below.{StandBelow}
 use Rattle.btr_open.specs.Start.{HasRoll, IsCheckpointStart, IsReadingStart}
-use Rattle.btr_open.specs.Walk.{FitsRoll, IsNextBody, LeadOn}
+use Rattle.btr_open.specs.Walk.{FitsRoll, IsNextBody, IsCheckpointBody, LeadOn}
 use Rattle.btr_open.proofs.ContentLemmas.{checkpoint-kind, has-roll}
 use Rattle.btr_open.proofs.OutlineLemmas.{decide}
 use Rattle.btr_open.proofs.HeldRolls.{roll-outline, roll-made, roll-next}
@@ -34,16 +35,21 @@ pub use Rattle.btr_open.proofs.HeldPages.{stand-held}
 pub use Rattle.btr_open.proofs.HeldRoots.{roots-held}
 pub use Rattle.btr_open.proofs.HeldTrees.{restored-held}
 
--- What is before the gate after a prefix.
+-- What is before the gate after a prefix, if a checkpoint may have this format at least by the entries that were read.
+abbrev pub reached_with : ℕ → Prefix → Reached
+reached_with least p =
+    record { gate = p.gate; entries = length p.entries; roll = roll_of p.entries p.roots; pages = p.pages; least = least }
+
+-- The same, if all entries were read.
 abbrev pub reached_of : Prefix → Reached
-reached_of p = record { gate = p.gate; entries = length p.entries; roll = roll_of p.entries p.roots; pages = p.pages }
+reached_of p = reached_with (needed_format p.entries) p
 
 -- ---- the body of a checkpoint
 
 -- The body of a checkpoint after a history is that of its streams.
-pub roll-body : (h : List Entry) (roots : List ℕ) → checkpoint_body h roots ≡ body_of_roll (length h) (roll_of h roots)
+pub roll-body : (format : ℕ) (h : List Entry) (roots : List ℕ) → checkpoint_body format h roots ≡ body_of_roll format (length h) (roll_of h roots)
 unfolding body_of_roll checkpoint_body
-roll-body h roots = refl
+roll-body format h roots = refl
 
 -- Each entry has a spelling, and each root fits in eight bytes.
 abbrev Fit : Prefix → Type 0
@@ -57,6 +63,11 @@ fit-on before (body ∷ bodies) after leads fit = elim leads [
   | inr x ↦ fit-on (with_checkpoint before body) bodies after x.1 fit
 ]
 
+-- Each entry may stand in a log of the format that the entries need.
+each-needed : (h : List Entry) (format : ℕ) → needed_format h ≤ format → AllByRecursion (λ e. format_of e ≤ format) h
+each-needed [] format least = tt
+each-needed (e ∷ h) format least = (omega (arith, least), each-needed h format (omega (arith, least)))
+
 -- The body of a checkpoint of a history has the streams of the history, which a checkpoint can have.
 pub roll-held : (bodies : List (List ℕ)) (p : Prefix) (body : List ℕ) → LeadTo IsRootOf no_extents bodies p → Follows p.entries → p.gate < 2 ^ 64 → IsCheckpointOf p body → HasRoll p.gate (length p.entries) (roll_of p.entries p.roots) body
 roll-held bodies p body leads follows short is =
@@ -64,11 +75,13 @@ roll-held bodies p body leads follows short is =
     let many = LeadTo-length IsRootOf no_extents bodies p leads in
     let far = LeadTo-gate IsRootOf no_extents bodies p leads in
     record {
-      is_roll = roll-fits p.entries p.roots follows fit.0 fit.1 (omega (arith, many, far, short));
+      format = is.format;
+      known = (omega (arith, some-needed p.entries, is.least), is.most);
+      is_roll = roll-fits p.entries p.roots is.format follows fit.0 fit.1 (omega (arith, many, far, short)) (each-needed p.entries is.format is.least);
       bound = omega (arith, many, far);
       made = roll-made p.entries p.roots;
       room = is.room;
-      bytes = is.bytes ∙ roll-body p.entries p.roots;
+      bytes = is.bytes ∙ roll-body is.format p.entries p.roots;
     }
 
 -- ---- the bodies lead on
@@ -81,45 +94,69 @@ fits-roll h roots e follows =
 
 -- One extent more, with its entry, after a prefix whose entries have roots.
 module _ (p : Prefix) (e : Entry) (root : ℕ) (pages : List NodePage) (body : List ℕ) (follows : Follows (p.entries ++ e ∷ [])) where
-  pub reached-next : length p.roots ≡ length p.entries → reached_of (with_extent p e root pages body) ≡ with_entry (reached_of p) e root pages body
-  reached-next counted =
+  pub reached-next : (least : ℕ) → length p.roots ≡ length p.entries → reached_with (max least (format_of e)) (with_extent p e root pages body) ≡ with_entry (reached_with least p) e root pages body
+  reached-next least counted =
       let next = with_extent p e root pages body in
       let number = length-append p.entries (e ∷ []) in
       let roll = roll-next p.entries p.roots e root follows counted in
-      λ i. record { gate = next.gate; entries = number i; roll = roll i; pages = next.pages }
+      λ i. record { gate = next.gate; entries = number i; roll = roll i; pages = next.pages; least = max least (format_of e) }
 
-  pub body-next : IsBodyOf p e root pages body → IsRootOf (pages_after p e pages) p.entries e root pages → IsNextBody (reached_of p) e root pages body
-  body-next is leads = record {
+  pub reached-all : length p.roots ≡ length p.entries → reached_of (with_extent p e root pages body) ≡ with_entry (reached_of p) e root pages body
+  reached-all counted =
+      ap (λ n. reached_with n (with_extent p e root pages body)) (needed-push p.entries e) ∙ reached-next (needed_format p.entries) counted
+
+  pub body-next : (least : ℕ) → IsBodyOf p e root pages body → IsRootOf (pages_after p e pages) p.entries e root pages → IsNextBody (reached_with least p) e root pages body
+  body-next least is leads = record {
     spelled = is.spelled;
     fits = is.fits;
     rightly = is.rightly;
     low = is.low;
+    may_have = is.may_have;
     bytes = is.bytes;
-    may_lead = root-may-lead (pages_with (reached_of p) e pages) p.entries p.roots e root pages follows leads;
+    may_lead = root-may-lead (pages_with (reached_with least p) e pages) p.entries p.roots e root pages follows leads;
     allowed = fits-roll p.entries p.roots e follows;
   }
 
-lead-from : (p : Prefix) (bodies : List (List ℕ)) (q : Prefix) → length p.roots ≡ length p.entries → LeadTo IsRootOf p bodies q → Follows q.entries → LeadOn (reached_of p) bodies (reached_of q)
-lead-from p [] q counted leads follows = ap reached_of leads
-lead-from p (body ∷ bodies) q counted leads follows = elim leads [
+-- The body of a checkpoint of a prefix is one of what is before its gate.
+pub mark-body : (p : Prefix) (body : List ℕ) (least : ℕ) → least ≤ needed_format p.entries → IsCheckpointOf p body → IsCheckpointBody (reached_with least p) body
+mark-body p body least few is = record {
+  format = is.format;
+  from = (omega (arith, some-needed p.entries, is.least), omega (arith, few, is.least));
+  most = is.most;
+  room = is.room;
+  bytes = is.bytes ∙ roll-body is.format p.entries p.roots;
+}
+
+-- What is before the gate after a prefix, of whose entries some were read or none.
+abbrev pub LeadsFrom : ℕ → Prefix → List (List ℕ) → Prefix → Type 0
+LeadsFrom least p bodies q = (other : ℕ) × LeadOn (reached_with least p) bodies (reached_with other q)
+
+lead-from : (least : ℕ) (p : Prefix) (bodies : List (List ℕ)) (q : Prefix) → least ≤ needed_format p.entries → length p.roots ≡ length p.entries → LeadTo IsRootOf p bodies q → Follows q.entries → LeadsFrom least p bodies q
+lead-from least p [] q few counted leads follows = (least, ap (reached_with least) leads)
+lead-from least p (body ∷ bodies) q few counted leads follows = elim leads [
   | inl x ↦
       let next = with_extent p x.0 x.1 x.2 body in
       let here : Follows (p.entries ++ x.0 ∷ []) = follows-before next bodies q x.5 follows in
-      let rest = lead-from next bodies q (omega (arith, counted, length-append p.entries (x.0 ∷ []), length-append p.roots (x.1 ∷ []))) x.5 follows in
-      inl (
-        x.0,
-        x.1,
-        x.2,
-        body-next p x.0 x.1 x.2 body here x.3 x.4,
-        subst (λ r. LeadOn r bodies (reached_of q)) (reached-next p x.0 x.1 x.2 body here counted) rest,
+      let then = max least (format_of x.0) in
+      let rest = lead-from then next bodies q (omega (arith, few, needed-push p.entries x.0)) (omega (arith, counted, length-append p.entries (x.0 ∷ []), length-append p.roots (x.1 ∷ []))) x.5 follows in (
+        rest.0,
+        inl (
+          x.0,
+          x.1,
+          x.2,
+          body-next p x.0 x.1 x.2 body here least x.3 x.4,
+          subst (λ r. LeadOn r bodies (reached_with rest.0 q)) (reached-next p x.0 x.1 x.2 body here least counted) rest.1,
+        ),
       )
-  | inr x ↦ inr (record { room = x.0.room; bytes = x.0.bytes ∙ roll-body p.entries p.roots }, lead-from (with_checkpoint p body) bodies q counted x.1 follows)
+  | inr x ↦
+      let rest = lead-from least (with_checkpoint p body) bodies q few counted x.1 follows in
+      (rest.0, inr (mark-body p body least few x.0, rest.1))
 ]
 
 -- Bodies that lead from one part of a history to another lead on from what is before the first to what is before the other.
-pub lead-on : (p q : Prefix) (bodies some : List (List ℕ)) → LeadTo IsRootOf no_extents some p → LeadTo IsRootOf p bodies q → Follows q.entries → q.gate < 2 ^ 64 → LeadOn (reached_of p) bodies (reached_of q)
+pub lead-on : (p q : Prefix) (bodies some : List (List ℕ)) → LeadTo IsRootOf no_extents some p → LeadTo IsRootOf p bodies q → Follows q.entries → q.gate < 2 ^ 64 → LeadsFrom 1 p bodies q
 lead-on p q bodies some leads more follows short =
-    lead-from p bodies q (LeadTo-roots IsRootOf no_extents some p leads refl) more follows
+    lead-from 1 p bodies q (some-needed p.entries) (LeadTo-roots IsRootOf no_extents some p leads refl) more follows
 
 -- ---- where the reading starts
 
@@ -133,7 +170,7 @@ pub record IsStartOf {size : ℕ} {image : Image} {blocks tail : ℕ} {h : List 
   pub more : LeadTo IsRootOf at after (prefix_to tail h holds.leads.roots holds.leads.pages)
   pub extents : Extents image at.gate after tail
   pub gate : at.gate ≡ holds.super.tail
-  pub starts : IsReadingStart image holds.super (reached_of at)
+  pub starts : IsReadingStart image holds.super (reached_with 1 at)
   pub stand : StandBelow image at.gate at.pages
   pub follows : Follows at.entries
 
@@ -215,19 +252,25 @@ module _ (size : ℕ) (image : Image) (blocks tail : ℕ) (h : List Entry) (hold
     its-kind : its-head.kind ≡ 2
     its-kind =
         let small : its-head.kind < 2 ^ 32 = ⊎_elim (λ e. let kind = e.0 in omega (arith, kind)) (λ c. let kind = c.0 in omega (arith, kind)) its-extent.is_body.spells.is_head.kind in
-        checkpoint-kind (length m.log.entries) (roll_bytes (roll_of m.log.entries m.log.roots)) m.body its-head (has-roll m.log m.body m.is) its-extent.is_body.spells.spelling small
+        checkpoint-kind (needed_format m.log.entries) (length m.log.entries) (λ format. roll_bytes format (roll_of m.log.entries m.log.roots)) m.body its-head (has-roll m.log m.body m.is) its-extent.is_body.spells.spelling small
 
     gate-is : at.gate ≡ holds.super.tail
     gate-is = ap (λ g. g + need m.body) (sym m.gate) ∙ sym m.next
 
-    starts : IsCheckpointStart image holds.super (reached_of at)
+    under-limit : MayStandUnder holds.super.format m.body
+    under-limit =
+        (formats-rest holds.super.format m.before (m.body ∷ m.after) (subst (AllByRecursion (MayStandUnder holds.super.format)) m.parts holds.formats)).0
+
+    starts : IsCheckpointStart image holds.super (reached_with 1 at)
     starts =
         let stand = stand-held image m.before m.log m.leads parts-of.0 in
         record {
           body = m.body;
           extent = record { head = its-head; extent = subst (λ g. IsExtent image g m.body its-head) (sym m.gate) its-extent; kind = its-kind; next = m.next };
           has = subst (λ g. HasRoll g (length m.log.entries) (roll_of m.log.entries m.log.roots) m.body) (sym m.gate) (roll-held m.before m.log m.body m.leads follows-log short-log m.is);
+          under = under-limit;
           gate = gate-is;
+          least = refl;
           stand = subst (λ g. StandBelow image g m.log.pages) (sym m.gate) stand.0;
           beyond = λ block high. stand.1 block (omega (arith, high, m.gate));
           roots = roots-held m.before m.log m.leads follows-log;

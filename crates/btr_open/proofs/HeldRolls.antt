@@ -9,22 +9,23 @@ use Rattle.std.proofs.lemmas.Option.{slice_get-get_or, slice_get_past}
 use Rattle.std.proofs.lemmas.Bool.{cases_lt}
 use Rattle.btr_base.specs.Commit.{Change}
 use Rattle.btr_hist.specs.declared.entry.Entry.{Entry}
-use Rattle.btr_hist.specs.declared.entry.Entry.TheVariants.{Create, Commit, Define, Distillate}
+use Rattle.btr_hist.specs.declared.entry.Entry.TheVariants.{Create, Commit, Define, Distillate, Retire}
 use Rattle.btr_hist.specs.declared.kernel.Spec.{Spec}
 use Rattle.btr_hist.specs.declared.kernel.Reads.{Reads}
-use Rattle.btr_hist.specs.History.{ids, kinds, spec_of, latest, recorded, read_by}
+use Rattle.btr_hist.specs.History.{ids, kinds, spec_of, latest, recorded, read_by, earliest}
 use Rattle.btr_hist.specs.Legal.{Follows}
 use Rattle.btr_hist.proofs.HistoryLemmas.{length-kinds, read_by-append, follows-prefix, unknown}
+use Rattle.btr_hist.proofs.RetireLemmas.{earliest-push, earliest-silent}
 use Rattle.btr_hist.proofs.VersionLemmas.{read_by-push}
 use Rattle.btr_roll.specs.declared.roll.RollVersion.{RollVersion}
 use Rattle.btr_roll.specs.Roll.{versions_count}
 use Rattle.btr_streams.specs.Outline.{outlined, outline_from, outline_of, last_read, outlined_in_roll, outline_in}
 use Rattle.btr_streams.specs.Past.{entry_numbers, creation_numbers, commit_numbers, stream_numbers}
 use Rattle.btr_streams.specs.Rolling.{root_at, rolled_versions, rolled_stream, rolled_from, roll_of}
-use Rattle.btr_streams.specs.Stage.{MakesStream, MakesVersion, change}
-use Rattle.btr_streams.proofs.BoardStreamLemmas.{ids-more, kinds-more, recorded-still, ids-still, kinds-still, recorded-other, create-makes, define-makes, commit-makes, distillate-makes}
-use Rattle.btr_streams.proofs.NumberingLemmas.{numbers-counted, numbers-still, numbers-new, numbers-more, numbers-other}
-use Rattle.btr_open.specs.Reached.{new_in_roll, with_version_more, with_version_at, next_roll, next_version}
+use Rattle.btr_streams.specs.Stage.{MakesStream, MakesVersion, RetiresVersions, change}
+use Rattle.btr_streams.proofs.BoardStreamLemmas.{ids-more, kinds-more, recorded-still, ids-still, kinds-still, recorded-other, ids-kept, kinds-kept, recorded-kept, unknown-earliest, create-makes, define-makes, commit-makes, distillate-makes, retire-retires}
+use Rattle.btr_streams.proofs.NumberingLemmas.{numbers-counted, numbers-still, numbers-new, numbers-more, numbers-other, numbers-kept}
+use Rattle.btr_open.specs.Reached.{new_in_roll, with_version_more, with_version_at, with_first, with_first_at, next_roll, next_version}
 use Rattle.btr_open.specs.Start.{IsMadeWithin}
 use Rattle.btr_open.proofs.ListLemmas.{one-less, drop-push}
 
@@ -157,7 +158,7 @@ module _ (h : List Entry) (roots : List ℕ) where
   stream-outlined s id low =
       let version = stream-versions s id low in
       let read = reads-of s (drop 1 (stream_numbers h s)) (latest h s) (versions-counted s low) in
-      λ i. record { id = id; spec = spec_of h s; latest = version i; reads = read i }
+      λ i. record { id = id; spec = spec_of h s; latest = version i; reads = read i; earliest = earliest h s }
 
   streams-outlined : (n : ℕ) (xs : List ℕ) → n + length xs ≤ length (ids h) → outline_in (rolled_from h roots n xs) ≡ outline_from h n xs
   streams-outlined n [] low = refl
@@ -195,12 +196,17 @@ module _ (h : List Entry) (roots : List ℕ) (e : Entry) (root : ℕ) (counted :
   abbrev StreamStays : ℕ → Type 0
   StreamStays s = (id : ℕ) → rolled_stream longer with_root s id ≡ rolled_stream h roots s id
 
-  stream-stays : (s : ℕ) → stream_numbers longer s ≡ stream_numbers h s → spec_of longer s ≡ spec_of h s → recorded longer s ≡ recorded h s → StreamStays s
-  stream-stays s numbers defined records id =
+  -- All of a stream but its first version that is not retired stays as it is.
+  rest-stays : (s : ℕ) → stream_numbers longer s ≡ stream_numbers h s → spec_of longer s ≡ spec_of h s → recorded longer s ≡ recorded h s → (id least : ℕ) → with_first least (rolled_stream longer with_root s id) ≡ with_first least (rolled_stream h roots s id)
+  rest-stays s numbers defined records id least =
       let vs = ap (λ (ns : List ℕ). rolled_versions longer with_root s 1 (drop 1 ns)) numbers
       ∙ versions-same s 1 (drop 1 (stream_numbers h s)) (rest-of (IsNumber (length h)) (stream_numbers h s) (made-numbers h s)) (λ i low. ap (λ (rs : List (Option Reads)). slice_index_or (None ∷ rs) (1 + i) None) records) in
       let first = ap (λ (ns : List ℕ). get_or ns 0 0) numbers in
-      λ i. record { id = id; entry = first i; spec = defined i; versions = vs i }
+      λ i. record { id = id; entry = first i; spec = defined i; first = least; versions = vs i }
+
+  stream-stays : (s : ℕ) → stream_numbers longer s ≡ stream_numbers h s → spec_of longer s ≡ spec_of h s → recorded longer s ≡ recorded h s → earliest longer s ≡ earliest h s → StreamStays s
+  stream-stays s numbers defined records firsts id =
+      rest-stays s numbers defined records id (earliest longer s) ∙ (λ i. with_first (firsts i) (rolled_stream h roots s id))
 
   streams-stay : (n : ℕ) (xs : List ℕ) → ((s : ℕ) → n ≤ s → s < n + length xs → StreamStays s) → rolled_from longer with_root n xs ≡ rolled_from h roots n xs
   streams-stay n [] stays = refl
@@ -225,13 +231,14 @@ module _ (h : List Entry) (roots : List ℕ) (e : Entry) (root : ℕ) (counted :
       let old : rolled_from longer with_root 0 (ids h) ≡ roll_of h roots = streams-stay 0 (ids h) (λ s from to.
       let low : s < count = omega (arith, to) in
       let defined = ap (λ l. slice_index_or l s None) kinds_are ∙ get_or_append_left (kinds h) (spec ∷ []) None s (omega (arith, low, length-kinds h)) in
-      stream-stays s (numbers-still h e id spec makes s low) defined (recorded-still h e id spec makes s)) in
+      stream-stays s (numbers-still h e id spec makes s low) defined (recorded-still h e id spec makes s) (earliest-silent h e s (makes.no_first s))) in
       let place : 0 + count ≡ count = omega arith in
       let numbers : stream_numbers longer (0 + count) ≡ (length h + 1) ∷ [] = numbers-new h e id spec makes (0 + count) place (unknown h (0 + count) follows (omega arith)) in
       let defined : spec_of longer (0 + count) ≡ spec = ap (λ l. slice_index_or l (0 + count) None) kinds_are ∙ get_or_push (kinds h) spec None (0 + count) (omega (arith, length-kinds h)) in
       let first = ap (λ (ns : List ℕ). get_or ns 0 0) numbers in
       let none = ap (λ (ns : List ℕ). rolled_versions longer with_root (0 + count) 1 (drop 1 ns)) numbers in
-      let new : rolled_stream longer with_root (0 + count) id ≡ new_in_roll id spec (length h + 1) = λ i. record { id = id; entry = first i; spec = defined i; versions = none i } in
+      let earliest_is : earliest longer (0 + count) ≡ 0 = earliest-silent h e (0 + count) (makes.no_first (0 + count)) ∙ unknown-earliest h (0 + count) follows (omega arith) in
+      let new : rolled_stream longer with_root (0 + count) id ≡ new_in_roll id spec (length h + 1) = λ i. record { id = id; entry = first i; spec = defined i; first = earliest_is i; versions = none i } in
       sym (ap (rolled_from longer with_root 0) (ids-more h e id spec makes) ∙ streams-push 0 (ids h) id ∙ (λ i. old i ++ new i ∷ []))
 
   versions-push : (s v : ℕ) (ns : List ℕ) (m : ℕ) → rolled_versions longer with_root s v (ns ++ m ∷ []) ≡ rolled_versions longer with_root s v ns ++ record { entry = m; root = root_at with_root m; reads = read_by longer s (v + length ns) } ∷ []
@@ -253,7 +260,7 @@ module _ (h : List Entry) (roots : List ℕ) (e : Entry) (root : ℕ) (counted :
 
     others-stay : (i : ℕ) → (s ≡ i → ⊥) → StreamStays i
     others-stay i other =
-        stream-stays i (numbers-other h e s c read makes i other) (same-spec i) (recorded-other h e s c read makes i other)
+        stream-stays i (numbers-other h e s c read makes i other) (same-spec i) (recorded-other h e s c read makes i other) (earliest-silent h e i (makes.no_first i))
 
     -- The stream has the version at the end.
     stream-longer : s < length (ids h) → (id : ℕ) → with_version_more new_version (rolled_stream h roots s id) ≡ rolled_stream longer with_root s id
@@ -273,7 +280,8 @@ module _ (h : List Entry) (roots : List ℕ) (e : Entry) (root : ℕ) (counted :
         ∙ ap (rolled_versions longer with_root s 1) (drop-push ns (length h + 1) (omega (arith, many)))
         ∙ versions-push s 1 (drop 1 ns) (length h + 1)
         ∙ (λ i. old i ++ record { entry = length h + 1; root = its_root i; reads = its_read i } ∷ []) in
-        sym (λ i. record { id = id; entry = first i; spec = defined i; versions = all i })
+        let firsts = earliest-silent h e s (makes.no_first s) in
+        sym (λ i. record { id = id; entry = first i; spec = defined i; first = firsts i; versions = all i })
 
     streams-longer : (n k : ℕ) (xs : List ℕ) → s ≡ n + k → n + length xs ≤ length (ids h) → with_version_at (rolled_from h roots n xs) k new_version ≡ rolled_from longer with_root n xs
     streams-longer n k [] place low = refl
@@ -293,12 +301,47 @@ module _ (h : List Entry) (roots : List ℕ) (e : Entry) (root : ℕ) (counted :
         let place : s ≡ 0 + s = omega arith in
         streams-longer 0 s (ids h) place (omega arith) ∙ ap (rolled_from longer with_root 0) (sym (ids-still h e s c read makes))
 
+  module _ (s least : ℕ) (retires : RetiresVersions e s least) where
+    same-spec-of : (i : ℕ) → spec_of longer i ≡ spec_of h i
+    same-spec-of i = ap (λ (l : List (Option Spec)). slice_index_or l i None) (kinds-kept h e s least retires)
+
+    left-alone : (i : ℕ) → (s ≡ i → ⊥) → StreamStays i
+    left-alone i other =
+        stream-stays i (numbers-kept h e s least retires i) (same-spec-of i) (recorded-kept h e s least retires i) (earliest-silent h e i (retires.no_other_first i other))
+
+    -- The stream has its versions before the first retired.
+    stream-retired : (id : ℕ) → with_first least (rolled_stream h roots s id) ≡ rolled_stream longer with_root s id
+    stream-retired id =
+        let firsts : least ≡ earliest longer s = sym (earliest-push h e s least retires.leaves) in
+        sym (rest-stays s (numbers-kept h e s least retires s) (same-spec-of s) (recorded-kept h e s least retires s) id least)
+        ∙ (λ i. with_first (firsts i) (rolled_stream longer with_root s id))
+
+    streams-retired : (n k : ℕ) (xs : List ℕ) → s ≡ n + k → with_first_at (rolled_from h roots n xs) k least ≡ rolled_from longer with_root n xs
+    streams-retired n k [] place = refl
+    streams-retired n zero (x ∷ xs) place =
+        let here : s ≡ n = omega arith in
+        let first = ap (λ (j : ℕ). with_first least (rolled_stream h roots j x)) (sym here) ∙ stream-retired x ∙ ap (λ (j : ℕ). rolled_stream longer with_root j x) here in
+        let rest = streams-stay (n + 1) xs (λ i from to. left-alone i (λ same. omega (arith, same, from, here))) in
+        λ i. first i ∷ sym rest i
+    streams-retired n (suc k) (x ∷ xs) place =
+        let first = left-alone n (λ same. omega (arith, same, place)) x in
+        let rest = streams-retired (n + 1) k xs (omega arith) in
+        λ i. sym first i ∷ rest i
+
+    -- A retirement changes the first version of its stream that is not retired.
+    roll-retired : with_first_at (roll_of h roots) s least ≡ roll_of longer with_root
+    roll-retired =
+        let place : s ≡ 0 + s = omega arith in
+        streams-retired 0 s (ids h) place ∙ ap (rolled_from longer with_root 0) (sym (ids-kept h e s least retires))
+
 -- The streams of a history with one entry more are those that the entry leaves.
 pub roll-next : (h : List Entry) (roots : List ℕ) (e : Entry) (root : ℕ) → Follows (h ++ e ∷ []) → length roots ≡ length h → roll_of (h ++ e ∷ []) (roots ++ root ∷ []) ≡ next_roll (roll_of h roots) e (length h + 1) root
 roll-next h roots (Create id) root follows counted =
     sym (roll-stream h roots (Create id) root counted id None (create-makes id) (follows-prefix h (Create id ∷ []) follows))
 roll-next h roots (Define id spec) root follows counted =
     sym (roll-stream h roots (Define id spec) root counted id (Some spec) (define-makes id spec) (follows-prefix h (Define id spec ∷ []) follows))
+roll-next h roots (Retire s least) root follows counted =
+    sym (roll-retired h roots (Retire s least) root counted s least (retire-retires s least))
 roll-next h roots (Commit s cut added) root follows counted =
     sym (roll-version h roots (Commit s cut added) root counted s (change cut added) None (commit-makes s cut added))
 roll-next h roots (Distillate s cut added read) root follows counted =

@@ -17,7 +17,7 @@ use Rattle.btr_pages.proofs.KnownLemmas.{pages-below}
 use Rattle.btr_pages.proofs.ReportedLemmas.{page-in}
 use Rattle.btr_hist.specs.declared.entry.Entry.{Entry}
 use Rattle.btr_hist.specs.declared.kernel.Spec.{Spec}
-use Rattle.btr_hist.specs.declared.entry.Entry.TheVariants.{Create, Define, Commit, Distillate}
+use Rattle.btr_hist.specs.declared.entry.Entry.TheVariants.{Create, Define, Commit, Distillate, Retire}
 use Rattle.btr_hist.specs.History.{change_of, latest}
 use Rattle.btr_hist.specs.Legal.{Follows}
 use Rattle.btr_hist.proofs.HistoryLemmas.{follows-prefix, take_commits-append}
@@ -32,7 +32,7 @@ use Rattle.btr_engine.specs.Roots.{LeadsToLatest, IsRootOf}
 use Rattle.btr_streams.specs.Stage.{change}
 use Rattle.btr_streams.proofs.BoardTrees.{before-commits_to}
 use Rattle.btr_engine.proofs.Written.{or-last}
-use Rattle.btr_open.specs.Reached.{new_in_roll, with_version_more, with_version_at, next_roll}
+use Rattle.btr_open.specs.Reached.{new_in_roll, with_version_more, with_version_at, next_roll, with_first, with_first_at}
 use Rattle.btr_open.specs.RootTest.{adds, MayLead}
 use Rattle.btr_open.specs.Start.{HasVersionAt, HaveRootPages}
 use Rattle.btr_open.proofs.RootLemmas.{root-page, its-change, root-may}
@@ -93,6 +93,7 @@ module _ (known : Pages) (before : List Entry) (roots : List ℕ) (e : Entry) (f
 pub root-may-lead : (known : Pages) (before : List Entry) (roots : List ℕ) (e : Entry) (root : ℕ) (pages : List NodePage) → Follows (before ++ e ∷ []) → IsRootOf known before e root pages → MayLead known (roll_of before roots) e root
 root-may-lead known before roots (Create id) root pages follows is = is
 root-may-lead known before roots (Define id spec) root pages follows is = is
+root-may-lead known before roots (Retire stream first) root pages follows is = is
 root-may-lead known before roots (Commit stream cut added) root pages follows is =
     root-in-roll known before roots (Commit stream cut added) follows stream root (adds added) (root-may known before (Commit stream cut added) root pages follows is)
 root-may-lead known before roots (Distillate stream cut added reads) root pages follows is =
@@ -128,6 +129,18 @@ version-grown (x ∷ roll) (suc s) new (suc stream) k v at =
       | inl old ↦ inl (record { its = old.its; there = old.there; is = old.is })
       | inr last ↦ inr (ap (λ (n : ℕ). suc n) last.0, last.1, last.2)
     ]
+
+-- A version of the streams of which one has versions retired is one of theirs.
+version-kept : (roll : List RollStreamValue) (s least stream k : ℕ) (v : RollVersion) → HasVersionAt (with_first_at roll s least) stream k v → HasVersionAt roll stream k v
+version-kept [] s least stream k v at = at
+version-kept (x ∷ roll) zero least zero k v at =
+    let same : with_first least x ≡ at.its = let both : Some (with_first least x) ≡ Some at.its = at.there in cc in
+    record { its = x; there = refl; is = subst (λ (y : RollStreamValue). slice_get y.versions k ≡ Some v) (sym same) at.is }
+version-kept (x ∷ roll) zero least (suc stream) k v at = record { its = at.its; there = at.there; is = at.is }
+version-kept (x ∷ roll) (suc s) least zero k v at = record { its = at.its; there = at.there; is = at.is }
+version-kept (x ∷ roll) (suc s) least (suc stream) k v at =
+    let old = version-kept roll s least stream k v (record { its = at.its; there = at.there; is = at.is }) in
+    record { its = old.its; there = old.there; is = old.is }
 
 -- ---- each root leads to the tree of its version
 
@@ -172,6 +185,8 @@ next-leads before (Create id) root pages follows some below was is = λ stream k
     old-leads before (Create id) root pages follows some below was stream k v (version-old (roll_of before.entries before.roots) id None (length before.entries + 1) stream k v at)
 next-leads before (Define id spec) root pages follows some below was is = λ stream k v at.
     old-leads before (Define id spec) root pages follows some below was stream k v (version-old (roll_of before.entries before.roots) id (Some spec) (length before.entries + 1) stream k v at)
+next-leads before (Retire s least) root pages follows some below was is = λ stream k v at.
+    old-leads before (Retire s least) root pages follows some below was stream k v (version-kept (roll_of before.entries before.roots) s least stream k v at)
 next-leads before (Commit s cut added) root pages follows some below was is =
     new-leads before (Commit s cut added) root pages follows some below was s (change cut added) (record { entry = length before.entries + 1; root = root; reads = None }) (its-change s (change cut added)) refl is
 next-leads before (Distillate s cut added reads) root pages follows some below was is =

@@ -26,7 +26,7 @@ use Rattle.btr_engine.specs.Roots.{IsRootOf}
 use Rattle.btr_streams.specs.Restoring.{restored_stream, restored_streams, AllFitTrees, HaveRolledRoots}
 use Rattle.btr_engine.specs.Stored.{AreStored}
 use Rattle.btr_streams.specs.Rolling.{HaveRoots}
-use Rattle.btr_engine.proofs.BodyLemmas.{LeadTo-roots, LeadTo-gate}
+use Rattle.btr_engine.proofs.BodyLemmas.{some-needed, LeadTo-roots, LeadTo-gate}
 use Rattle.btr_streams.proofs.BoardTrees.{bag-commits_to}
 use Rattle.btr_streams.proofs.RestoringLemmas.{restored-of, restored-roots}
 use Rattle.btr_engine.proofs.StoredLemmas.{kept-with}
@@ -185,9 +185,10 @@ module _ (p : Prefix) (bodies : List (List ℕ)) (leads : LeadTo IsRootOf no_ext
   rolled-roots stream k s v ts t at there its tree =
       sym (held-root p.pages stream (k + 1) v.root t (version-by stream k v ts t (record { its = s; there = at; is = there }) its tree))
 
-  board-stored : (l : Loader) → l.board ≡ record { streams = streams; entries = length h } → l.nodes ≡ nodes → IsStoredIn p l
-  board-stored l board same = record {
+  board-stored : (l : Loader) → l.board ≡ record { streams = streams; entries = length h } → l.least ≡ 1 → l.nodes ≡ nodes → IsStoredIn p l
+  board-stored l board least same = record {
     of = subst (IsBoardOf h) (sym board) board-of;
+    least = omega (arith, least, some-needed p.entries);
     counted = LeadTo-roots IsRootOf no_extents bodies p leads refl;
     stored = subst (λ (b : Kept). AreStored p.pages p.gate b.streams) (sym board) stored;
     roots = subst (λ (b : Kept). HaveRoots p.roots b.streams) (sym board) (restored-roots h p.roots trees fit rolled-roots);
@@ -195,6 +196,6 @@ module _ (p : Prefix) (bodies : List (List ℕ)) (leads : LeadTo IsRootOf no_ext
   }
 
 -- The board that was made of the streams of a history and of their trees is that of the history, with its trees stored.
-pub restored-held : (p : Prefix) (bodies : List (List ℕ)) → LeadTo IsRootOf no_extents bodies p → Follows p.entries → (l : Loader) (trees : List (List TreeValue)) → length trees ≡ length (roll_of p.entries p.roots) → l.board ≡ record { streams = restored_streams (roll_of p.entries p.roots) trees; entries = length p.entries } → AreTreesOf l.nodes (roll_of p.entries p.roots) trees → ArePartOf p.pages l.nodes → IsStoredIn p l
-restored-held p bodies leads follows l trees counted board are part =
-    board-stored p bodies leads follows l.nodes trees counted are part l board refl
+pub restored-held : (p : Prefix) (bodies : List (List ℕ)) → LeadTo IsRootOf no_extents bodies p → Follows p.entries → (l : Loader) (trees : List (List TreeValue)) → length trees ≡ length (roll_of p.entries p.roots) → l.board ≡ record { streams = restored_streams (roll_of p.entries p.roots) trees; entries = length p.entries } → l.least ≡ 1 → AreTreesOf l.nodes (roll_of p.entries p.roots) trees → ArePartOf p.pages l.nodes → IsStoredIn p l
+restored-held p bodies leads follows l trees counted board least are part =
+    board-stored p bodies leads follows l.nodes trees counted are part l board least refl

@@ -1,5 +1,5 @@
 -- Lemmas on the reading of one extent: where its node blocks begin, which block of it is damaged, and what is read once it is added.
-use Rattle.std.specs.Prelude.{◌≡◌, ◌≢◌, ℕ, ◌+◌, ◌-◌, ◌*◌, ◌/◌, ◌^◌, ◌<◌, ◌≤◌, List, [], ◌∷◌, ◌++◌, length, take, drop, slice_get, Option, Some, None, Result, Ok, Err, IfOk, IfNone, IfSome, IsSome, is_some, Bool, false}
+use Rattle.std.specs.Prelude.{◌≡◌, ◌≢◌, ℕ, ◌+◌, ◌-◌, ◌*◌, ◌/◌, ◌^◌, ◌<◌, ◌≤◌, max, List, [], ◌∷◌, ◌++◌, length, take, drop, slice_get, Option, Some, None, Result, Ok, Err, IfOk, IfNone, IfSome, IsSome, is_some, Bool, false}
 use Rattle.std.proofs.Common.{refl, sym, ◌∙◌, ap, subst, arith, inl, inr, ⊎_elim, length-append}
 use Rattle.std.proofs.lemmas.Bool.{cases_lt, false≢true}
 use Rattle.std.proofs.lemmas.Option.{IfSome_then}
@@ -21,9 +21,10 @@ use Rattle.btr_pages.proofs.KnownLemmas.{block-at, known-at, pages-below, pages-
 use Rattle.btr_pages.proofs.ReportedLemmas.{with-either}
 use Rattle.btr_tree.specs.Root.{TreeValue}
 use Rattle.btr_hist.specs.declared.entry.Entry.{Entry}
-use Rattle.btr_hist.specs.declared.entry.Entry.TheVariants.{Create, Define, Commit, Distillate}
+use Rattle.btr_hist.specs.declared.entry.Entry.TheVariants.{Create, Define, Commit, Distillate, Retire}
 use Rattle.btr_hist.specs.Legal.{rejection, Follows}
 use Rattle.btr_entry.specs.Grammar.{spelling}
+use Rattle.btr_entry.specs.Format.{format_of}
 use Rattle.btr_roll.specs.Roll.{RollStreamValue, roll_bytes}
 use Rattle.btr_streams.specs.Rolling.{rolled}
 use Rattle.btr_engine.specs.Mark.{body_of_roll}
@@ -32,8 +33,8 @@ use Rattle.btr_engine.specs.Stored.{AreStored}
 use Rattle.btr_streams.specs.Rolling.{HaveRoots}
 use Rattle.btr_streams.specs.Stage.{HasRoomFor, ReadsEntry, IsTreeAfter}
 use Rattle.btr_engine.specs.Roots.{IsRootOf}
-use Rattle.btr_engine.specs.Body.{padding, Prefix, first_page, pages_after, with_extent, IsBodyOf}
-use Rattle.btr_engine.proofs.BodyLemmas.{filled}
+use Rattle.btr_engine.specs.Body.{padding, Prefix, first_page, pages_after, with_extent, IsBodyOf, needed_format}
+use Rattle.btr_engine.proofs.BodyLemmas.{filled, needed-push}
 use Rattle.btr_engine.proofs.RootsLemmas.{roots-read}
 use Rattle.btr_streams.proofs.StreamsLemmas.{has-streams}
 use Rattle.btr_open.specs.declared.judge.Judge.{Ghosts as Judging}
@@ -47,7 +48,7 @@ use Rattle.btr_open.specs.Reading.{IsReadInto, WasReadTo, IsStoredIn}
 use Rattle.btr_open.specs.Seen.{Seen, with_seen, Lets}
 use Rattle.btr_open.specs.Loading.{IsNeeded, AreFetched, IsTreeOfRoot, AddsTree, HasAdded, HasJudged, HasNothingNext, IsThisEntry, BreaksEntry, BreaksNext}
 use Rattle.btr_open.proofs.BelowLemmas.{stored-one, stand-page, pages_joined-below, pages_joined-from}
-use Rattle.btr_open.proofs.ContentLemmas.{bytes-content, checkpoint-kind}
+use Rattle.btr_open.proofs.ContentLemmas.{bytes-content, pages-content, checkpoint-kind}
 use Rattle.btr_open.proofs.BodyParts.{IfNone_then, heads, content-fields}
 use Rattle.btr_open.proofs.NextRollLemmas.{rolled-next}
 use Rattle.btr_open.proofs.RootLemmas.{may-lead}
@@ -59,7 +60,7 @@ use Rattle.btr_open.proofs.TreeLemmas.{HasMade, root-made, has-past, staged-root
 length-content : (number : ℕ) (e : Entry) (root nodes : ℕ) → length (content_of number e root nodes) ≡ 4096 * content_blocks (length (spelling e))
 unfolding content_of
 length-content number e root nodes =
-    let head = entry_head number (length (spelling e)) nodes root in
+    let head = entry_head (format_of e) number (length (spelling e)) nodes root in
     omega (arith, length-append (head_bytes head) (filled e), length-append (spelling e) (zeros (padding (length (spelling e)))), length-head_bytes head, length-zeros (padding (length (spelling e))))
 
 module _ (number : ℕ) (e : Entry) (head : Head) (nodes body : List ℕ) (whole : IsBody body head) (content : HasContent number e head.root nodes body) (nodes_are : nodes ≡ node_blocks_of head body) where
@@ -100,28 +101,30 @@ head-content number e root blocks body head whole some few has =
 -- ---- a body without an entry that may follow
 
 -- The body of a checkpoint has the bytes of the roll as content, and the other way round.
-pub checkpoint-has : (log : Reached) (body : List ℕ) → IsCheckpointBody log body → HasCheckpoint log.entries (roll_bytes log.roll) body
+pub checkpoint-has : (log : Reached) (body : List ℕ) → IsCheckpointBody log body → HasCheckpoint log.least log.entries (λ format. roll_bytes format log.roll) body
 unfolding body_of_roll
-checkpoint-has log body is = record { room = is.room; bytes = is.bytes }
+checkpoint-has log body is =
+    record { format = is.format; from = is.from; most = is.most; room = is.room; bytes = is.bytes }
 
-pub has-checkpoint : (log : Reached) (body : List ℕ) → HasCheckpoint log.entries (roll_bytes log.roll) body → IsCheckpointBody log body
+pub has-checkpoint : (log : Reached) (body : List ℕ) → HasCheckpoint log.least log.entries (λ format. roll_bytes format log.roll) body → IsCheckpointBody log body
 unfolding body_of_roll
-has-checkpoint log body has = record { room = has.room; bytes = has.bytes }
+has-checkpoint log body has =
+    record { format = has.format; from = has.from; most = has.most; room = has.room; bytes = has.bytes }
 
 -- The body of a checkpoint of the board is that of a checkpoint of what was read, and the other way round.
-pub checkpoint-read : (log : Reached) (l : Loader) (body : List ℕ) → IsReadInto log l → HasCheckpoint l.board.entries (roll_bytes (rolled l.board)) body → IsCheckpointBody log body
+pub checkpoint-read : (log : Reached) (l : Loader) (body : List ℕ) → IsReadInto log l → HasCheckpoint l.least l.board.entries (λ format. roll_bytes format (rolled l.board)) body → IsCheckpointBody log body
 checkpoint-read log l body read has =
-    has-checkpoint log body (subst (λ r. HasCheckpoint log.entries (roll_bytes r) body) read.rolled_is (subst (λ n. HasCheckpoint n (roll_bytes (rolled l.board)) body) read.counted has))
+    has-checkpoint log body (subst (λ r. HasCheckpoint log.least log.entries (λ format. roll_bytes format r) body) read.rolled_is (subst (λ n. HasCheckpoint log.least n (λ format. roll_bytes format (rolled l.board)) body) read.counted (subst (λ n. HasCheckpoint n l.board.entries (λ format. roll_bytes format (rolled l.board)) body) read.least_is has)))
 
-pub read-checkpoint : (log : Reached) (l : Loader) (body : List ℕ) → IsReadInto log l → IsCheckpointBody log body → HasCheckpoint l.board.entries (roll_bytes (rolled l.board)) body
+pub read-checkpoint : (log : Reached) (l : Loader) (body : List ℕ) → IsReadInto log l → IsCheckpointBody log body → HasCheckpoint l.least l.board.entries (λ format. roll_bytes format (rolled l.board)) body
 read-checkpoint log l body read is =
-    subst (λ n. HasCheckpoint n (roll_bytes (rolled l.board)) body) (sym read.counted) (subst (λ r. HasCheckpoint log.entries (roll_bytes r) body) (sym read.rolled_is) (checkpoint-has log body is))
+    subst (λ n. HasCheckpoint n l.board.entries (λ format. roll_bytes format (rolled l.board)) body) (sym read.least_is) (subst (λ n. HasCheckpoint log.least n (λ format. roll_bytes format (rolled l.board)) body) (sym read.counted) (subst (λ r. HasCheckpoint log.least log.entries (λ format. roll_bytes format r) body) (sym read.rolled_is) (checkpoint-has log body is)))
 
 -- A body whose head is not that of a checkpoint is not that of a checkpoint.
 not-checkpoint : (log : Reached) (body : List ℕ) (head : Head) → IsBody body head → head.kind ≢ 2 → IsCheckpointBody log body → ⊥
 not-checkpoint log body head whole other is =
     let small : head.kind < 2 ^ 32 = ⊎_elim (λ e. let kind = e.0 in omega (arith, kind)) (λ c. let kind = c.0 in omega (arith, kind)) whole.spells.is_head.kind in
-    other (checkpoint-kind log.entries (roll_bytes log.roll) body head (checkpoint-has log body is) whole.spells.spelling small)
+    other (checkpoint-kind log.least log.entries (λ format. roll_bytes format log.roll) body head (checkpoint-has log body is) whole.spells.spelling small)
 
 -- A body whose head is not that of a checkpoint, and which has no content of the next entry.
 pub no-entry : (gate number : ℕ) (body : List ℕ) (head : Head) (l : Loader) → IsBody body head → head.kind ≢ 2 → number ≡ l.board.entries + 1 → HasNoContent number body → HasNothingNext gate body l (gate + 1)
@@ -132,7 +135,7 @@ no-entry gate number body head l whole other is none log at read = record {
 }
 
 -- A body whose head is that of a checkpoint, and which is not that of a checkpoint of the board.
-pub no-checkpoint : (gate : ℕ) (body : List ℕ) (head : Head) (l : Loader) → l.board.entries + 1 < 2 ^ 64 → IsBody body head → head.kind ≡ 2 → (HasCheckpoint l.board.entries (roll_bytes (rolled l.board)) body → ⊥) → HasNothingNext gate body l (gate + 1)
+pub no-checkpoint : (gate : ℕ) (body : List ℕ) (head : Head) (l : Loader) → l.board.entries + 1 < 2 ^ 64 → IsBody body head → head.kind ≡ 2 → (HasCheckpoint l.least l.board.entries (λ format. roll_bytes format (rolled l.board)) body → ⊥) → HasNothingNext gate body l (gate + 1)
 no-checkpoint gate body head l few whole kind none log at read = record {
   no_entry = λ e r blocks has.
       let small : log.entries + 1 < 2 ^ 64 = omega (arith, few, read.counted) in
@@ -234,6 +237,7 @@ module _ (image : Image) (limit : ℕ) (bytes : List ℕ) (root : ℕ) (pages : 
   pub narrow-lead : (roll : List RollStreamValue) (e : Entry) (first : ℕ) → MayLeadIn (pages_joined limit below pages) roll e first bytes root → MayLeadIn pages roll e first bytes root
   narrow-lead roll (Create id) first may = may
   narrow-lead roll (Define id spec) first may = may
+  narrow-lead roll (Retire stream least) first may = may
   narrow-lead roll (Commit stream cut added) first may = narrow-root first stream (next_version roll stream) (adds added) may
   narrow-lead roll (Distillate stream cut added reads) first may = narrow-root first stream (next_version roll stream) (adds added) may
 
@@ -366,6 +370,7 @@ module _ (gate first : ℕ) (nodes body : List ℕ) (l : Loader) (head : Head) (
               fits = all.1.fit;
               rightly = subst (λ f. ArePages log.pages f pages) (its-first log at read) (all.1.stand log.pages read.known);
               low = content.low;
+              may_have = pages-content (log.entries + 1) e head.root nodes pages body content all.1.bytes_are all.1.fit;
               bytes = bytes-content (log.entries + 1) e head.root nodes pages body content all.1.bytes_are all.1.fit;
               may_lead = may-after;
               allowed = its-allowed log at read;
@@ -395,7 +400,7 @@ module _ (gate first : ℕ) (nodes body : List ℕ) (l : Loader) (head : Head) (
                 | Some page ↦ λ e. pages-from known f (f + i) new (omega arith) ∙ ap (slice_get new) place ∙ e
               ] refl
 
-      module _ (old new : Loader) (board_is : old.board ≡ l.board) (nodes_is : old.nodes ≡ mid) (room : HasRoomFor l.board e) (adds : AddsTree old e head.root new) where
+      module _ (old new : Loader) (board_is : old.board ≡ l.board) (least_is : old.least ≡ l.least) (nodes_is : old.nodes ≡ mid) (room : HasRoomFor l.board e) (adds : AddsTree old e head.root new) where
         its-tree : IsTreeOfRoot mid head.root adds.tree
         its-tree = subst (λ n. IsTreeOfRoot n head.root adds.tree) nodes_is adds.is
 
@@ -421,6 +426,7 @@ module _ (gate first : ℕ) (nodes body : List ℕ) (l : Loader) (head : Head) (
                   ∙ ap (λ n. next_roll log.roll e n adds.staged.root) number
                   ∙ ap (next_roll log.roll e (log.entries + 1)) (sym (its-root log at read));
               counted = adds.counted ∙ ap (λ b. b.entries + 1) board_is ∙ number;
+              least_is = adds.least ∙ ap (λ n. max n (format_of e)) (least_is ∙ read.least_is);
               known = subst (AreKnown (pages_with log e pages)) (sym its-nodes) (known-after log at read);
               below = λ block some.
                   let less = above block (subst (λ n. IsSome (node_at n block)) its-nodes some) in
@@ -443,6 +449,7 @@ module _ (gate first : ℕ) (nodes body : List ℕ) (l : Loader) (head : Head) (
             λ none after. subst (IsBoardOf (log.entries ++ e ∷ [])) adds.next (adds.of log.entries of_old none after) in
             record {
               of = subst (IsBoardOf (log.entries ++ e ∷ [])) (sym adds.next) (board-of log l.board mid e head.root pages body adds.tree s its_body made its-tree follows leads staged_of);
+              least = omega (arith, adds.least, least_is, stored.least, needed-push log.entries e);
               counted = omega (arith, stored.counted, length-append log.entries (e ∷ []), length-append log.roots (head.root ∷ []));
               stored = subst (λ b. AreStored (pages_after log e pages) (log.gate + need body) b.streams) (sym adds.next) (board-stored log l.board mid e head.root pages body adds.tree s its_body made its-tree follows leads its-reads stored.stored);
               roots = subst (λ b. HaveRoots (log.roots ++ head.root ∷ []) b.streams) (sym adds.next) (subst (λ r. HaveRoots (log.roots ++ r ∷ []) s.next.streams) (sym same) roots);

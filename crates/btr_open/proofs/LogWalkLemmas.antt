@@ -22,10 +22,11 @@ use Rattle.btr_open.specs.Loading.{IsReaderOf, CanRead, AreOfDevice, ReadsBody, 
 use Rattle.btr_open.specs.LogWalk.{walked_device, IsWalkOver, WalksOn, IsWalked, IsAtEnd, WasWalked, HoldsNext, body_ahead, ReadsExtent, BreaksExtent}
 use Rattle.btr_open.specs.Place.{IsPlaceIn, IsPlaceAfter}
 use Rattle.btr_open.specs.Reading.{WasReadTo, IsJudgedRead, IsDamagedStoreBy, LogCause, WasStarted, WasJudged, ReadsLog}
-use Rattle.btr_open.specs.Reads.{OnlyReads}
+use Rattle.btr_log.specs.Reads.{OnlyReads}
 use Rattle.btr_open.specs.Seen.{nothing_seen}
-use Rattle.btr_open.proofs.NextLemmas.{start-low, read-on, body-damaged}
-use Rattle.btr_open.proofs.OnlyReading.{ReadsLog-trans, same-bytes}
+use Rattle.btr_open.proofs.NextLemmas.{start-low, read-on, above-damaged, body-damaged}
+use Rattle.btr_log.proofs.OnlyReading.{same-bytes}
+use Rattle.btr_open.proofs.OnlyReading.{ReadsLog-trans}
 use Rattle.btr_open.proofs.OpenCauses.{cause-along, found-extent, found-next}
 use Rattle.btr_open.proofs.WholeLemmas.{start-judged}
 
@@ -192,15 +193,20 @@ module _ {D : Type 0} {disk : Ghosts D} where
           low : w.found.checkpoint ≤ w.place.gate
           low = omega (arith, limit-low, walked.over.limit)
 
+          -- The format of the body is greater than that of the superblock.
+          pub extent-above : w.found.format < head.format → disk.is_observable → IsDamagedStoreBy by.may (disk.contents (walked_device w)) w.found (w.place.gate + 1)
+          extent-above above reported =
+              inr (above-damaged by (disk.size (walked_device w)) (disk.contents (walked_device w)) w.found w.place.gate w.loader judge (walked.read reported) low body head (extent reported) next-inside above)
+
           -- A block of the body breaks the format or the rule.
-          pub extent-breaks : (block : ℕ) → BreaksExtent by w head judge block → disk.is_observable → IsDamagedStoreBy by.may (disk.contents (walked_device w)) w.found block
-          extent-breaks block breaks reported =
-              inr (body-damaged by (disk.size (walked_device w)) (disk.contents (walked_device w)) w.found w.place.gate w.loader judge (walked.read reported) low body head (extent reported) block next-inside
+          pub extent-breaks : head.format ≤ w.found.format → (block : ℕ) → BreaksExtent by w head judge block → disk.is_observable → IsDamagedStoreBy by.may (disk.contents (walked_device w)) w.found block
+          extent-breaks under block breaks reported =
+              inr (body-damaged by (disk.size (walked_device w)) (disk.contents (walked_device w)) w.found w.place.gate w.loader judge (walked.read reported) low body head (extent reported) under block next-inside
               (subst (λ n. BreaksAfter by (disk.contents (walked_device w)) n w.place.gate body w.loader judge block) walked.over.limit (breaks reported)))
 
           -- The body was read, and the walk is at the gate after it.
-          pub extent-walked : (mid : Loader) (new : LogWalk D disk) (after : J) → WalksOn w new → new.loader ≡ mid → IsPlaceAfter w.place (w.place.gate + head.n + 1) new.place → ReadsExtent by w mid head judge after → IsWalked by new after
-          extent-walked mid new after walks loader goes reads =
+          pub extent-walked : head.format ≤ w.found.format → (mid : Loader) (new : LogWalk D disk) (after : J) → WalksOn w new → new.loader ≡ mid → IsPlaceAfter w.place (w.place.gate + head.n + 1) new.place → ReadsExtent by w mid head judge after → IsWalked by new after
+          extent-walked under mid new after walks loader goes reads =
               let next : new.place.gate ≡ w.place.gate + need body = goes.gate ∙ next-is in
               record {
                 over = walks.over;
@@ -212,6 +218,6 @@ module _ {D : Type 0} {disk : Ghosts D} where
                 });
                 into = rw loader (subst (λ g. WasReadTo g mid) (sym next) reads.through.into);
                 read = rw (walks.same_super, loader) (judged-on by (walked_device w) (walked_device new) walks.reads.reads w.found new.place.gate mid after (λ reported.
-                    read-on by (disk.size (walked_device w)) (disk.contents (walked_device w)) w.found w.place.gate w.loader judge (walked.read reported) low body head (extent reported) mid after new.place.gate next
+                    read-on by (disk.size (walked_device w)) (disk.contents (walked_device w)) w.found w.place.gate w.loader judge (walked.read reported) low body head (extent reported) under mid after new.place.gate next
                     (subst (λ n. ReadsBody by (disk.contents (walked_device w)) n w.place.gate body w.loader mid judge after) walked.over.limit (reads.read reported))));
               }

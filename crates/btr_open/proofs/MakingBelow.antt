@@ -15,9 +15,9 @@ use Rattle.btr_pages.specs.Known.{NodesValue, node_at, ArePartOf, KnowsChildren,
 use Rattle.btr_pages.proofs.KnownLemmas.{HasOnly}
 use Rattle.btr_open.specs.declared.below.BlockReader.{BlockReader}
 use Rattle.btr_open.specs.Below.{IsStoredPage, IsWrongChild, BreaksBelow}
-use Rattle.btr_open.specs.Reads.{OnlyReads}
+use Rattle.btr_log.specs.Reads.{OnlyReads}
 use Rattle.btr_open.specs.Loading.{GrowsBelow, AddsBelow, StaysPart, CanRead, HasReadBelow, IsReadPage, IsStoredWith, HasNoneFrom, KnowsChild, MakesBelow}
-use Rattle.btr_open.proofs.OnlyReading.{no-calls, OnlyReads-trans, same-bytes}
+use Rattle.btr_log.proofs.OnlyReading.{no-calls, OnlyReads-trans, same-bytes}
 use Rattle.btr_open.proofs.BelowLemmas.{stored-one, stand-page, child-at}
 use Rattle.btr_open.proofs.TreesBelow.{some-of, is-some, some-none, grows-none, grows-on, grows-one, adds-none, adds-on, adds-one, part-one, still-found, device-on, refused-breaks}
 

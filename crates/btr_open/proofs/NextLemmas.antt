@@ -140,15 +140,15 @@ module _ {J : Type 0} (by : Judging J) (size : ℕ) (image : Image) (found : Sup
     its-extent = subst (λ g. IsExtent image g body head) (sym its.read.at) extent
 
     -- All was read up to the gate after it.
-    pub read-on : (new : Loader) (after : J) (next : ℕ) → next ≡ gate + need body → ReadsBody by image found.checkpoint gate body old new before after → IsJudgedRead by size image found next new after
-    read-on new after next next_is reads =
+    pub read-on : head.format ≤ found.format → (new : Loader) (after : J) (next : ℕ) → next ≡ gate + need body → ReadsBody by image found.checkpoint gate body old new before after → IsJudgedRead by size image found next new after
+    read-on under new after next next_is reads =
         let read = its.read in
         let limit = found.checkpoint in
         let is = reads.leads read.log its.seen read.at read.into read.stand its.judged in
         let log = with_other_pages read.log is.wider in
         let one = lead-plain by.may log its.seen (body ∷ []) is.next is.all is.leads in
         let at : is.next.gate ≡ next = lead-gate log body is.next one ∙ ap (λ g. g + need body) read.at ∙ sym next_is in
-        let walk = walk-push by.may image found log is.next its.seen is.all body head (walk-wider by.may image found read.log its.seen is.wider its-walk is.wide is.stand) its-extent is.leads in
+        let walk = walk-push by.may image found log is.next its.seen is.all body head (walk-wider by.may image found read.log its.seen is.wider its-walk is.wide is.stand) its-extent under is.leads in
         record {
           read = record {
             log = is.next;
@@ -164,12 +164,19 @@ module _ {J : Type 0} (by : Judging J) (size : ℕ) (image : Image) (found : Sup
           judged = is.judged;
         }
 
+    -- A format that is greater than that of the superblock breaks the format of the log.
+    pub above-damaged : gate + need body < found.blocks → found.format < head.format → IsDamagedLogBy by.may image found (gate + 1)
+    above-damaged inside above =
+        let log = its.read.log in
+        let damage : IsDamagedNextBy (Lets by.may log its.seen.entries) image found log (gate + 1) = inr (record { head = head; body = body; extent = its-extent; inside = omega (arith, inside, its.read.at); breaks = inl (above, ap (λ g. g + 1) (sym its.read.at)) }) in
+        record { log = log; seen = its.seen; walk = its.read.walk; keeps = its.keeps; damage = damage }
+
     -- The block breaks the format of the log, or the rule.
-    pub body-damaged : (block : ℕ) → gate + need body < found.blocks → BreaksAfter by image found.checkpoint gate body old before block → IsDamagedLogBy by.may image found block
-    body-damaged block inside breaks =
+    pub body-damaged : head.format ≤ found.format → (block : ℕ) → gate + need body < found.blocks → BreaksAfter by image found.checkpoint gate body old before block → IsDamagedLogBy by.may image found block
+    body-damaged under block inside breaks =
         let read = its.read in
         let is = breaks read.log its.seen read.at read.into read.stand its.judged in
         let log = with_other_pages read.log is.0 in
         let walk = walk-wider by.may image found read.log its.seen is.0 its-walk is.1 is.2 in
-        let damage : IsDamagedNextBy (Lets by.may log its.seen.entries) image found log block = inr (record { head = head; body = body; extent = its-extent; inside = omega (arith, inside, read.at); breaks = is.3 }) in
+        let damage : IsDamagedNextBy (Lets by.may log its.seen.entries) image found log block = inr (record { head = head; body = body; extent = its-extent; inside = omega (arith, inside, read.at); breaks = inr (under, is.3) }) in
         record { log = log; seen = its.seen; walk = walk.walk; keeps = walk.keeps; damage = damage }

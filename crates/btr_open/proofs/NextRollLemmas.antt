@@ -7,7 +7,7 @@ use Rattle.btr_base.proofs.ListLemmas.{get_last}
 use Rattle.btr_tree.specs.Root.{TreeValue}
 use Rattle.btr_tree.specs.Slots.{block_of}
 use Rattle.btr_hist.specs.declared.entry.Entry.{Entry}
-use Rattle.btr_hist.specs.declared.entry.Entry.TheVariants.{Create, Define, Commit, Distillate}
+use Rattle.btr_hist.specs.declared.entry.Entry.TheVariants.{Create, Define, Commit, Distillate, Retire}
 use Rattle.btr_hist.specs.declared.kernel.Spec.{Spec}
 use Rattle.btr_hist.specs.declared.kernel.Reads.{Reads}
 use Rattle.btr_roll.specs.declared.roll.RollVersion.{RollVersion}
@@ -15,8 +15,8 @@ use Rattle.btr_roll.specs.Roll.{RollStreamValue}
 use Rattle.btr_streams.specs.declared.board.Staged.{Staged}
 use Rattle.btr_streams.specs.Board.{Versions, Kept, IsGrown, reads_count, read_at}
 use Rattle.btr_streams.specs.Rolling.{kept_version, kept_versions, kept_stream, rolled}
-use Rattle.btr_streams.specs.Stage.{with_version, new_stream, AddsStream, HasRoomFor, HasRoomForVersion, ReadsVersion, ReadsEntry}
-use Rattle.btr_open.specs.Reached.{new_in_roll, with_version_more, with_version_at, next_roll}
+use Rattle.btr_streams.specs.Stage.{with_version, with_earliest, new_stream, AddsStream, HasRoomFor, HasRoomForVersion, ReadsVersion, ReadsEntry}
+use Rattle.btr_open.specs.Reached.{new_in_roll, with_version_more, with_version_at, with_first, with_first_at, next_roll}
 use Rattle.btr_open.proofs.ListLemmas.{one-less, drop-push}
 
 -- ---- one version more of a stream
@@ -77,7 +77,7 @@ stream-more s t read number grown kind =
     ∙ versions-more s w t (version_by t read number) 1 (drop 1 s.trees) (λ k from to.
     (get_or_append_left s.numbers (number ∷ []) 0 k (omega (arith, end, numbered, to)), reads-left s.reads read s.spec (length s.trees) kind grown.read k from (omega (arith, end, to)))) last
     in
-    λ i. record { id = s.id; entry = first i; spec = s.spec; versions = versions i }
+    λ i. record { id = s.id; entry = first i; spec = s.spec; first = s.earliest; versions = versions i }
 
 stream-at : (xs : List Versions) (stream : ℕ) (kept w : Versions) (v : RollVersion) → slice_get xs stream ≡ Some kept → kept_stream w ≡ with_version_more v (kept_stream kept) → map kept_stream (slice_set xs stream w) ≡ with_version_at (map kept_stream xs) stream v
 stream-at [] stream kept w v at is = absurd (cc)
@@ -85,6 +85,21 @@ stream-at (x ∷ xs) zero kept w v at is =
     let same : kept ≡ x = cc in
     ap (λ (s : RollStreamValue). s ∷ map kept_stream xs) (is ∙ ap (λ (k : Versions). with_version_more v (kept_stream k)) same)
 stream-at (x ∷ xs) (suc n) kept w v at is = ap (λ (l : List RollStreamValue). kept_stream x ∷ l) (stream-at xs n kept w v at is)
+
+-- The versions of a stream do not tell which of them are retired.
+versions-kept : (s : Versions) (least version : ℕ) (trees : List TreeValue) → kept_versions (with_earliest s least) version trees ≡ kept_versions s version trees
+versions-kept s least version [] = refl
+versions-kept s least version (t ∷ trees) = ap (λ (l : List RollVersion). kept_version s version t ∷ l) (versions-kept s least (version + 1) trees)
+
+stream-kept : (s : Versions) (least : ℕ) → kept_stream (with_earliest s least) ≡ with_first least (kept_stream s)
+stream-kept s least = λ i. record { id = s.id; entry = get_or s.numbers 0 0; spec = s.spec; first = least; versions = versions-kept s least 1 (drop 1 s.trees) i }
+
+first-at : (xs : List Versions) (stream : ℕ) (kept : Versions) (least : ℕ) → slice_get xs stream ≡ Some kept → map kept_stream (slice_set xs stream (with_earliest kept least)) ≡ with_first_at (map kept_stream xs) stream least
+first-at [] stream kept least at = absurd (cc)
+first-at (x ∷ xs) zero kept least at =
+    let same : kept ≡ x = cc in
+    ap (λ (s : RollStreamValue). s ∷ map kept_stream xs) (stream-kept kept least ∙ ap (λ (k : Versions). with_first least (kept_stream k)) same)
+first-at (x ∷ xs) (suc n) kept least at = ap (λ (l : List RollStreamValue). kept_stream x ∷ l) (first-at xs n kept least at)
 
 -- ---- one entry more
 
@@ -109,5 +124,7 @@ module _ (b : Kept) where
   pub rolled-next : (e : Entry) (t : TreeValue) (s : Staged) → HasRoomFor b e → ReadsEntry b e t s → rolled s.next ≡ next_roll (rolled b) e (b.entries + 1) s.root
   rolled-next (Create id) t s room reads = created id None s.next reads.adds
   rolled-next (Define id spec) t s room reads = created id (Some spec) s.next reads.adds
+  rolled-next (Retire stream least) t s room reads =
+      ap (map kept_stream) reads.sets.streams ∙ first-at b.streams stream reads.sets.kept least reads.sets.there
   rolled-next (Commit stream cut added) t s room reads = grown-by stream None t s room reads
   rolled-next (Distillate stream cut added read) t s room reads = grown-by stream (Some read) t s room reads

@@ -1,31 +1,13 @@
--- Calls of a device and of a log that only read.
-use Rattle.std.specs.Prelude.{◌≡◌}
-use Rattle.std.proofs.Common.{refl, sym, ◌∙◌, arith}
+-- Calls of a log that only read.
+use Rattle.std.proofs.Common.{◌∙◌}
 use Rattle.btr_disk.specs.declared.disk.Disk.{Ghosts}
-use Rattle.btr_disk.specs.Bytes.{Image}
-use Rattle.btr_disk.proofs.ByteLemmas.{Same-is}
-use Rattle.btr_disk.proofs.MomentLemmas.{none_written, nothing_composes}
 use Rattle.btr_log.specs.declared.log.Log.{Log}
 use Rattle.btr_log.specs.Log.{log_device}
 use Rattle.btr_open.specs.Reading.{ReadsLog}
-use Rattle.btr_open.specs.Reads.{OnlyReads}
-use Rattle.btr_open.proofs.Synced.{counts-trans}
+use Rattle.btr_log.proofs.OnlyReading.{OnlyReads-trans}
 
 module _ {D : Type 0} {disk : Ghosts D} where
-  -- No call. `only_now` is the device's law.
-  pub no-calls : (d : D) → (disk.is_observable → (c : Image) → disk.images_since d (disk.calls d) c → disk.images_now d c) → OnlyReads disk d d
-  no-calls d only_now = record {
-    counts = record { same_size = refl; more_calls = omega arith; more_faults = omega arith };
-    nothing = λ reported. none_written disk.calls disk.images_since disk.contents disk.images_now d (only_now reported);
-  }
-
-  -- Calls that only read, followed by others that only read.
-  pub OnlyReads-trans : (old mid new : D) → OnlyReads disk old mid → OnlyReads disk mid new → OnlyReads disk old new
-  OnlyReads-trans old mid new first second = record {
-    counts = counts-trans disk old mid new first.counts second.counts;
-    nothing = λ reported. nothing_composes disk.calls disk.images_since disk.contents disk.images_now old mid new (first.nothing reported) (second.nothing reported);
-  }
-
+  -- Calls on a log that only read, followed by others that only read.
   pub ReadsLog-trans : (old mid new : Log D disk) → ReadsLog old mid → ReadsLog mid new → ReadsLog old new
   ReadsLog-trans old mid new first second = record {
     kept = record {
@@ -37,7 +19,3 @@ module _ {D : Type 0} {disk : Ghosts D} where
     };
     reads = OnlyReads-trans (log_device old) (log_device mid) (log_device new) first.reads second.reads;
   }
-
-  -- The device has the same bytes.
-  pub same-bytes : (old new : D) → OnlyReads disk old new → disk.is_observable → disk.contents old ≡ disk.contents new
-  same-bytes old new reads reported = sym (Same-is (disk.contents old) (disk.contents new) (reads.nothing reported).same)

@@ -22,7 +22,7 @@ use Rattle.btr_open.specs.declared.opening.OpenFault.{OpenFault}
 use Rattle.btr_open.specs.Damage.{IsUndamaged}
 use Rattle.btr_open.specs.Opening.{KeepsDisk, SyncsFirst, IsOpenedEngine, IsOpenedOn, IsNotOpened}
 use Rattle.btr_open.specs.Reading.{StoreCause, IsWholeLog, IsReadEngine}
-use Rattle.btr_open.specs.Reads.{OnlyReads}
+use Rattle.btr_log.specs.Reads.{OnlyReads}
 use Rattle.btr_open.proofs.Synced.{unwritten_on, counts-trans, reads_on}
 use Rattle.btr_open.proofs.Sound.{whole-sound}
 use Rattle.btr_open.proofs.OpenCauses.{cause-of-store}

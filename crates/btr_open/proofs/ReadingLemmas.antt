@@ -19,7 +19,7 @@ use Rattle.btr_hist.specs.History.{latest}
 use Rattle.btr_streams.specs.Past.{commits_to}
 use Rattle.btr_base.specs.declared.limits.TheConstants.{FIRST}
 use Rattle.btr_hist.specs.declared.entry.Entry.{Entry}
-use Rattle.btr_hist.specs.declared.entry.Entry.TheVariants.{Create, Define, Commit, Distillate}
+use Rattle.btr_hist.specs.declared.entry.Entry.TheVariants.{Create, Define, Commit, Distillate, Retire}
 use Rattle.btr_hist.specs.Legal.{Follows}
 use Rattle.btr_roll.specs.Roll.{roll_bytes}
 use Rattle.btr_streams.specs.Board.{IsBoardOf}
@@ -27,7 +27,7 @@ use Rattle.btr_engine.specs.Stored.{AreStored}
 use Rattle.btr_streams.specs.Board.{tree_at}
 use Rattle.btr_streams.specs.Rolling.{HaveRoots}
 use Rattle.btr_engine.specs.Roots.{LeadsToLatest, IsRootOf}
-use Rattle.btr_engine.specs.Body.{body_of, Prefix, pages_after, with_extent, with_checkpoint, IsBodyOf, IsCheckpointOf, LeadTo, first_page}
+use Rattle.btr_engine.specs.Body.{body_of, Prefix, pages_after, with_extent, with_checkpoint, IsBodyOf, needed_format, IsCheckpointOf, LeadTo, first_page}
 use Rattle.btr_streams.specs.Rolling.{roll_of, rolled}
 use Rattle.btr_engine.proofs.BodyLemmas.{SameBody, body_of-one, need-body_of}
 use Rattle.btr_open.specs.declared.judge.Judge.{Ghosts as Judging}
@@ -60,6 +60,7 @@ into-passed : (log : Reached) (body : List ℕ) (l : Loader) → IsReadInto log 
 into-passed log body l into = record {
   rolled_is = into.rolled_is;
   counted = into.counted;
+  least_is = into.least_is;
   known = into.known;
   below = λ block some. let low = into.below block some in omega (arith, low);
 }
@@ -67,6 +68,7 @@ into-passed log body l into = record {
 stored-passed : (log : Prefix) (body : List ℕ) (l : Loader) → IsStoredIn log l → IsStoredIn (with_checkpoint log body) l
 stored-passed log body l is = record {
   of = is.of;
+  least = is.least;
   counted = is.counted;
   stored = record {
     kept = is.stored.kept;
@@ -81,11 +83,11 @@ stored-passed log body l is = record {
 -- The body that follows what was read, by its bytes, is not one of a checkpoint.
 next-apart : (log : Reached) (e : Entry) (root : ℕ) (pages : List NodePage) (body : List ℕ) (before : Prefix) → need body ≤ 2 ^ 64 → IsNextBody log e root pages body → IsCheckpointOf before body → ⊥
 next-apart log e root pages body before short is marks =
-    contents-apart (log.entries + 1) (length before.entries) e root (flat_map page_bytes pages) (roll_bytes (roll_of before.entries before.roots)) body (content-of-bytes (log.entries + 1) e root pages body short is.spelled is.low is.fits is.bytes) (has-roll before body marks)
+    contents-apart (log.entries + 1) (needed_format before.entries) (length before.entries) e root (flat_map page_bytes pages) (λ format. roll_bytes format (roll_of before.entries before.roots)) body (content-of-bytes (log.entries + 1) e root pages body short is.spelled is.low is.fits is.may_have is.bytes) (has-roll before body marks)
 
 marks-apart : (log : Reached) (body : List ℕ) (before : Prefix) (e : Entry) (root : ℕ) (pages : List NodePage) → need body ≤ 2 ^ 64 → IsCheckpointBody log body → IsBodyOf before e root pages body → ⊥
 marks-apart log body before e root pages short marks is =
-    contents-apart (length before.entries + 1) log.entries e root (flat_map page_bytes pages) (roll_bytes log.roll) body (content-of-bytes (length before.entries + 1) e root pages body short is.spelled is.low is.fits is.bytes) (checkpoint-has log body marks)
+    contents-apart (length before.entries + 1) log.least log.entries e root (flat_map page_bytes pages) (λ format. roll_bytes format log.roll) body (content-of-bytes (length before.entries + 1) e root pages body short is.spelled is.low is.fits is.may_have is.bytes) (checkpoint-has log body marks)
 
 module _ (gate : ℕ) (body : List ℕ) (l : Loader) where
   -- A checkpoint of what was read was passed.
@@ -118,7 +120,7 @@ module _ (gate : ℕ) (body : List ℕ) (l : Loader) where
     pub checkpoint-breaks : (image : Image) (limit block : ℕ) → HasNothingNext gate body l block → BreaksAfter by image limit gate body l before block
     checkpoint-breaks image limit block none log seen at read stand judged =
         let nothing = none log at read in
-        (log.pages, as-wide limit log.pages, stand, inl (record { no_entry = nothing.no_entry; no_checkpoint = λ is. nothing.no_checkpoint (record { room = is.room; bytes = is.bytes }); first = nothing.first }))
+        (log.pages, as-wide limit log.pages, stand, inl (record { no_entry = nothing.no_entry; no_checkpoint = λ is. nothing.no_checkpoint (record { format = is.format; from = is.from; most = is.most; room = is.room; bytes = is.bytes }); first = nothing.first }))
 
 -- ---- the pages that an entry needs
 
@@ -134,6 +136,7 @@ leads-there known first new h stream root leads some low = elim leads [
 root-there : (known : Pages) (first : ℕ) (new : List NodePage) (before : List Entry) (e : Entry) (root : ℕ) (pages : List NodePage) → IsRootOf (with_pages known first new) before e root pages → 1 ≤ root → root < first → IsSome (known root)
 root-there known first new before (Create id) root pages is some low = let none : root ≡ 0 = is in absurd (omega (arith, none, some))
 root-there known first new before (Define id spec) root pages is some low = let none : root ≡ 0 = is in absurd (omega (arith, none, some))
+root-there known first new before (Retire stream least) root pages is some low = let none : root ≡ 0 = is in absurd (omega (arith, none, some))
 root-there known first new before (Commit stream cut added) root pages is some low =
     leads-there known first new (before ++ Commit stream cut added ∷ []) stream root is some low
 root-there known first new before (Distillate stream cut added reads) root pages is some low =
@@ -177,12 +180,13 @@ one-body log before e f root other pages others body same few short is is_too =
     is_too.fits is.fits (sym is_too.bytes ∙ bytes)
 
 -- Trees of pages below the limit were made before an entry was added. The board stayed as it was.
-module _ (limit gate : ℕ) (behind : limit ≤ gate) (body : List ℕ) (head : Head) (old mid : Loader) (same : mid.board ≡ old.board) (grows : GrowsBelow limit old.nodes mid.nodes) where
+module _ (limit gate : ℕ) (behind : limit ≤ gate) (body : List ℕ) (head : Head) (old mid : Loader) (same : mid.board ≡ old.board) (same_least : mid.least ≡ old.least) (grows : GrowsBelow limit old.nodes mid.nodes) where
   -- What was read is read now, with wider pages.
   fetched-into : (log : Reached) (wider : Pages) → log.gate ≡ gate → IsReadInto log old → AreKnown wider mid.nodes → IsReadInto (with_other_pages log wider) mid
   fetched-into log wider at read known = record {
     rolled_is = ap rolled same ∙ read.rolled_is;
     counted = ap (λ b. b.entries) same ∙ read.counted;
+    least_is = same_least ∙ read.least_is;
     known = known;
     below = λ block some. elim (grows.only block some) [
       | inl before ↦ read.below block before
@@ -244,12 +248,13 @@ module _ (limit gate : ℕ) (behind : limit ≤ gate) (body : List ℕ) (head : 
 
           its-stored : (e : Entry) (root : ℕ) (pages : List NodePage) → IsBodyOf log e root pages body → IsRootOf (pages_after log e pages) log.entries e root pages → IsStoredIn log mid
           its-stored e root pages is leads =
-              let content = content-of-bytes (length log.entries + 1) e root pages body short is.spelled is.low is.fits is.bytes in
+              let content = content-of-bytes (length log.entries + 1) e root pages body short is.spelled is.low is.fits is.may_have is.bytes in
               let parts = head-content (length log.entries + 1) e root (flat_map page_bytes pages) body head whole (omega arith) few-entries content in
               let needed : HaveNeeded limit (flat_map page_bytes pages) root log.pages = has-needed log e root pages body is leads limit (omega (arith, behind, at)) in
               let needed_here : HaveNeeded limit (node_blocks_of head body) head.root log.pages = subst (λ xs. HaveNeeded limit xs head.root log.pages) (sym parts.1) (subst (λ r. HaveNeeded limit (flat_map page_bytes pages) r log.pages) (sym parts.0) needed) in
               record {
                 of = subst (IsBoardOf log.entries) (sym same) stored.of;
+                least = omega (arith, same_least, stored.least);
                 counted = stored.counted;
                 stored = subst (λ b. AreStored log.pages log.gate b.streams) (sym same) stored.stored;
                 roots = subst (λ b. HaveRoots log.roots b.streams) (sym same) stored.roots;

@@ -33,7 +33,7 @@ use Rattle.btr_pages.proofs.BlockLemmas.{each-places, length-pages}
 use Rattle.btr_pages.proofs.KnownLemmas.{pages-below, pages-from}
 use Rattle.btr_pages.proofs.ReportedLemmas.{with-either, page-in}
 use Rattle.btr_hist.specs.declared.entry.Entry.{Entry}
-use Rattle.btr_hist.specs.declared.entry.Entry.TheVariants.{Create, Define, Commit, Distillate}
+use Rattle.btr_hist.specs.declared.entry.Entry.TheVariants.{Create, Define, Commit, Distillate, Retire}
 use Rattle.btr_hist.specs.declared.kernel.Reads.{Reads}
 use Rattle.btr_hist.specs.History.{change_of, commits, latest}
 use Rattle.btr_hist.specs.Legal.{Follows}
@@ -49,7 +49,7 @@ use Rattle.btr_roll.specs.Roll.{RollStreamValue, versions_count}
 use Rattle.btr_open.specs.Reached.{next_version}
 use Rattle.btr_open.specs.RootTest.{adds, MayLead, IsPageIn, MayBeRootIn, MayLeadIn}
 use Rattle.btr_open.proofs.ListLemmas.{each-at, each-from, one-less}
-use Rattle.btr_open.proofs.BelowLemmas.{one-block}
+use Rattle.btr_pages.proofs.BlockLemmas.{one-block}
 
 -- ---- the blocks of pages
 
@@ -126,6 +126,7 @@ module _ (known : Pages) (first : ℕ) (pages : List NodePage) (bytes : List ℕ
 pub may-lead : (known : Pages) (roll : List RollStreamValue) (e : Entry) (first root : ℕ) (pages : List NodePage) (bytes : List ℕ) → bytes ≡ flat_map page_bytes pages → AllByRecursion Fits pages → MayLeadIn known roll e first bytes root → MayLead (with_pages known first pages) roll e root
 may-lead known roll (Create id) first root pages bytes are fits may = may
 may-lead known roll (Define id spec) first root pages bytes are fits may = may
+may-lead known roll (Retire stream least) first root pages bytes are fits may = may
 may-lead known roll (Commit stream cut added) first root pages bytes are fits may =
     root-with known first pages bytes are fits stream (next_version roll stream) root (adds added) may
 may-lead known roll (Distillate stream cut added reads) first root pages bytes are fits may =
@@ -135,6 +136,7 @@ may-lead known roll (Distillate stream cut added reads) first root pages bytes a
 pub may-lead-in : (known : Pages) (roll : List RollStreamValue) (e : Entry) (first root : ℕ) (pages : List NodePage) (bytes : List ℕ) → bytes ≡ flat_map page_bytes pages → AllByRecursion Fits pages → AllByRecursion Keeps pages → MayLead (with_pages known first pages) roll e root → MayLeadIn known roll e first bytes root
 may-lead-in known roll (Create id) first root pages bytes are fits keep may = may
 may-lead-in known roll (Define id spec) first root pages bytes are fits keep may = may
+may-lead-in known roll (Retire stream least) first root pages bytes are fits keep may = may
 may-lead-in known roll (Commit stream cut added) first root pages bytes are fits keep may =
     root-before known first pages bytes are fits keep stream (next_version roll stream) root (adds added) may
 may-lead-in known roll (Distillate stream cut added reads) first root pages bytes are fits keep may =
@@ -265,6 +267,7 @@ module _ (known : Pages) (before : List Entry) (e : Entry) (s : ℕ) (c : Change
 abbrev pub MayLeadAfter : Pages → List Entry → Entry → ℕ → Type 0
 MayLeadAfter known before (Create id) root = root ≡ 0
 MayLeadAfter known before (Define id spec) root = root ≡ 0
+MayLeadAfter known before (Retire stream first) root = root ≡ 0
 MayLeadAfter known before (Commit stream cut added) root = MayBeRoot known stream (latest before stream + 1) (adds added) root
 MayLeadAfter known before (Distillate stream cut added reads) root = MayBeRoot known stream (latest before stream + 1) (adds added) root
 
@@ -276,6 +279,7 @@ its-change stream c = ap (λ t. cond t (Some c) None) (eq-eqb stream stream refl
 pub root-may : (known : Pages) (before : List Entry) (e : Entry) (root : ℕ) (pages : List NodePage) → Follows (before ++ e ∷ []) → IsRootOf known before e root pages → MayLeadAfter known before e root
 root-may known before (Create id) root pages follows is = is
 root-may known before (Define id spec) root pages follows is = is
+root-may known before (Retire stream first) root pages follows is = is
 root-may known before (Commit stream cut added) root pages follows is =
     root-of known before (Commit stream cut added) stream (change cut added) (its-change stream (change cut added)) root follows is
 root-may known before (Distillate stream cut added reads) root pages follows is =

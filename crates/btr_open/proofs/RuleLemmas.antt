@@ -41,7 +41,10 @@ module _ (May : EntryRule) (all : (before : List Entry) (e : Entry) (root : ℕ)
           body = w.body;
           extent = w.extent;
           inside = w.inside;
-          breaks = body-plain before image s.checkpoint log w.body block w.breaks;
+          breaks = elim w.breaks [
+            | inl above ↦ inl above
+            | inr breaks ↦ inr (breaks.0, body-plain before image s.checkpoint log w.body block breaks.1)
+          ];
         })
   ]
 

@@ -1,6 +1,6 @@
 -- A device holds at most one history, and a device that holds one, or of which a walk ends at a closed gate, is damaged nowhere.
 use Rattle.std.specs.Prelude.{◌≡◌, ℕ, ◌+◌, ◌*◌, ◌<◌, ◌≤◌, ◌^◌, List, [], ◌∷◌, length, Option, Some, None, IsNone}
-use Rattle.std.specs.List.{flat_map}
+use Rattle.std.specs.List.{flat_map, AllByRecursion}
 use Rattle.std.proofs.Common.{refl, sym, ◌∙◌, ap, subst, inl, inr, arith, ⊎_elim}
 use Rattle.std.proofs.lemmas.Bool.{cases_lt}
 use Rattle.btr_disk.specs.Bytes.{Image}
@@ -15,9 +15,9 @@ use Rattle.btr_node.specs.Page.{page_bytes}
 use Rattle.btr_node.specs.declared.page.NodePage.{NodePage}
 use Rattle.btr_pages.specs.Pages.{Pages, HasRootPage, IsRootPage}
 use Rattle.btr_hist.specs.declared.entry.Entry.{Entry}
-use Rattle.btr_engine.specs.Body.{Prefix, prefix_to, no_extents, first_page, LeadTo}
+use Rattle.btr_engine.specs.Body.{MayStandUnder, Prefix, prefix_to, no_extents, first_page, LeadTo}
 use Rattle.btr_engine.specs.Roots.{IsRootOf}
-use Rattle.btr_engine.proofs.BodyLemmas.{LeadTo-gate, LeadTo-one}
+use Rattle.btr_engine.proofs.BodyLemmas.{formats-rest, LeadTo-gate, LeadTo-one}
 use Rattle.btr_engine.specs.Holds.{HoldsHistoryTo}
 use Rattle.btr_open.specs.Reached.{Reached, with_entry, passed}
 use Rattle.btr_open.specs.Below.{StandBelow, pages_joined, BreaksBelow}
@@ -27,7 +27,7 @@ use Rattle.btr_open.specs.Walk.{IsNextBody, IsCheckpointBody, LeadOn, IsWalk, Is
 use Rattle.btr_open.specs.Damage.{IsDamagedStore, IsUndamaged}
 use Rattle.btr_open.specs.Laws.{OneHistoryIsHeld, HeldIsSound}
 use Rattle.btr_open.proofs.BelowLemmas.{stored-one, stand-broken, stand-page, pages_joined-is, pages_joined-with}
-use Rattle.btr_open.proofs.HeldLemmas.{reached_of, lead-on, start-held}
+use Rattle.btr_open.proofs.HeldLemmas.{reached_with, lead-on, start-held}
 use Rattle.btr_open.proofs.UniqueLemmas.{has-roll-one, next-one, next-content, marks-apart}
 use Rattle.btr_open.proofs.UnbrokenLemmas.{with_below, entry-undamaged, checkpoint-undamaged, one-body, head-of-body, extent-unbroken}
 
@@ -61,6 +61,7 @@ entry-below limit below log e root pages body behind =
       entries = log.entries + 1;
       roll = (with_entry log e root pages body).roll;
       pages = same i;
+      least = (with_entry log e root pages body).least;
     }
 
 -- ---- two walks
@@ -71,28 +72,29 @@ least-extent image gate body head extent = omega (arith, IsBody-some body head e
 
 -- A checkpoint says nothing of pages.
 as-checkpoint : (limit : ℕ) (below : Pages) (log : Reached) (body : List ℕ) → IsCheckpointBody (with_below limit below log) body → IsCheckpointBody log body
-as-checkpoint limit below log body is = record { room = is.room; bytes = is.bytes }
+as-checkpoint limit below log body is =
+    record { format = is.format; from = is.from; most = is.most; room = is.room; bytes = is.bytes }
 
 module _ (image : Image) (s : Super) (block : ℕ) (below : Pages) (stand : StandBelow image s.checkpoint below) (limit : s.blocks ≤ 2 ^ 32) where
   -- Two walks lead to the same gate, but one knows only those pages that are not below the checkpoint. The other one leads on to a closed
   -- gate. So the first one does not lead on to damage.
-  walk-sound : (log : Reached) (bodies others : List (List ℕ)) (after other : Reached) → s.checkpoint ≤ log.gate → 2 * log.entries + 4 ≤ log.gate → LeadOn (with_below s.checkpoint below log) bodies after → Extents image log.gate bodies after.gate → IsClosed image after.gate → after.gate < s.blocks → LeadOn log others other → Extents image log.gate others other.gate → IsDamagedNext image s other block → ⊥
-  walk-sound log [] [] after other behind counted leads x closed inside leads_too y damage =
+  walk-sound : (log : Reached) (bodies others : List (List ℕ)) (after other : Reached) → s.checkpoint ≤ log.gate → 2 * log.entries + 4 ≤ log.gate → LeadOn (with_below s.checkpoint below log) bodies after → AllByRecursion (MayStandUnder s.format) bodies → Extents image log.gate bodies after.gate → IsClosed image after.gate → after.gate < s.blocks → LeadOn log others other → Extents image log.gate others other.gate → IsDamagedNext image s other block → ⊥
+  walk-sound log [] [] after other behind counted leads formats x closed inside leads_too y damage =
       let here : IsDamagedNext image s log block = subst (λ p. IsDamagedNext image s p block) (sym leads_too) damage in
       closed (subst (IsOpen image) x (⊎_elim (λ d. d.is_open) (λ b. b.extent.is_open) here))
-  walk-sound log [] (c ∷ others) after other behind counted leads x closed inside leads_too y damage =
+  walk-sound log [] (c ∷ others) after other behind counted leads formats x closed inside leads_too y damage =
       closed (subst (IsOpen image) x y.0.1.is_open)
-  walk-sound log (b ∷ bodies) [] after other behind counted leads x closed inside leads_too y damage =
+  walk-sound log (b ∷ bodies) [] after other behind counted leads formats x closed inside leads_too y damage =
       let le = Extents-le image (log.gate + need b) bodies after.gate x.1 in
       let least = least-extent image log.gate b x.0.0 x.0.1 in
       let here : IsDamagedNext image s log block = subst (λ p. IsDamagedNext image s p block) (sym leads_too) damage in
       elim leads [
         | inl n ↦
-            entry-undamaged image s block below stand log b x.0.0 x.0.1 (omega (arith, le, inside)) n.0 n.1 n.2 (omega (arith, limit)) (omega (arith, counted, le, inside, limit)) n.3 here
+            entry-undamaged image s block below stand log b x.0.0 x.0.1 formats.0 (omega (arith, le, inside)) n.0 n.1 n.2 (omega (arith, limit)) (omega (arith, counted, le, inside, limit)) n.3 here
         | inr n ↦
-            checkpoint-undamaged image s block below stand log b x.0.0 x.0.1 (omega (arith, le, inside)) (as-checkpoint s.checkpoint below log b n.0) here
+            checkpoint-undamaged image s block below stand log b x.0.0 x.0.1 formats.0 (omega (arith, le, inside)) (as-checkpoint s.checkpoint below log b n.0) here
       ]
-  walk-sound log (b ∷ bodies) (c ∷ others) after other behind counted leads x closed inside leads_too y damage =
+  walk-sound log (b ∷ bodies) (c ∷ others) after other behind counted leads formats x closed inside leads_too y damage =
       let le = Extents-le image (log.gate + need b) bodies after.gate x.1 in
       let least = least-extent image log.gate b x.0.0 x.0.1 in
       let same = IsBody-one image (4096 * (log.gate + 1)) b c x.0.0 y.0.0 x.0.1.is_body y.0.1.is_body x.0.1.stored y.0.1.stored in
@@ -108,7 +110,7 @@ module _ (image : Image) (s : Super) (block : ℕ) (below : Pages) (stand : Stan
               let place : with_entry log m.0 m.1 m.2 c ≡ next = λ i. with_entry log (sym one.0 i) (sym one.1 i) (sym one.2 i) (sym same i) in
               let ahead = subst (λ p. LeadOn p bodies after) (entry-below s.checkpoint below log n.0 n.1 n.2 b behind) n.4 in
               let ahead_too = subst (λ p. LeadOn p others other) place m.4 in
-              walk-sound next bodies others after other (omega (arith, behind)) (omega (arith, counted, least)) ahead x.1 closed inside ahead_too rest damage
+              walk-sound next bodies others after other (omega (arith, behind)) (omega (arith, counted, least)) ahead formats.1 x.1 closed inside ahead_too rest damage
           | inr m ↦
               marks-apart log (log.entries + 1) n.0 n.1 (flat_map page_bytes n.2) b (next-content known n.0 n.1 n.2 b n.3 size) (subst (IsCheckpointBody log) (sym same) m.0)
         ]
@@ -117,7 +119,7 @@ module _ (image : Image) (s : Super) (block : ℕ) (below : Pages) (stand : Stan
               marks-apart known (log.entries + 1) m.0 m.1 (flat_map page_bytes m.2) c (next-content log m.0 m.1 m.2 c m.3 (subst (λ d. need d ≤ 2 ^ 64) same size)) (subst (IsCheckpointBody known) same n.0)
           | inr m ↦
               let ahead_too = subst (λ d. LeadOn (passed log d) others other) (sym same) m.1 in
-              walk-sound (passed log b) bodies others after other (omega (arith, behind)) (omega (arith, counted, least)) n.1 x.1 closed inside ahead_too rest damage
+              walk-sound (passed log b) bodies others after other (omega (arith, behind)) (omega (arith, counted, least)) n.1 formats.1 x.1 closed inside ahead_too rest damage
         ]
       ]
 
@@ -149,9 +151,10 @@ module _ (image : Image) (s : Super) where
         let gates : first.gate ≡ second.gate = x.gate ∙ sym y.gate in
         let counts = one.0 in
         let rolls = one.1 in
+        let leasts : first.least ≡ second.least = x.least ∙ sym y.least in
         let pages : first.pages ≡ pages_joined s.checkpoint first.pages second.pages = sym (pages_joined-is s.checkpoint first.pages second.pages (λ block le. no-page (second.pages block) (y.beyond block le) ∙ sym (no-page (first.pages block) (x.beyond block le)))) in
         record {
-          same = λ i. record { gate = gates i; entries = counts i; roll = rolls i; pages = pages i };
+          same = λ i. record { gate = gates i; entries = counts i; roll = rolls i; pages = pages i; least = leasts i };
           stand = x.stand;
           behind = omega (arith, next, y.gate);
           counted = omega (arith, y.has.bound, next, y.gate);
@@ -165,7 +168,7 @@ module _ (image : Image) (s : Super) where
         let pages : pages_joined s.checkpoint known second.pages ≡ second.pages =
         ap (λ p. pages_joined s.checkpoint p second.pages) (ap (λ (p : Reached). p.pages) alike) ∙ pages_joined-is s.checkpoint second.pages second.pages (λ block le. refl) in
         record {
-          same = alike ∙ (λ i. record { gate = second.gate; entries = second.entries; roll = second.roll; pages = sym pages i });
+          same = alike ∙ (λ i. record { gate = second.gate; entries = second.entries; roll = second.roll; pages = sym pages i; least = second.least });
           stand = λ block less. absurd (omega (arith, none, less));
           behind = omega (arith, none);
           counted = subst (λ (p : Reached). 2 * p.entries + 4 ≤ p.gate) (sym y.2) (omega arith);
@@ -192,7 +195,7 @@ module _ (image : Image) (s : Super) where
 
       has-roll : HasNoRoll image s block → ⊥
       has-roll n =
-          n.none start.entries start.roll (subst (HasRoll s.checkpoint start.entries start.roll) (sym (one-checkpoint x.body n.body x.extent n.extent)) x.has)
+          n.none (subst (MayStandUnder s.format) (sym (one-checkpoint x.body n.body x.extent n.extent)) x.under) start.entries start.roll (subst (HasRoll s.checkpoint start.entries start.roll) (sym (one-checkpoint x.body n.body x.extent n.extent)) x.has)
 
       -- A block with the page of a root, which stands rightly, is below the checkpoint.
       low-root : (stream version root : ℕ) → HasRootPage start.pages stream version root → root < s.checkpoint
@@ -204,8 +207,8 @@ module _ (image : Image) (s : Super) where
             absurd (cc)
       ]
 
-      right-root : HasWrongVersionRoot image s start.roll block → ⊥
-      right-root w = elim (x.roots w.stream w.k w.v w.at) [
+      right-root : (format : ℕ) → HasWrongVersionRoot image s format start.roll block → ⊥
+      right-root format w = elim (x.roots w.stream w.k w.v w.at) [
         | inl none ↦ omega (arith, none, w.some)
         | inr has ↦
             let root = w.v.root in
@@ -231,7 +234,7 @@ module _ (image : Image) (s : Super) where
           let next = x.extent.next in
           let body = one-checkpoint x.body w.body x.extent w.extent in
           let one = has-roll-one s.checkpoint w.entries start.entries w.roll start.roll x.body (omega (arith, next, tail, limit)) (omega (arith, next, tail, limit)) (subst (HasRoll s.checkpoint w.entries w.roll) body w.has) x.has in
-          right-root (subst (λ r. HasWrongVersionRoot image s r block) one.1 w.wrong)
+          right-root w.has.format (subst (λ r. HasWrongVersionRoot image s w.has.format r block) one.1 w.wrong)
 
     -- A start of which a walk leads on breaks the format nowhere.
     right-start : (start : Reached) (block : ℕ) → IsReadingStart image s start → IsWrongStart image s block → ⊥
@@ -266,28 +269,32 @@ whole-sound size image s log chosen walk inside closed =
           let start = same-start image s limit tail walk.start d.walk.start walk.starts d.walk.starts in
           let leads = subst (λ p. LeadOn p walk.bodies log) start.same walk.leads in
           let extents = subst (λ (p : Reached). Extents image p.gate walk.bodies log.gate) start.same walk.extents in
-          walk-sound image s block walk.start.pages start.stand limit d.walk.start walk.bodies d.walk.bodies log d.log start.behind start.counted leads extents closed inside d.walk.leads d.walk.extents d.damage)
+          walk-sound image s block walk.start.pages start.stand limit d.walk.start walk.bodies d.walk.bodies log d.log start.behind start.counted leads walk.formats extents closed inside d.walk.leads d.walk.extents d.damage)
           (subst (λ t. IsDamagedStore image t block) same other.2))
           damaged,
     )
 
 -- A device that holds a history has a walk that leads to its tail.
-walk-held : (size : ℕ) (image : Image) (blocks tail : ℕ) (h : List Entry) (st : HoldsHistoryTo size image blocks tail h) → IsWalk image st.super (reached_of (prefix_to tail h st.leads.roots st.leads.pages))
+walk-held : (size : ℕ) (image : Image) (blocks tail : ℕ) (h : List Entry) (st : HoldsHistoryTo size image blocks tail h) → (least : ℕ) × IsWalk image st.super (reached_with least (prefix_to tail h st.leads.roots st.leads.pages))
 walk-held size image blocks tail h st =
     let start = start-held size image blocks tail h st in
     let of = start.1 in
-    record {
-      start = reached_of start.0;
-      starts = of.starts;
-      bodies = of.after;
-      extents = of.extents;
-      leads = lead-on start.0 (prefix_to tail h st.leads.roots st.leads.pages) of.after of.before of.leads of.more st.follows (short size image blocks tail h st).1;
-    }
+    let on = lead-on start.0 (prefix_to tail h st.leads.roots st.leads.pages) of.after of.before of.leads of.more st.follows (short size image blocks tail h st).1 in (
+      on.0,
+      record {
+        start = reached_with 1 start.0;
+        starts = of.starts;
+        bodies = of.after;
+        extents = of.extents;
+        leads = on.1;
+        formats = formats-rest st.super.format of.before of.after (subst (AllByRecursion (MayStandUnder st.super.format)) of.parts st.formats);
+      },
+    )
 
 pub sound : HeldIsSound
 sound size block image h first =
     let st = first.holds in
     let walk = walk-held size image first.blocks first.tail h st in
-    let log = reached_of (prefix_to first.tail h st.leads.roots st.leads.pages) in
-    let undamaged = whole-sound size image st.super log st.chosen walk (omega (arith, st.same_blocks, st.inside)) st.closed in
+    let log = reached_with walk.0 (prefix_to first.tail h st.leads.roots st.leads.pages) in
+    let undamaged = whole-sound size image st.super log st.chosen walk.1 (omega (arith, st.same_blocks, st.inside)) st.closed in
     (undamaged.0, undamaged.1 block)

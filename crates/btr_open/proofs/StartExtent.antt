@@ -12,14 +12,15 @@ use Rattle.btr_log.specs.Ahead.{MatchesPiece}
 use Rattle.btr_log.proofs.ExtentLemmas.{IsBody-blocks}
 use Rattle.btr_super.specs.declared.superblock.Super.{Super}
 use Rattle.btr_roll.specs.Roll.{RollStreamValue}
+use Rattle.btr_engine.specs.Body.{MayStandUnder}
 use Rattle.btr_open.specs.declared.opening.OpenCause.{OpenCause}
 use Rattle.btr_open.specs.declared.opening.OpenCause.TheVariants.{NotAStore, Damaged, Fault, Want}
 use Rattle.btr_open.specs.Start.{HasRoll, IsCheckpointExtent, IsNoCheckpoint, HasWrongVersionRoot, IsWrongStart}
 use Rattle.btr_open.specs.Reading.{FirstCause}
-use Rattle.btr_open.specs.Reads.{OnlyReads}
+use Rattle.btr_log.specs.Reads.{OnlyReads}
 use Rattle.btr_open.specs.Checkpoint.{IsRollRead, StartCause}
 use Rattle.btr_open.proofs.OpenCauses.{found-extent}
-use Rattle.btr_open.proofs.OnlyReading.{same-bytes}
+use Rattle.btr_log.proofs.OnlyReading.{same-bytes}
 
 -- What is found is no extent, so the gate is closed.
 pub closed-gate : (image : Image) (gate : ℕ) (p : PieceValue) (o : Option Head) → o ≡ None → MatchesPiece image gate p o → IsClosed image gate
@@ -49,17 +50,17 @@ module _ {D : Type 0} (disk : Ghosts D) (found : Super) (old new : D) (some : 0 
       subst (FirstCause disk found old new) (sym is) (λ reported. (some, inl (none reported)))
 
   -- The checkpoint has no streams.
-  pub no-roll-damage : (body : List ℕ) → IsCheckpointExtent (disk.contents old) found body → ((entries : ℕ) (roll : List RollStreamValue) → HasRoll found.checkpoint entries roll body → ⊥) → IsWrongStart (disk.contents old) found (found.checkpoint + 1)
+  pub no-roll-damage : (body : List ℕ) → IsCheckpointExtent (disk.contents old) found body → (MayStandUnder found.format body → (entries : ℕ) (roll : List RollStreamValue) → HasRoll found.checkpoint entries roll body → ⊥) → IsWrongStart (disk.contents old) found (found.checkpoint + 1)
   no-roll-damage body extent none =
       (some, inr (inr (inl (record { body = body; extent = extent; none = none; first = refl }))))
 
-module _ {D : Type 0} (disk : Ghosts D) (found : Super) (old mid new : D) (some : 0 < found.checkpoint) (reads : OnlyReads disk old mid) (entries : ℕ) (roll : List RollStreamValue) (is : IsRollRead disk.is_observable (disk.contents old) found entries roll) where
+module _ {D : Type 0} (disk : Ghosts D) (found : Super) (old mid new : D) (some : 0 < found.checkpoint) (reads : OnlyReads disk old mid) (entries format : ℕ) (roll : List RollStreamValue) (is : IsRollRead disk.is_observable (disk.contents old) found entries format roll) where
   -- The streams of the checkpoint were not loaded.
-  pub load-cause : (cause : OpenCause) → StartCause disk found roll mid new cause → FirstCause disk found old new cause
+  pub load-cause : (cause : OpenCause) → StartCause disk found format roll mid new cause → FirstCause disk found old new cause
   load-cause NotAStore cause = absurd cause
   load-cause (Damaged block) cause =
       λ reported.
-      let wrong = subst (λ i. HasWrongVersionRoot i found roll block) (sym (same-bytes old mid reads reported)) (cause reported) in
-      (some, inr (inr (inr (record { body = is.body; extent = is.extent reported; entries = entries; roll = roll; has = is.has; wrong = wrong }))))
+      let wrong = subst (λ n. HasWrongVersionRoot (disk.contents old) found n roll block) (sym is.same_format) (subst (λ i. HasWrongVersionRoot i found format roll block) (sym (same-bytes old mid reads reported)) (cause reported)) in
+      (some, inr (inr (inr (record { body = is.body; extent = is.extent reported; entries = entries; roll = roll; under = is.under; has = is.has; wrong = wrong }))))
   load-cause Fault cause = let low = reads.counts.more_faults in omega (arith, cause, low)
   load-cause Want cause = tt

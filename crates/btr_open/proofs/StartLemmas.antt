@@ -16,7 +16,7 @@ use Rattle.btr_roll.specs.declared.roll.RollVersion.{RollVersion}
 use Rattle.btr_roll.specs.Roll.{RollStreamValue}
 use Rattle.btr_hist.specs.declared.entry.Entry.{Entry}
 use Rattle.btr_streams.specs.Board.{Versions, Kept, IsBoardOf}
-use Rattle.btr_engine.specs.Body.{Prefix, no_extents}
+use Rattle.btr_engine.specs.Body.{MayStandUnder, Prefix, no_extents}
 use Rattle.btr_engine.specs.Holds.{HoldsHistoryTo}
 use Rattle.btr_streams.specs.Rolling.{rolled, roll_of}
 use Rattle.btr_streams.specs.Restoring.{restored_streams, HaveRolledRoots}
@@ -31,7 +31,7 @@ use Rattle.btr_open.specs.Reading.{IsReadInto, WasReadTo, IsStoredIn, IsPartRead
 use Rattle.btr_open.specs.Loading.{AreTreesOf}
 use Rattle.btr_open.specs.Checkpoint.{AreOfSome, AreFirstTrees, AreAllTrees, IsLoaded}
 use Rattle.btr_open.proofs.TreeLemmas.{bare-node}
-use Rattle.btr_open.proofs.HeldLemmas.{reached_of, IsStartOf, start-held}
+use Rattle.btr_open.proofs.HeldLemmas.{reached_with, IsStartOf, start-held}
 use Rattle.btr_open.proofs.HeldTrees.{restored-held}
 use Rattle.btr_open.proofs.StartContent.{has-number, one-content, roll-content}
 use Rattle.btr_open.proofs.ListLemmas.{is-there}
@@ -48,24 +48,25 @@ stored-none : AreStored no_pages first_gate []
 stored-none = record { kept = λ block. tt; below = λ block some. absurd (cc); each = λ stream version. tt }
 
 -- Nothing was read into a loader that has nothing.
-into-none : (l : Loader) → IsBoardOf [] l.board → l.nodes ≡ [] → IsReadInto beginning l
-into-none l of none = record {
+into-none : (l : Loader) → IsBoardOf [] l.board → l.nodes ≡ [] → l.least ≡ 1 → IsReadInto beginning l
+into-none l of none least = record {
   rolled_is = ap (λ (s : List Versions). rolled (record { streams = s; entries = 0 })) (no-streams l.board.streams of.counted);
   counted = of.entries;
+  least_is = least;
   known = subst (AreKnown no_pages) (sym none) known-none;
   below = λ block some. let there = subst (λ n. IsSome (node_at n block)) none some in absurd (cc);
 }
 
 -- What was read up to the first gate.
-pub read-to-none : (l : Loader) → IsBoardOf [] l.board → l.nodes ≡ [] → WasReadTo 4 l
-read-to-none l of none = (beginning, refl, into-none l of none)
+pub read-to-none : (l : Loader) → IsBoardOf [] l.board → l.nodes ≡ [] → l.least ≡ 1 → WasReadTo 4 l
+read-to-none l of none least = (beginning, refl, into-none l of none least)
 
 -- What was read up to a gate above the limit, if the trees are those of some pages below it.
 pub read-to-some : (limit gate : ℕ) (l : Loader) → limit ≤ gate → AreOfSome limit l.nodes → WasReadTo gate l
 read-to-some limit gate l behind are = (
-  record { gate = gate; entries = l.board.entries; roll = rolled l.board; pages = are.0 },
+  record { gate = gate; entries = l.board.entries; roll = rolled l.board; pages = are.0; least = l.least },
   refl,
-  record { rolled_is = refl; counted = refl; known = are.1; below = below },
+  record { rolled_is = refl; counted = refl; least_is = refl; known = are.1; below = below },
 )
   where
     below : (block : ℕ) → IsSome (node_at l.nodes block) → block < gate
@@ -78,11 +79,12 @@ read-to-some limit gate l behind are = (
               absurd (cc)
         ]
 
-stored-in-none : (l : Loader) → IsBoardOf [] l.board → l.nodes ≡ [] → IsStoredIn no_extents l
-stored-in-none l of none =
+stored-in-none : (l : Loader) → IsBoardOf [] l.board → l.nodes ≡ [] → l.least ≡ 1 → IsStoredIn no_extents l
+stored-in-none l of none least =
     let streams = no-streams l.board.streams of.counted in
     record {
       of = of;
+      least = omega (arith, least);
       counted = refl;
       stored = subst (AreStored no_pages first_gate) (sym streams) stored-none;
       roots = subst (HaveRoots []) (sym streams) (λ stream version some. tt);
@@ -90,8 +92,8 @@ stored-in-none l of none =
     }
 
 -- The superblock names no checkpoint, so the log is read from its first gate.
-read-first : (size : ℕ) (image : Image) (found : Super) (l : Loader) → IsSuper size found → found.checkpoint ≡ 0 → IsBoardOf [] l.board → l.nodes ≡ [] → IsReadLog size image found 4 l
-read-first size image found l table none of empty = record {
+read-first : (size : ℕ) (image : Image) (found : Super) (l : Loader) → IsSuper size found → found.checkpoint ≡ 0 → IsBoardOf [] l.board → l.nodes ≡ [] → l.least ≡ 1 → IsReadLog size image found 4 l
+read-first size image found l table none of empty least = record {
   log = beginning;
   at = refl;
   walk = record {
@@ -100,8 +102,9 @@ read-first size image found l table none of empty = record {
     bodies = [];
     extents = refl;
     leads = refl;
+    formats = tt;
   };
-  into = into-none l of empty;
+  into = into-none l of empty least;
   stand = λ block low. tt;
   held = λ blocks tail h holds same. record {
     before = [];
@@ -113,7 +116,7 @@ read-first size image found l table none of empty = record {
     more = holds.leads.lead;
     extents = holds.extents;
     stand = λ block low. tt;
-    stored = stored-in-none l of empty;
+    stored = stored-in-none l of empty least;
   };
 }
   where
@@ -121,9 +124,10 @@ read-first size image found l table none of empty = record {
     first =
         elim table.start [ inl start ↦ start.1 | inr after ↦ let low = after.0 in absurd (omega (arith, low, none)) ]
 
-pub read-none : (size : ℕ) (image : Image) (found : Super) (l : Loader) → IsSuper size found → found.checkpoint ≡ 0 → IsBoardOf [] l.board → l.nodes ≡ [] → IsReadStart size image found 4 l
+pub read-none : (size : ℕ) (image : Image) (found : Super) (l : Loader) → IsSuper size found → found.checkpoint ≡ 0 → IsBoardOf [] l.board → l.nodes ≡ [] → l.least ≡ 1 → IsReadStart size image found 4 l
 unfolding read-first
-read-none size image found l table none of empty = record { read = read-first size image found l table none of empty; none = refl }
+read-none size image found l table none of empty least =
+    record { read = read-first size image found l table none of empty least; none = refl }
 
 -- ---- the streams and the trees
 
@@ -197,20 +201,22 @@ module _ (size : ℕ) (image : Image) (found : Super) (table : IsSuper size foun
 
 -- ---- the checkpoint
 
-module _ (size : ℕ) (image : Image) (found : Super) (l : Loader) (table : IsSuper size found) (some : 0 < found.checkpoint) (entries : ℕ) (roll : List RollStreamValue) (body : List ℕ) (has : HasRoll found.checkpoint entries roll body) (extent : IsCheckpointExtent image found body) (loaded : IsLoaded image found.checkpoint roll entries l) where
+module _ (size : ℕ) (image : Image) (found : Super) (l : Loader) (table : IsSuper size found) (some : 0 < found.checkpoint) (entries : ℕ) (roll : List RollStreamValue) (body : List ℕ) (has : HasRoll found.checkpoint entries roll body) (extent : IsCheckpointExtent image found body) (under : MayStandUnder found.format body) (loaded : IsLoaded image found.checkpoint roll entries l) where
   abbrev own : Pages
   own = loaded.fetched.own
 
   -- What is before the gate after the checkpoint.
   abbrev start : Reached
-  start = record { gate = found.tail; entries = entries; roll = roll; pages = own }
+  start = record { gate = found.tail; entries = entries; roll = roll; pages = own; least = 1 }
 
   start-is : IsCheckpointStart image found start
   start-is = record {
     body = body;
     extent = extent;
     has = has;
+    under = under;
     gate = refl;
+    least = refl;
     stand = loaded.fetched.stand;
     beyond = loaded.fetched.beyond;
     roots = roots-are l.nodes roll loaded.trees loaded.are own loaded.fetched.known;
@@ -229,8 +235,9 @@ module _ (size : ℕ) (image : Image) (found : Super) (l : Loader) (table : IsSu
 
   start-into : IsReadInto start l
   start-into = record {
-    rolled_is = ap rolled loaded.board ∙ rolled-restored roll loaded.trees entries has.is_roll (all-fit l.nodes roll loaded.trees loaded.are) (roots-rolled l.nodes roll loaded.trees loaded.are own loaded.fetched.known);
+    rolled_is = ap rolled loaded.board ∙ rolled-restored has.format roll loaded.trees entries has.is_roll (all-fit l.nodes roll loaded.trees loaded.are) (roots-rolled l.nodes roll loaded.trees loaded.are own loaded.fetched.known);
     counted = ap (λ (b : Kept). b.entries) loaded.board;
+    least_is = loaded.least;
     known = loaded.fetched.known;
     below = λ block there. omega (arith, known-below block there, extent.next);
   }
@@ -249,7 +256,7 @@ module _ (size : ℕ) (image : Image) (found : Super) (l : Loader) (table : IsSu
           ]
 
   -- The device holds a history, whose start is that of a prefix: the board is that of the prefix.
-  module _ (blocks tail : ℕ) (h : List Entry) (holds : HoldsHistoryTo size image blocks tail h) (same : holds.super ≡ found) (at : Prefix) (s : IsStartOf holds at) (its : IsCheckpointStart image found (reached_of at)) where
+  module _ (blocks tail : ℕ) (h : List Entry) (holds : HoldsHistoryTo size image blocks tail h) (same : holds.super ≡ found) (at : Prefix) (s : IsStartOf holds at) (its : IsCheckpointStart image found (reached_with 1 at)) where
     same-roll : roll ≡ roll_of at.entries at.roots
     same-roll = one-roll size image found table body its.body extent its.extent entries (length at.entries) roll (roll_of at.entries at.roots) has its.has
 
@@ -262,7 +269,7 @@ module _ (size : ℕ) (image : Image) (found : Super) (l : Loader) (table : IsSu
     stored-at : IsStoredIn at l
     stored-at =
         restored-held at s.before s.leads s.follows l loaded.trees (loaded.are.counted ∙ ap (length {A = RollStreamValue}) same-roll)
-        (loaded.board ∙ (λ i. record { streams = restored_streams (same-roll i) loaded.trees; entries = same-number i }))
+        (loaded.board ∙ (λ i. record { streams = restored_streams (same-roll i) loaded.trees; entries = same-number i })) loaded.least
         (subst (λ r. AreTreesOf l.nodes r loaded.trees) same-roll (trees-are l.nodes roll loaded.trees loaded.are))
         (part-of at.pages its.stand (subst (HaveRootPages at.pages) (sym same-roll) its.roots))
 
@@ -285,12 +292,12 @@ module _ (size : ℕ) (image : Image) (found : Super) (l : Loader) (table : IsSu
   read-after = record {
     log = start;
     at = refl;
-    walk = record { start = start; starts = inr (some, start-is); bodies = []; extents = refl; leads = refl };
+    walk = record { start = start; starts = inr (some, start-is); bodies = []; extents = refl; leads = refl; formats = tt };
     into = start-into;
     stand = loaded.fetched.stand;
     held = λ blocks tail h holds same.
         let at = start-held size image blocks tail h holds in
-        elim (subst (λ (x : Super). IsReadingStart image x (reached_of at.0)) same at.1.starts) [
+        elim (subst (λ (x : Super). IsReadingStart image x (reached_with 1 at.0)) same at.1.starts) [
           | inl none ↦ let zero = none.0 in absurd (omega (arith, zero, some))
           | inr its ↦ part-read blocks tail h holds same at.0 at.1 its.1
         ];

@@ -59,8 +59,8 @@ stored-page image limit block pages page stand low at =
 
 -- ---- why a checkpoint was not loaded
 
-module _ (image : Image) (found : Super) (roll : List RollStreamValue) (roots : List ℕ) (below : AreRootsBelow found.checkpoint roll roots) where
-  wrong-below : (n root block : ℕ) → slice_get roots n ≡ Some root → IsWrongBelow image root block → HasWrongVersionRoot image found roll block
+module _ (image : Image) (found : Super) (format : ℕ) (roll : List RollStreamValue) (roots : List ℕ) (below : AreRootsBelow found.checkpoint roll roots) where
+  wrong-below : (n root block : ℕ) → slice_get roots n ≡ Some root → IsWrongBelow image root block → HasWrongVersionRoot image found format roll block
   wrong-below n root block at wrong =
       let is = below.only n root at in
       let its = is.2 in
@@ -77,7 +77,7 @@ module _ (image : Image) (found : Super) (roll : List RollStreamValue) (roots : 
         ];
       }
 
-  wrong-root : (nodes : NodesValue) (block : ℕ) → AreRootsFetched image found.checkpoint roots nodes → NamesWrongRoot nodes found.checkpoint roll block → HasWrongVersionRoot image found roll block
+  wrong-root : (nodes : NodesValue) (block : ℕ) → AreRootsFetched image found.checkpoint roots nodes → NamesWrongRoot nodes found.checkpoint format roll block → HasWrongVersionRoot image found format roll block
   wrong-root nodes block fetched names =
       let v = names.v in
       record {
@@ -101,19 +101,19 @@ module _ (image : Image) (found : Super) (roll : List RollStreamValue) (roots : 
       go (inr none) =
           elim (cases_lt names.v.root found.checkpoint) [ inl low ↦ inr (no-page low none) | inr high ↦ inl high ]
 
-module _ {D : Type 0} (disk : Ghosts D) (found : Super) (roll : List RollStreamValue) (roots : List ℕ) (below : AreRootsBelow found.checkpoint roll roots) (old new : D) where
+module _ {D : Type 0} (disk : Ghosts D) (found : Super) (format : ℕ) (roll : List RollStreamValue) (roots : List ℕ) (below : AreRootsBelow found.checkpoint roll roots) (old new : D) where
   -- The trees of the roots were not made.
-  pub roots-load : (cause : OpenCause) → RootsCause disk roots old new cause → StartCause disk found roll old new cause
+  pub roots-load : (cause : OpenCause) → RootsCause disk roots old new cause → StartCause disk found format roll old new cause
   roots-load NotAStore is = is
   roots-load (Damaged block) is =
-      λ reported. let w = is reported in wrong-below (disk.contents old) found roll roots below w.0 w.1 block w.2 w.3
+      λ reported. let w = is reported in wrong-below (disk.contents old) found format roll roots below w.0 w.1 block w.2 w.3
   roots-load Fault is = is
   roots-load Want is = tt
 
   -- The trees of the versions were not made.
-  pub trees-load : (nodes : NodesValue) → (disk.is_observable → AreRootsFetched (disk.contents old) found.checkpoint roots nodes) → (cause : OpenCause) → TreesCause nodes found.checkpoint roll cause → StartCause disk found roll old new cause
+  pub trees-load : (nodes : NodesValue) → (disk.is_observable → AreRootsFetched (disk.contents old) found.checkpoint roots nodes) → (cause : OpenCause) → TreesCause nodes found.checkpoint format roll cause → StartCause disk found format roll old new cause
   trees-load nodes fetched NotAStore is = is
   trees-load nodes fetched (Damaged block) is =
-      λ reported. wrong-root (disk.contents old) found roll roots below nodes block (fetched reported) is
+      λ reported. wrong-root (disk.contents old) found format roll roots below nodes block (fetched reported) is
   trees-load nodes fetched Fault is = absurd is
   trees-load nodes fetched Want is = tt

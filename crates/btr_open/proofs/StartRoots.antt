@@ -18,10 +18,10 @@ use Rattle.btr_open.specs.declared.below.Fetched.TheVariants.{Known}
 use Rattle.btr_open.specs.declared.opening.OpenCause.{OpenCause}
 use Rattle.btr_open.specs.declared.opening.OpenCause.TheVariants.{NotAStore, Damaged, Fault, Want}
 use Rattle.btr_open.specs.Below.{StandBelow}
-use Rattle.btr_open.specs.Reads.{OnlyReads}
+use Rattle.btr_log.specs.Reads.{OnlyReads}
 use Rattle.btr_open.specs.Loading.{IsReaderOf, AddsBelow, GrowsBelow, StaysPart, HasReadBelow, FetchesPage}
 use Rattle.btr_open.specs.Checkpoint.{AreOfSome, root_in, roots_in, roots_among, IsRootIn, AreRootsBelow, AreRootsFetched, IsWrongBelow, RootCause, RootsCause}
-use Rattle.btr_open.proofs.OnlyReading.{OnlyReads-trans, same-bytes}
+use Rattle.btr_log.proofs.OnlyReading.{OnlyReads-trans, same-bytes}
 
 -- ---- elements of lists
 

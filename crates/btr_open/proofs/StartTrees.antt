@@ -93,9 +93,9 @@ all-trees-more nodes roll trees s ts so_far is = record {
 -- ---- the damage
 
 -- A version with a wrong root is named.
-pub names-wrong : (nodes : NodesValue) (limit : ℕ) (streams : List RollStreamValue) (number k : ℕ) (s : RollStreamValue) (v : RollVersion) (cause : OpenCause) → slice_get streams number ≡ Some s → slice_get s.versions k ≡ Some v → IsWrongRootOf nodes limit number (k + 1) v.root → cause ≡ Damaged (limit + 1 + (64 + place_of_root streams number s k) / 4096) → TreesCause nodes limit streams cause
-names-wrong nodes limit streams number k s v cause there at wrong is =
-    subst (TreesCause nodes limit streams) (sym is) (record {
+pub names-wrong : (nodes : NodesValue) (limit format : ℕ) (streams : List RollStreamValue) (number k : ℕ) (s : RollStreamValue) (v : RollVersion) (cause : OpenCause) → slice_get streams number ≡ Some s → slice_get s.versions k ≡ Some v → IsWrongRootOf nodes limit number (k + 1) v.root → cause ≡ Damaged (limit + 1 + (64 + place_of_root format streams number s k) / 4096) → TreesCause nodes limit format streams cause
+names-wrong nodes limit format streams number k s v cause there at wrong is =
+    subst (TreesCause nodes limit format streams) (sym is) (record {
       stream = number;
       k = k;
       v = v;

@@ -9,7 +9,7 @@ use Rattle.btr_disk.specs.Moments.{WroteNothing, IsUnwritten}
 use Rattle.btr_disk.proofs.ByteLemmas.{Same-trans, Same-sym}
 use Rattle.btr_disk.proofs.MomentLemmas.{Only-kept, composes, weakens}
 use Rattle.btr_open.specs.Opening.{SyncsFirst}
-use Rattle.btr_open.specs.Reads.{OnlyReads}
+use Rattle.btr_log.specs.Reads.{OnlyReads}
 
 module _ {D : Type 0} (calls : D → ℕ) (contents : D → Image) (image : D → Image → Type 0) (since : D → ℕ → Image → Type 0) where
   -- Nothing was written before, and nothing after.

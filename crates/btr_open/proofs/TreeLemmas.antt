@@ -33,7 +33,7 @@ use Rattle.btr_pages.proofs.KnownLemmas.{known-at}
 use Rattle.btr_pages.proofs.BlockLemmas.{each-places}
 use Rattle.btr_pages.proofs.ReportedLemmas.{with-either}
 use Rattle.btr_hist.specs.declared.entry.Entry.{Entry}
-use Rattle.btr_hist.specs.declared.entry.Entry.TheVariants.{Create, Define, Commit, Distillate}
+use Rattle.btr_hist.specs.declared.entry.Entry.TheVariants.{Create, Define, Commit, Distillate, Retire}
 use Rattle.btr_hist.specs.History.{change_of, commits, latest}
 use Rattle.btr_hist.specs.Legal.{rejection, Follows}
 use Rattle.btr_hist.proofs.HistoryLemmas.{follows-last}
@@ -209,6 +209,7 @@ pub record HasMade (known : Pages) (nodes : NodesValue) (root : ℕ) : Type 0 wh
 pub tree-after : (before : List Entry) (known : Pages) (nodes : NodesValue) (e : Entry) (root : ℕ) (pages : List NodePage) (t : TreeValue) → HasMade known nodes root → IsTreeOfRoot nodes root t → Follows (before ++ e ∷ []) → IsRootOf known before e root pages → IsTreeAfter before e t
 tree-after before known nodes (Create id) root pages t has of follows leads = tt
 tree-after before known nodes (Define id spec) root pages t has of follows leads = tt
+tree-after before known nodes (Retire stream first) root pages t has of follows leads = tt
 tree-after before known nodes (Commit stream cut added) root pages t has of follows leads =
     version-tree before known nodes (Commit stream cut added) stream (change cut added) (adds added) root t (its-change stream (change cut added)) has.part has.made (root-may known before (Commit stream cut added) root pages follows leads) of leads follows
 tree-after before known nodes (Distillate stream cut added reads) root pages t has of follows leads =
@@ -218,6 +219,7 @@ tree-after before known nodes (Distillate stream cut added reads) root pages t h
 pub tree-stored : (before : List Entry) (known : Pages) (nodes : NodesValue) (e : Entry) (root later : ℕ) (pages : List NodePage) (t : TreeValue) → HasMade known nodes root → IsTreeOfRoot nodes root t → Follows (before ++ e ∷ []) → IsRootOf known before e root pages → root < later → IsTreeStored known later e t
 tree-stored before known nodes (Create id) root later pages t has of follows leads low = tt
 tree-stored before known nodes (Define id spec) root later pages t has of follows leads low = tt
+tree-stored before known nodes (Retire stream first) root later pages t has of follows leads low = tt
 tree-stored before known nodes (Commit stream cut added) root later pages t has of follows leads low =
     version-below before known nodes (Commit stream cut added) stream (change cut added) (adds added) root t (its-change stream (change cut added)) has.part has.made (root-may known before (Commit stream cut added) root pages follows leads) of leads later low
 tree-stored before known nodes (Distillate stream cut added reads) root later pages t has of follows leads low =
@@ -227,6 +229,7 @@ tree-stored before known nodes (Distillate stream cut added reads) root later pa
 pub root-made : (known : Pages) (nodes : NodesValue) (roll : List RollStreamValue) (e : Entry) (root : ℕ) → AreKnown known nodes → MayLead known roll e root → 0 < root → IsSome (node_at nodes root)
 root-made known nodes roll (Create id) root are may above = let none : root ≡ 0 = may in absurd (omega arith)
 root-made known nodes roll (Define id spec) root are may above = let none : root ≡ 0 = may in absurd (omega arith)
+root-made known nodes roll (Retire stream first) root are may above = let none : root ≡ 0 = may in absurd (omega arith)
 root-made known nodes roll (Commit stream cut added) root are may above = page-made known nodes stream (next_version roll stream) root (adds added) are may above
 root-made known nodes roll (Distillate stream cut added reads) root are may above =
     page-made known nodes stream (next_version roll stream) root (adds added) are may above
@@ -235,6 +238,7 @@ root-made known nodes roll (Distillate stream cut added reads) root are may abov
 pub has-past : (known : Pages) (nodes : NodesValue) (roll : List RollStreamValue) (e : Entry) (root : ℕ) (t : TreeValue) → AreKnown known nodes → MayLead known roll e root → IsTreeOfRoot nodes root t → HasPast t
 has-past known nodes roll (Create id) root t are may of = (nothing, of.empty may)
 has-past known nodes roll (Define id spec) root t are may of = (nothing, of.empty may)
+has-past known nodes roll (Retire stream first) root t are may of = (nothing, of.empty may)
 has-past known nodes roll (Commit stream cut added) root t are may of =
     let version = next_version roll stream in
     held-past known stream version root t (held-may known nodes stream version root (adds added) t are.each (page-made known nodes stream version root (adds added) are may) may of)
@@ -246,6 +250,7 @@ has-past known nodes roll (Distillate stream cut added reads) root t are may of 
 pub staged-root : (known : Pages) (nodes : NodesValue) (roll : List RollStreamValue) (e : Entry) (root : ℕ) (b : Kept) (t : TreeValue) (s : Staged) → AreKnown known nodes → MayLead known roll e root → IsTreeOfRoot nodes root t → ReadsEntry b e t s → root ≡ s.root
 staged-root known nodes roll (Create id) root b t s are may of reads = may ∙ sym reads.no_root
 staged-root known nodes roll (Define id spec) root b t s are may of reads = may ∙ sym reads.no_root
+staged-root known nodes roll (Retire stream first) root b t s are may of reads = may ∙ sym reads.no_root
 staged-root known nodes roll (Commit stream cut added) root b t s are may of reads =
     let version = next_version roll stream in
     held-root known stream version root t (held-may known nodes stream version root (adds added) t are.each (page-made known nodes stream version root (adds added) are may) may of) ∙ sym reads.root_is
@@ -272,6 +277,7 @@ page-low known first later new stream version root some behind least may =
 root-low : (known : Pages) (first later : ℕ) (new : List NodePage) (before : List Entry) (e : Entry) (root : ℕ) → first + length new ≤ later → 1 ≤ later → MayLeadAfter (with_pages known first new) before e root → root < later
 root-low known first later new before (Create id) root behind least may = let none : root ≡ 0 = may in omega arith
 root-low known first later new before (Define id spec) root behind least may = let none : root ≡ 0 = may in omega arith
+root-low known first later new before (Retire stream least_version) root behind least may = let none : root ≡ 0 = may in omega arith
 root-low known first later new before (Commit stream cut added) root behind least may =
     page-low known first later new stream (latest before stream + 1) root (adds added) behind least may
 root-low known first later new before (Distillate stream cut added reads) root behind least may =

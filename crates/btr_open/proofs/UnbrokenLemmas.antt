@@ -22,7 +22,8 @@ use Rattle.btr_pages.specs.Blocks.{block_of_bytes, IsNoPage}
 use Rattle.btr_pages.proofs.BlockLemmas.{parts-one, length-pages, each-places}
 use Rattle.btr_pages.proofs.PagesLemmas.{right-next}
 use Rattle.btr_hist.specs.declared.entry.Entry.{Entry}
-use Rattle.btr_engine.specs.Body.{first_page}
+use Rattle.btr_engine.specs.Body.{first_page, MayStandUnder}
+use Rattle.btr_engine.proofs.BodyLemmas.{format-body}
 use Rattle.btr_open.specs.Content.{HasContent}
 use Rattle.btr_open.specs.Reached.{Reached, with_other_pages}
 use Rattle.btr_open.specs.RootTest.{MayLeadIn}
@@ -200,23 +201,28 @@ module _ (image : Image) (gate : ℕ) (body : List ℕ) (head : Head) (extent : 
       (λ cause. ⊎_elim (λ none. none head (record { is_head = extent.is_body.spells.is_head; stored = head-stands })) (λ much. has-room blocks much.0 inside much.1 much.2) cause.2)
       damaged.damage
 
--- An extent of a log, inside the blocks of the store, is damaged only if its body breaks the format.
-extent-undamaged : (image : Image) (s : Super) (block : ℕ) (log : Reached) (body : List ℕ) (head : Head) → (BreaksBody image s.checkpoint log body block → ⊥) → IsExtent image log.gate body head → log.gate + need body < s.blocks → IsDamagedNext image s log block → ⊥
-extent-undamaged image s block log body head unbroken extent inside damage =
+-- An extent of a log, inside the blocks of the store, whose format is no greater than that of the superblock, is damaged only if its body
+-- breaks the format.
+extent-undamaged : (image : Image) (s : Super) (block : ℕ) (log : Reached) (body : List ℕ) (head : Head) → (BreaksBody image s.checkpoint log body block → ⊥) → IsExtent image log.gate body head → MayStandUnder s.format body → log.gate + need body < s.blocks → IsDamagedNext image s log block → ⊥
+extent-undamaged image s block log body head unbroken extent under inside damage =
     ⊎_elim
     (extent-unbroken image log.gate body head extent s.blocks block inside)
     (λ (b : IsBrokenExtent (λ e root. FitsRoll log.roll e) image s log block).
     let same = one-body image log.gate body head extent b.body b.head b.extent in
-    unbroken (subst (λ c. BreaksBody image s.checkpoint log c block) same b.breaks))
+    let heads = head-of-body image log.gate body head extent b.body b.head b.extent in
+    ⊎_elim
+    (λ above. let more = above.0 in omega (arith, more, ap (λ (h : Head). h.format) heads, format-body body head extent.is_body, under))
+    (λ breaks. unbroken (subst (λ c. BreaksBody image s.checkpoint log c block) same breaks.1))
+    b.breaks)
     damage
 
-module _ (image : Image) (s : Super) (block : ℕ) (below : Pages) (stand : StandBelow image s.checkpoint below) (log : Reached) (body : List ℕ) (head : Head) (extent : IsExtent image log.gate body head) (inside : log.gate + need body < s.blocks) where
+module _ (image : Image) (s : Super) (block : ℕ) (below : Pages) (stand : StandBelow image s.checkpoint below) (log : Reached) (body : List ℕ) (head : Head) (extent : IsExtent image log.gate body head) (under : MayStandUnder s.format body) (inside : log.gate + need body < s.blocks) where
   -- The extent of the next entry is not damaged.
   pub entry-undamaged : (e : Entry) (root : ℕ) (pages : List NodePage) → s.blocks ≤ 2 ^ 64 → log.entries + 1 < 2 ^ 64 → IsNextBody (with_below s.checkpoint below log) e root pages body → IsDamagedNext image s log block → ⊥
   entry-undamaged e root pages limit few is damage =
-      extent-undamaged image s block log body head (body-unbroken image s.checkpoint below stand log e root pages body block few (omega (arith, limit, inside)) is) extent inside damage
+      extent-undamaged image s block log body head (body-unbroken image s.checkpoint below stand log e root pages body block few (omega (arith, limit, inside)) is) extent under inside damage
 
   -- The extent of a checkpoint of what is before it is not damaged.
   pub checkpoint-undamaged : IsCheckpointBody log body → IsDamagedNext image s log block → ⊥
   checkpoint-undamaged is damage =
-      extent-undamaged image s block log body head (checkpoint-unbroken image s.checkpoint below stand log body block is) extent inside damage
+      extent-undamaged image s block log body head (checkpoint-unbroken image s.checkpoint below stand log body block is) extent under inside damage

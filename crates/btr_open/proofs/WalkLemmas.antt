@@ -14,9 +14,10 @@ use Rattle.btr_pages.specs.Pages.{Pages, with_pages, HasChildPage, IsPageAt, Are
 use Rattle.btr_pages.proofs.KnownLemmas.{pages-below, pages-from}
 use Rattle.btr_pages.proofs.ReportedLemmas.{with-either}
 use Rattle.btr_hist.specs.declared.entry.Entry.{Entry}
-use Rattle.btr_hist.specs.declared.entry.Entry.TheVariants.{Create, Define, Commit, Distillate}
+use Rattle.btr_hist.specs.declared.entry.Entry.TheVariants.{Create, Define, Commit, Distillate, Retire}
 use Rattle.btr_roll.specs.Roll.{RollStreamValue}
 use Rattle.btr_engine.specs.Body.{first_page}
+use Rattle.btr_engine.proofs.BodyLemmas.{stands-under, formats-push}
 use Rattle.btr_open.specs.Reached.{Reached, with_entry, passed, with_other_pages}
 use Rattle.btr_open.specs.RootTest.{MayLead}
 use Rattle.btr_open.specs.Below.{StandBelow, IsStoredPage, pages_joined, AreWider}
@@ -93,6 +94,7 @@ pages-more pages others first new more are i =
 lead-more : (pages others : Pages) (roll : List RollStreamValue) (e : Entry) (root : ℕ) → HaveMore pages others → MayLead pages roll e root → MayLead others roll e root
 lead-more pages others roll (Create id) root more may = may
 lead-more pages others roll (Define id spec) root more may = may
+lead-more pages others roll (Retire stream first) root more may = may
 lead-more pages others roll (Commit stream cut added) root more may = elim may [
   | inl none ↦ inl none
   | inr has ↦ inr (record { page = has.page; is = more root has.page has.is; fits = has.fits })
@@ -110,6 +112,7 @@ next-more log others e root pages body more is =
       fits = is.fits;
       rightly = pages-more log.pages others first pages more is.rightly;
       low = is.low;
+      may_have = is.may_have;
       bytes = is.bytes;
       may_lead = lead-more (with_pages log.pages first pages) (with_pages others first pages) log.roll e root (more-with log.pages others first pages more) is.may_lead;
       allowed = is.allowed;
@@ -206,7 +209,7 @@ module _ (limit : ℕ) (wider : Pages) where
             )
         | inr x ↦
             inr (
-              record { room = x.0.room; bytes = x.0.bytes },
+              record { format = x.0.format; from = x.0.from; most = x.0.most; room = x.0.room; bytes = x.0.bytes },
               lead-wider May (passed log body) (with_mark seen log.gate (log.gate + need body)) bodies after all (omega (arith, high)) x.1 wide,
             )
       ]
@@ -247,7 +250,9 @@ walk-wider May image s log seen wider is wide stand =
             body = at.body;
             extent = at.extent;
             has = at.has;
+            under = at.under;
             gate = at.gate;
+            least = at.least;
             stand = stand-pages_joined image limit wider start.pages stand;
             beyond = λ block above. subst IsNone (sym (pages_joined-from limit wider start.pages block above)) (at.beyond block above);
             roots = roots-more start.pages others start.roll more at.roots;
@@ -260,14 +265,15 @@ walk-wider May image s log seen wider is wide stand =
               bodies = walk.bodies;
               extents = walk.extents;
               leads = lead-plain May (with_other_pages start others) nothing_seen walk.bodies (with_other_pages log wider) seen leads;
+              formats = walk.formats;
             };
             keeps = leads;
           }
     ]
 
 -- A walk with one extent more.
-pub walk-push : (May : EntryRule) (image : Image) (s : Super) (log next : Reached) (seen all : Seen) (body : List ℕ) (head : Head) → KeepingWalk May image s log seen → IsExtent image log.gate body head → LeadOnBy May log seen (body ∷ []) next all → KeepingWalk May image s next all
-walk-push May image s log next seen all body head is extent leads =
+pub walk-push : (May : EntryRule) (image : Image) (s : Super) (log next : Reached) (seen all : Seen) (body : List ℕ) (head : Head) → KeepingWalk May image s log seen → IsExtent image log.gate body head → head.format ≤ s.format → LeadOnBy May log seen (body ∷ []) next all → KeepingWalk May image s next all
+walk-push May image s log next seen all body head is extent under leads =
     let walk = is.walk in
     let on = lead-append May walk.start nothing_seen walk.bodies log seen (body ∷ []) next all is.keeps leads in
     let one = lead-plain May log seen (body ∷ []) next all leads in
@@ -278,6 +284,7 @@ walk-push May image s log next seen all body head is extent leads =
         bodies = walk.bodies ++ body ∷ [];
         extents = subst (Extents image walk.start.gate (walk.bodies ++ body ∷ [])) (sym (lead-gate log body next one)) (Extents-push image walk.start.gate walk.bodies log.gate body head walk.extents extent);
         leads = lead-plain May walk.start nothing_seen (walk.bodies ++ body ∷ []) next all on;
+        formats = formats-push s.format walk.bodies body walk.formats (stands-under s.format body head extent.is_body under);
       };
       keeps = on;
     }

@@ -26,7 +26,7 @@ use Rattle.btr_open.specs.Seen.{nothing_seen, LeadOnBy}
 use Rattle.btr_open.specs.Start.{IsWrongStart}
 use Rattle.btr_open.specs.Walk.{LeadOn}
 use Rattle.btr_open.specs.Reading.{IsStoredIn, IsReadLog, IsReadStart, IsJudgedRead, IsDamagedStoreBy, FirstCause, LogCause, WasJudged, ReadsLog, IsWholeLog, IsReadEngine}
-use Rattle.btr_open.specs.Reads.{OnlyReads}
+use Rattle.btr_log.specs.Reads.{OnlyReads}
 use Rattle.btr_open.proofs.OpenCauses.{cause-along}
 
 -- What was read at the start was judged by a judge that has seen nothing.

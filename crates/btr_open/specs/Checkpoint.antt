@@ -12,6 +12,7 @@ use Rattle.btr_pages.specs.Known.{NodesValue, AreKnown, ArePartOf, node_at}
 use Rattle.btr_tree.specs.Root.{TreeValue}
 use Rattle.btr_roll.specs.declared.roll.RollVersion.{RollVersion}
 use Rattle.btr_roll.specs.Roll.{RollStreamValue, IsRoll, roll_bytes}
+use Rattle.btr_engine.specs.Body.{MayStandUnder}
 use Rattle.btr_streams.specs.Board.{HasPast}
 use Rattle.btr_streams.specs.Restoring.{restored_streams}
 use Rattle.btr_open.specs.declared.loading.Loader.{Loader}
@@ -26,19 +27,21 @@ use Rattle.btr_open.specs.Loading.{IsTreeOfRoot}
 
 -- The body has these streams, after this number of entries, as its content.
 pub record IsContent (entries : ℕ) (roll : List RollStreamValue) (body : List ℕ) : Type 0 where
-  pub is_roll : IsRoll roll
-  pub has : HasCheckpoint entries (roll_bytes roll) body
+  pub has : HasCheckpoint 1 entries (λ format. roll_bytes format roll) body
+  pub is_roll : IsRoll has.format roll
 
 -- The body has no streams as its content.
 abbrev pub HasNoContentOf : List ℕ → Type 0
 HasNoContentOf body = (entries : ℕ) (roll : List RollStreamValue) → entries < 2 ^ 64 → IsContent entries roll body → ⊥
 
--- The checkpoint of a superblock has these streams, after this number of entries. Its extent, of two blocks or more, is before the tail.
--- If `observable` holds, the device has the extent.
-pub record IsRollRead (observable : Type 0) (image : Image) (s : Super) (entries : ℕ) (roll : List RollStreamValue) : Type 0 where
+-- The checkpoint of a superblock has these streams, after this number of entries, in this format. Its extent, of two blocks or more, is
+-- before the tail. If `observable` holds, the device has the extent.
+pub record IsRollRead (observable : Type 0) (image : Image) (s : Super) (entries format : ℕ) (roll : List RollStreamValue) : Type 0 where
   pub body : List ℕ
   pub has : HasRoll s.checkpoint entries roll body
+  pub same_format : has.format ≡ format
   pub after : s.checkpoint + 2 ≤ s.tail
+  pub under : MayStandUnder s.format body
   pub extent : observable → IsCheckpointExtent image s body
 
 -- ---- the roots
@@ -123,20 +126,20 @@ pub record AreAllTrees (nodes : NodesValue) (roll : List RollStreamValue) (trees
       → AreFirstTrees nodes stream s.versions ts
 
 -- A version of the streams has a root that it may not have, and the block is that in which the address begins.
-pub record NamesWrongRoot (nodes : NodesValue) (limit : ℕ) (roll : List RollStreamValue) (block : ℕ) : Type 0 where
+pub record NamesWrongRoot (nodes : NodesValue) (limit format : ℕ) (roll : List RollStreamValue) (block : ℕ) : Type 0 where
   pub stream : ℕ
   pub k : ℕ
   pub v : RollVersion
   pub at : HasVersionAt roll stream k v
   pub wrong : IsWrongRootOf nodes limit stream (k + 1) v.root
-  pub named : block ≡ limit + 1 + (64 + place_of_root roll stream at.its k) / 4096
+  pub named : block ≡ limit + 1 + (64 + place_of_root format roll stream at.its k) / 4096
 
 -- Why the trees of the versions are not returned.
-abbrev pub TreesCause : NodesValue → ℕ → List RollStreamValue → OpenCause → Type 0
-TreesCause nodes limit roll NotAStore = ⊥
-TreesCause nodes limit roll (Damaged block) = NamesWrongRoot nodes limit roll block
-TreesCause nodes limit roll Fault = ⊥
-TreesCause nodes limit roll Want = Unit {0}
+abbrev pub TreesCause : NodesValue → ℕ → ℕ → List RollStreamValue → OpenCause → Type 0
+TreesCause nodes limit format roll NotAStore = ⊥
+TreesCause nodes limit format roll (Damaged block) = NamesWrongRoot nodes limit format roll block
+TreesCause nodes limit format roll Fault = ⊥
+TreesCause nodes limit format roll Want = Unit {0}
 
 -- ---- all that a checkpoint has
 
@@ -148,6 +151,7 @@ pub record IsLoaded (image : Image) (limit : ℕ) (roll : List RollStreamValue) 
   pub trees : List (List TreeValue)
   pub are : AreAllTrees l.nodes roll trees
   pub board : l.board ≡ record { streams = restored_streams roll trees; entries = entries }
+  pub least : l.least ≡ 1
 
 module _ {D : Type 0} (disk : Ghosts D) where
   -- Why the tree of a root was not made.
@@ -166,8 +170,8 @@ module _ {D : Type 0} (disk : Ghosts D) where
   RootsCause roots old new Want = Unit {0}
 
   -- Why the board of the streams of a checkpoint was not made.
-  abbrev pub StartCause : Super → List RollStreamValue → D → D → OpenCause → Type 0
-  StartCause found roll old new NotAStore = ⊥
-  StartCause found roll old new (Damaged block) = disk.is_observable → HasWrongVersionRoot (disk.contents old) found roll block
-  StartCause found roll old new Fault = Rose (disk.faults old) (disk.faults new)
-  StartCause found roll old new Want = Unit {0}
+  abbrev pub StartCause : Super → ℕ → List RollStreamValue → D → D → OpenCause → Type 0
+  StartCause found format roll old new NotAStore = ⊥
+  StartCause found format roll old new (Damaged block) = disk.is_observable → HasWrongVersionRoot (disk.contents old) found format roll block
+  StartCause found format roll old new Fault = Rose (disk.faults old) (disk.faults new)
+  StartCause found format roll old new Want = Unit {0}

@@ -16,7 +16,7 @@ pub mod Seen
 pub mod Damage
 -- what an opening does
 pub mod Opening
--- calls that only read, and why a part of a store was not read
+-- why a part of a store was not read
 pub mod Reads
 -- what holds of all devices
 pub mod Laws

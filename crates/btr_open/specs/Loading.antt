@@ -1,5 +1,5 @@
 -- What the functions promise that read the extents of a log one by one.
-use Rattle.std.specs.Prelude.{◌≡◌, ◌⊎◌, ℕ, ◌+◌, ◌*◌, ◌^◌, ◌<◌, ◌≤◌, List, [], ◌∷◌, ◌++◌, length, slice_get}
+use Rattle.std.specs.Prelude.{◌≡◌, ◌⊎◌, ℕ, ◌+◌, ◌*◌, ◌^◌, ◌<◌, ◌≤◌, max, List, [], ◌∷◌, ◌++◌, length, slice_get}
 use Rattle.std.specs.Prelude.{Option, Some, None, IfSome, IsSome, IsNone, MatchOption}
 use Rattle.btr_disk.specs.declared.disk.Disk.{Ghosts}
 use Rattle.btr_disk.specs.Bytes.{Image, Has}
@@ -17,6 +17,7 @@ use Rattle.btr_tree.specs.Root.{TreeValue, IsTree}
 use Rattle.btr_hist.specs.declared.entry.Entry.{Entry}
 use Rattle.btr_hist.specs.Legal.{rejection, Follows}
 use Rattle.btr_streams.specs.declared.board.Staged.{Staged}
+use Rattle.btr_entry.specs.Format.{format_of}
 use Rattle.btr_engine.specs.Body.{Prefix, pages_after, with_extent, IsBodyOf, LeadTo}
 use Rattle.btr_streams.specs.Board.{IsBoardOf}
 use Rattle.btr_engine.specs.Roots.{IsRootOf}
@@ -37,7 +38,7 @@ use Rattle.btr_open.specs.Content.{HasContent, node_blocks_of}
 use Rattle.btr_open.specs.Walk.{FitsRoll, IsNextBody, IsCheckpointBody, IsNoNextBody, HasWrongRoot, HasWrongNode, BreaksBodyBy}
 use Rattle.btr_open.specs.Seen.{Seen, with_seen, with_mark, Lets, LeadOnBy}
 use Rattle.btr_open.specs.Reading.{IsReadInto, WasReadTo, IsStoredIn}
-use Rattle.btr_open.specs.Reads.{OnlyReads}
+use Rattle.btr_log.specs.Reads.{OnlyReads}
 
 -- ---- pages below the checkpoint, read one by one
 
@@ -218,6 +219,7 @@ pub record AreTreesOf (nodes : NodesValue) (roll : List RollStreamValue) (trees 
 -- The new board is the old one with an entry more, whose version has the tree of this root. The trees of the pages are as before.
 pub record AddsTree (old : Loader) (e : Entry) (root : ℕ) (new : Loader) : Type 0 where
   pub same : new.nodes ≡ old.nodes
+  pub least : new.least ≡ max old.least (format_of e)
   pub counted : new.board.entries ≡ old.board.entries + 1
   pub tree : TreeValue
   pub is : IsTreeOfRoot old.nodes root tree

@@ -38,6 +38,7 @@ module _ {D : Type 0} {disk : Ghosts D} where
     pub over : IsWalkOver w
     pub board : IsBoardOf [] w.loader.board
     pub nodes : w.loader.nodes ≡ []
+    pub least : w.loader.least ≡ 1
 
   -- The walk is over the same log as before, and its calls only read.
   pub record WalksOn (old new : LogWalk D disk) : Type 0 where

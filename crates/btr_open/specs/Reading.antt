@@ -1,5 +1,5 @@
 -- What the functions promise that an opening is made of: what was read so far, and why nothing more is.
-use Rattle.std.specs.Prelude.{◌≡◌, ◌⊎◌, ℕ, ◌<◌, true, false, List, [], ◌++◌, length, IsSome}
+use Rattle.std.specs.Prelude.{◌≡◌, ◌⊎◌, ℕ, ◌<◌, ◌≤◌, true, false, List, [], ◌++◌, length, IsSome}
 use Rattle.btr_disk.specs.declared.disk.Disk.{Ghosts}
 use Rattle.btr_disk.specs.Bytes.{Image}
 use Rattle.btr_disk.specs.Gate.{IsClosed}
@@ -11,7 +11,7 @@ use Rattle.btr_super.specs.declared.superblock.Super.{Super}
 use Rattle.btr_pages.specs.Known.{AreKnown, ArePartOf, node_at}
 use Rattle.btr_hist.specs.declared.entry.Entry.{Entry}
 use Rattle.btr_engine.specs.declared.engine.Engine.{Engine}
-use Rattle.btr_engine.specs.Body.{Prefix, prefix_to, no_extents, LeadTo}
+use Rattle.btr_engine.specs.Body.{Prefix, prefix_to, no_extents, needed_format, LeadTo}
 use Rattle.btr_streams.specs.Board.{Kept, IsBoardOf}
 use Rattle.btr_engine.specs.Engine.{device, blocks_of, tail_of, board_of, super_of, entries_of, is_stopped, is_home}
 use Rattle.btr_engine.specs.Engine.{synced_of, entries_at_open}
@@ -31,15 +31,17 @@ use Rattle.btr_open.specs.Walk.{IsWalk}
 use Rattle.btr_open.specs.Seen.{Seen, EntryRule, KeepsRule, IsDamagedLogBy}
 use Rattle.btr_open.specs.Damage.{IsDamagedStore}
 use Rattle.btr_open.specs.Opening.{OpenCauseHolds}
-use Rattle.btr_open.specs.Reads.{OnlyReads, PartCause}
+use Rattle.btr_log.specs.Reads.{OnlyReads}
+use Rattle.btr_open.specs.Reads.{PartCause}
 
 -- ---- what is in memory
 
 -- What was read up to a gate: the board has the number of entries and the streams with their versions, and the trees are those of the
--- pages, which are below the gate.
+-- pages, which are below the gate. The least format of a checkpoint is remembered.
 pub record IsReadInto (log : Reached) (l : Loader) : Type 0 where
   pub rolled_is : rolled l.board ≡ log.roll
   pub counted : l.board.entries ≡ log.entries
+  pub least_is : l.least ≡ log.least
   pub known : AreKnown log.pages l.nodes
   pub below : (block : ℕ) → IsSome (node_at l.nodes block) → block < log.gate
 
@@ -48,9 +50,11 @@ abbrev pub WasReadTo : ℕ → Loader → Type 0
 WasReadTo gate l = (log : Reached) × (log.gate ≡ gate) × IsReadInto log l
 
 -- The board is that of the entries of a prefix. Its trees are stored in the pages of the prefix and have the roots of its entries. All
--- trees that were made are those of pages of the prefix.
+-- trees that were made are those of pages of the prefix. A checkpoint of the prefix may have the least format that is remembered, or a
+-- greater one.
 pub record IsStoredIn (log : Prefix) (l : Loader) : Type 0 where
   pub of : IsBoardOf log.entries l.board
+  pub least : l.least ≤ needed_format log.entries
   pub counted : length log.roots ≡ length log.entries
   pub stored : AreStored log.pages log.gate l.board.streams
   pub roots : HaveRoots log.roots l.board.streams

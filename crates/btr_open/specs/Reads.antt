@@ -1,17 +1,11 @@
--- Calls that only read a device, and why a part of a store was not read.
+-- Why a part of a store was not read.
 use Rattle.std.specs.Prelude.{ℕ}
 use Rattle.btr_disk.specs.declared.disk.Disk.{Ghosts}
-use Rattle.btr_disk.specs.Causes.{Rose, KeepsCounts}
-use Rattle.btr_disk.specs.Moments.{WroteNothing}
+use Rattle.btr_disk.specs.Causes.{Rose}
 use Rattle.btr_open.specs.declared.opening.OpenCause.{OpenCause}
 use Rattle.btr_open.specs.declared.opening.OpenCause.TheVariants.{NotAStore, Damaged, Fault, Want}
 
 module _ {D : Type 0} (disk : Ghosts D) where
-  -- The calls between the two states wrote nothing.
-  pub record OnlyReads (old new : D) : Type 0 where
-    pub counts : KeepsCounts disk.size disk.calls disk.faults old new
-    pub nothing : disk.is_observable → WroteNothing disk.calls disk.contents disk.images_now disk.images_since old new
-
   -- Why a part of a store was not read, if it is this that breaks the format in a block.
   abbrev pub PartCause : (ℕ → Type 0) → D → D → OpenCause → Type 0
   PartCause Breaks old new NotAStore = ⊥

@@ -6,7 +6,7 @@ use Rattle.btr_node.specs.declared.page.NodePage.{NodePage}
 use Rattle.btr_pages.specs.Pages.{Pages, IsRootPage, MayBeRoot}
 use Rattle.btr_pages.specs.Blocks.{block_of_bytes, IsNoPage}
 use Rattle.btr_hist.specs.declared.entry.Entry.{Entry}
-use Rattle.btr_hist.specs.declared.entry.Entry.TheVariants.{Create, Define, Commit, Distillate}
+use Rattle.btr_hist.specs.declared.entry.Entry.TheVariants.{Create, Define, Commit, Distillate, Retire}
 use Rattle.btr_roll.specs.Roll.{RollStreamValue}
 use Rattle.btr_open.specs.Reached.{next_version}
 
@@ -14,11 +14,12 @@ use Rattle.btr_open.specs.Reached.{next_version}
 abbrev pub adds : List Point → Bool
 adds added = nat_lt 0 (length added)
 
--- The root of an entry after these streams may be this block, as an opening tests it. An entry that makes a stream has no root. The root
+-- The root of an entry after these streams may be this block, as an opening tests it. An entry that makes no version has no root. The root
 -- of a commit is 0, if the commit adds no point, or it is the block of the page of a root of its stream that is not newer than the version.
 abbrev pub MayLead : Pages → List RollStreamValue → Entry → ℕ → Type 0
 MayLead known roll (Create id) root = root ≡ 0
 MayLead known roll (Define id spec) root = root ≡ 0
+MayLead known roll (Retire stream first) root = root ≡ 0
 MayLead known roll (Commit stream cut added) root = MayBeRoot known stream (next_version roll stream) (adds added) root
 MayLead known roll (Distillate stream cut added reads) root = MayBeRoot known stream (next_version roll stream) (adds added) root
 
@@ -44,6 +45,7 @@ MayBeRootIn known first blocks stream version some root =
 abbrev pub MayLeadIn : Pages → List RollStreamValue → Entry → ℕ → List ℕ → ℕ → Type 0
 MayLeadIn known roll (Create id) first blocks root = root ≡ 0
 MayLeadIn known roll (Define id spec) first blocks root = root ≡ 0
+MayLeadIn known roll (Retire stream least) first blocks root = root ≡ 0
 MayLeadIn known roll (Commit stream cut added) first blocks root =
     MayBeRootIn known first blocks stream (next_version roll stream) (adds added) root
 MayLeadIn known roll (Distillate stream cut added reads) first blocks root =
@@ -61,9 +63,10 @@ abbrev pub IsNamedBlock : ℕ → ℕ → List ℕ → ℕ → ℕ → Type 0
 IsNamedBlock gate first blocks root block =
     (IsNoPageIn first blocks root × (block ≡ root)) ⊎ ((IsNoPageIn first blocks root → ⊥) × (block ≡ gate + 1))
 
--- The block that is named if the root of an entry is wrong. That of an entry that makes a stream is named by the first block of the body.
+-- The block that is named if the root of an entry is wrong. That of an entry that makes no version is named by the first block of the body.
 abbrev pub IsNamedRoot : ℕ → Entry → ℕ → List ℕ → ℕ → ℕ → Type 0
 IsNamedRoot gate (Create id) first blocks root block = block ≡ gate + 1
 IsNamedRoot gate (Define id spec) first blocks root block = block ≡ gate + 1
+IsNamedRoot gate (Retire stream least) first blocks root block = block ≡ gate + 1
 IsNamedRoot gate (Commit stream cut added) first blocks root block = IsNamedBlock gate first blocks root block
 IsNamedRoot gate (Distillate stream cut added reads) first blocks root block = IsNamedBlock gate first blocks root block

@@ -11,7 +11,8 @@ use Rattle.btr_super.specs.declared.superblock.Super.{Super}
 use Rattle.btr_pages.specs.Pages.{Pages, HasRootPage, IsRootPage}
 use Rattle.btr_node.specs.declared.page.NodePage.{NodePage}
 use Rattle.btr_roll.specs.declared.roll.RollVersion.{RollVersion}
-use Rattle.btr_roll.specs.Roll.{RollStreamValue, IsRoll, roll_bytes, stream_bytes, version_bytes, kind_bytes}
+use Rattle.btr_roll.specs.Roll.{RollStreamValue, IsRoll, has_firsts, roll_bytes, stream_bytes, first_bytes, version_bytes, kind_bytes}
+use Rattle.btr_engine.specs.Body.{MayStandUnder}
 use Rattle.btr_engine.specs.Mark.{body_of_roll}
 use Rattle.btr_open.specs.Reached.{Reached, beginning}
 use Rattle.btr_open.specs.Below.{IsStoredPage, HasNoPage, StandBelow, BreaksBelow}
@@ -24,13 +25,15 @@ pub record IsMadeWithin (entries : ℕ) (s : RollStreamValue) : Type 0 where
   pub versions : AllByRecursion (λ v. (1 ≤ v.entry) × (v.entry ≤ entries)) s.versions
 
 -- The body is that of a checkpoint at a gate, after this number of entries, with these streams and their versions. Each entry has an extent
--- of two blocks or more before the gate, and made what the streams say.
+-- of two blocks or more before the gate, and made what the streams say. The format of the body is 1 to 3.
 pub record HasRoll (gate entries : ℕ) (roll : List RollStreamValue) (body : List ℕ) : Type 0 where
-  pub is_roll : IsRoll roll
+  pub format : ℕ
+  pub known : (1 ≤ format) × (format ≤ 3)
+  pub is_roll : IsRoll format roll
   pub bound : 2 * entries + 4 ≤ gate
   pub made : AllByRecursion (IsMadeWithin entries) roll
-  pub room : content_blocks (length (roll_bytes roll)) < 2 ^ 64
-  pub bytes : body ≡ body_of_roll entries roll
+  pub room : content_blocks (length (roll_bytes format roll)) < 2 ^ 64
+  pub bytes : body ≡ body_of_roll format entries roll
 
 -- The extent at the gate that the superblock names has this body, and the gate after it is the superblock's tail.
 pub record IsCheckpointExtent (image : Image) (s : Super) (body : List ℕ) : Type 0 where
@@ -50,12 +53,15 @@ abbrev pub HaveRootPages : Pages → List RollStreamValue → Type 0
 HaveRootPages pages roll =
     (stream k : ℕ) (v : RollVersion) → HasVersionAt roll stream k v → (v.root ≡ 0) ⊎ HasRootPage pages stream (k + 1) v.root
 
--- What is before the superblock's tail, as its checkpoint says. The pages to which the roots lead stand rightly below the checkpoint.
+-- What is before the superblock's tail, as its checkpoint says, whose format is no greater than that of the superblock. No entry was read.
+-- The pages to which the roots lead stand rightly below the checkpoint.
 pub record IsCheckpointStart (image : Image) (s : Super) (start : Reached) : Type 0 where
   pub body : List ℕ
   pub extent : IsCheckpointExtent image s body
   pub has : HasRoll s.checkpoint start.entries start.roll body
+  pub under : MayStandUnder s.format body
   pub gate : start.gate ≡ s.tail
+  pub least : start.least ≡ 1
   pub stand : StandBelow image s.checkpoint start.pages
   pub beyond : (block : ℕ) → s.checkpoint ≤ block → IsNone (start.pages block)
   pub roots : HaveRootPages start.pages start.roll
@@ -77,24 +83,26 @@ pub record IsNoCheckpoint (image : Image) (s : Super) (block : ℕ) : Type 0 whe
       × ((head.kind ≡ 2 → ⊥) ⊎ (s.tail ≡ s.checkpoint + need body → ⊥)))
   pub of : block ≡ 2 * s.side + 1
 
--- The body of the checkpoint has no streams that a checkpoint can have. Its first block breaks the format.
+-- The body of the checkpoint has a greater format than the superblock, or no streams that a checkpoint can have. Its first block breaks the
+-- format.
 pub record HasNoRoll (image : Image) (s : Super) (block : ℕ) : Type 0 where
   pub body : List ℕ
   pub extent : IsCheckpointExtent image s body
-  pub none : (entries : ℕ) (roll : List RollStreamValue) → HasRoll s.checkpoint entries roll body → ⊥
+  pub none : MayStandUnder s.format body → (entries : ℕ) (roll : List RollStreamValue) → HasRoll s.checkpoint entries roll body → ⊥
   pub first : block ≡ s.checkpoint + 1
 
--- The place of the eight bytes of a version's root in the content of a checkpoint: after the number of streams, the streams before, the
--- fields of its own stream, the versions before, and the number of its entry.
-abbrev pub place_of_root : List RollStreamValue → ℕ → RollStreamValue → ℕ → ℕ
-place_of_root roll stream s k =
-    4 + length (flat_map stream_bytes (take stream roll)) + (32 + length (kind_bytes s.spec))
+-- The place of the eight bytes of a version's root in the content of a checkpoint of this format: after the number of streams, the streams
+-- before, the fields of its own stream, the versions before, and the number of its entry.
+abbrev pub place_of_root : ℕ → List RollStreamValue → ℕ → RollStreamValue → ℕ → ℕ
+place_of_root format roll stream s k =
+    4 + length (flat_map (stream_bytes format) (take stream roll))
+    + (32 + length (kind_bytes s.spec) + length (first_bytes (has_firsts format) s.first))
     + length (flat_map version_bytes (take k s.versions)) + 8
 
--- A version of the checkpoint has a root, and this block is named for it: the block in which the address begins, if the address is not
--- below the checkpoint, or is that of the page of no such root; the block at the address, if it has no page; or a block below its page
--- that breaks the format.
-pub record HasWrongVersionRoot (image : Image) (s : Super) (roll : List RollStreamValue) (block : ℕ) : Type 0 where
+-- A version of the checkpoint, of this format, has a root, and this block is named for it: the block in which the address begins, if the
+-- address is not below the checkpoint, or is that of the page of no such root; the block at the address, if it has no page; or a block
+-- below its page that breaks the format.
+pub record HasWrongVersionRoot (image : Image) (s : Super) (format : ℕ) (roll : List RollStreamValue) (block : ℕ) : Type 0 where
   pub stream : ℕ
   pub k : ℕ
   pub v : RollVersion
@@ -102,7 +110,7 @@ pub record HasWrongVersionRoot (image : Image) (s : Super) (roll : List RollStre
   pub some : 0 < v.root
   pub wrong :
       (((s.checkpoint ≤ v.root) ⊎ ((page : NodePage) × IsStoredPage image v.root page × (IsRootPage stream (k + 1) page → ⊥)))
-      × (block ≡ s.checkpoint + 1 + (64 + place_of_root roll stream at.its k) / 4096))
+      × (block ≡ s.checkpoint + 1 + (64 + place_of_root format roll stream at.its k) / 4096))
       ⊎ (((v.root < s.checkpoint) × HasNoPage image v.root × (block ≡ v.root))
       ⊎ ((v.root < s.checkpoint) × (page : NodePage) × IsStoredPage image v.root page × BreaksBelow image v.root page block))
 
@@ -112,8 +120,9 @@ pub record HasWrongRoots (image : Image) (s : Super) (block : ℕ) : Type 0 wher
   pub extent : IsCheckpointExtent image s body
   pub entries : ℕ
   pub roll : List RollStreamValue
+  pub under : MayStandUnder s.format body
   pub has : HasRoll s.checkpoint entries roll body
-  pub wrong : HasWrongVersionRoot image s roll block
+  pub wrong : HasWrongVersionRoot image s has.format roll block
 
 -- The superblock names a checkpoint, but this block breaks the format of its start.
 abbrev pub IsWrongStart : Image → Super → ℕ → Type 0

@@ -1,6 +1,6 @@
 -- A walk over the log of a device: the extents from the start to a gate, each of which may follow those before it; and the block after
 -- them that breaks the format.
-use Rattle.std.specs.Prelude.{◌≡◌, ◌⊎◌, ℕ, ◌+◌, ◌*◌, ◌^◌, ◌<◌, List, [], ◌∷◌, take, length, None}
+use Rattle.std.specs.Prelude.{◌≡◌, ◌⊎◌, ℕ, ◌+◌, ◌*◌, ◌^◌, ◌<◌, ◌≤◌, List, [], ◌∷◌, take, length, None}
 use Rattle.std.specs.List.{flat_map, AllByRecursion}
 use Rattle.btr_disk.specs.Bytes.{Image}
 use Rattle.btr_log.specs.declared.head.Head.{Head}
@@ -15,7 +15,7 @@ use Rattle.btr_pages.specs.Blocks.{block_of_bytes, IsNoPage}
 use Rattle.btr_hist.specs.declared.entry.Entry.{Entry}
 use Rattle.btr_entry.specs.Grammar.{IsSpelled}
 use Rattle.btr_roll.specs.Roll.{RollStreamValue, roll_bytes}
-use Rattle.btr_engine.specs.Body.{first_page, body_of}
+use Rattle.btr_engine.specs.Body.{first_page, body_of, MayStandUnder, MayHavePages}
 use Rattle.btr_engine.specs.Mark.{body_of_roll}
 use Rattle.btr_streams.specs.Outline.{outline_in, refusal}
 use Rattle.btr_open.specs.Content.{HasContent, HasNoContent}
@@ -37,14 +37,19 @@ pub record IsNextBody (before : Reached) (e : Entry) (root : ℕ) (pages : List 
   pub fits : AllByRecursion Fits pages
   pub rightly : ArePages before.pages (first_page before.gate e) pages
   pub low : root < 2 ^ 64
+  pub may_have : MayHavePages e pages
   pub bytes : body ≡ body_of (before.entries + 1) e root pages
   pub may_lead : MayLead (pages_with before e pages) before.roll e root
   pub allowed : FitsRoll before.roll e
 
--- The body is that of a checkpoint: it has the number of entries, and the streams with their versions.
+-- The body is that of a checkpoint: it has the number of entries, and the streams with their versions. Its format is 1 to 3, and no less
+-- than that of an entry that was read.
 pub record IsCheckpointBody (before : Reached) (body : List ℕ) : Type 0 where
-  pub room : content_blocks (length (roll_bytes before.roll)) < 2 ^ 64
-  pub bytes : body ≡ body_of_roll before.entries before.roll
+  pub format : ℕ
+  pub from : (1 ≤ format) × (before.least ≤ format)
+  pub most : format ≤ 3
+  pub room : content_blocks (length (roll_bytes format before.roll)) < 2 ^ 64
+  pub bytes : body ≡ body_of_roll format before.entries before.roll
 
 -- The extents with these bodies lead from one gate to another: each body is that of an entry that may follow, or of a checkpoint.
 abbrev pub LeadOn : Reached → List (List ℕ) → Reached → Type 0
@@ -54,13 +59,15 @@ LeadOn before (body ∷ bodies) after =
     × LeadOn (with_entry before e root pages body) bodies after)
     ⊎ (IsCheckpointBody before body × LeadOn (passed before body) bodies after)
 
--- From the start that the superblock names, extents follow one another and lead to this gate and what is before it.
+-- From the start that the superblock names, extents follow one another and lead to this gate and what is before it. No body has a greater
+-- format than the superblock.
 pub record IsWalk (image : Image) (s : Super) (log : Reached) : Type 0 where
   pub start : Reached
   pub starts : IsReadingStart image s start
   pub bodies : List (List ℕ)
   pub extents : Extents image start.gate bodies log.gate
   pub leads : LeadOn start bodies log
+  pub formats : AllByRecursion (MayStandUnder s.format) bodies
 
 -- ---- a body that breaks the format
 
@@ -141,13 +148,20 @@ BreaksBody image limit log body block = BreaksBodyBy (λ e root. FitsRoll log.ro
 
 -- ---- a log that breaks the format
 
--- The gate is open, and there is an extent inside the log's blocks whose body breaks the format.
+-- The format of a body with this head, after the gate at this block, is greater than `limit`. The body's first block breaks the format.
+abbrev pub IsAboveFormat : ℕ → ℕ → Head → ℕ → Type 0
+IsAboveFormat limit gate head block = (limit < head.format) × (block ≡ gate + 1)
+
+-- The gate is open, and there is an extent inside the log's blocks whose body breaks the format: its format is greater than that of the
+-- superblock; or it is not, and the body breaks the format.
 pub record IsBrokenExtent (May : Entry → ℕ → Type 0) (image : Image) (s : Super) (log : Reached) (block : ℕ) : Type 0 where
   pub head : Head
   pub body : List ℕ
   pub extent : IsExtent image log.gate body head
   pub inside : log.gate + need body < s.blocks
-  pub breaks : BreaksBodyBy May image s.checkpoint log body block
+  pub breaks :
+      IsAboveFormat s.format log.gate head block
+      ⊎ ((head.format ≤ s.format) × BreaksBodyBy May image s.checkpoint log body block)
 
 -- The gate is open, but this block is the first one that breaks the format of an extent with the next entry or with a checkpoint, if this
 -- lets an entry follow.

@@ -2,29 +2,25 @@
 ghost use Rattle.std.specs.Prelude.{◌≡◌, ◌↔◌, ℕ, ◌+◌, ◌*◌, ◌^◌, ◌%◌, ◌<◌, ◌≤◌, length, slice_get};
 ghost use Rattle.std.specs.Prelude.{IfErr, IfOk, IfSome, OnOk, Some, IsSome, IsNone, IsTrue, MatchOption};
 ghost use Rattle.btr_disk.specs.Bytes.{Image, IsBlockRange};
-ghost use Rattle.btr_log.specs.Piece.{IsPieceOf, HoldsBlocks, bytes_at};
+ghost use Rattle.btr_log.specs.Piece.{IsPieceOf, HoldsBlocks};
+ghost use Rattle.btr_log.specs.Reads.{OnlyReads};
 ghost use Rattle.btr_node.specs.Page.{Keeps, Fits, slots_of_page};
 ghost use Rattle.btr_pages.specs.Pages.{IsChildPage};
 ghost use Rattle.btr_pages.specs.Known.{node_at};
 ghost use Rattle.btr_open.specs.Below.{IsStoredPage, HasNoPage};
 ghost use Rattle.btr_open.specs.Reading.{BlockCause};
-ghost use Rattle.btr_open.specs.Reads.{OnlyReads};
 ghost use Rattle.btr_open.specs.Loading.{IsReaderOf, IsDeviceBlock, CanRead, HasReadBelow, IsReadPage, AreOfDevice};
 ghost use Rattle.btr_open.specs.Loading.{GrowsBelow, FetchesPage, HasNoneAbove, HasNoneFrom};
 ghost use Rattle.btr_open.specs.Loading.{IsBlock, IsSlotChild, IsNeeded, FetchesAll, CanMake, Makes, MakesChild, IsSlotOf, HasUnknownChild};
 
 use crate::loading::OpenWalk;
 use crate::opening::OpenCause;
-use crate::roots::block_at;
 use btr_disk::Disk;
-use btr_log::{ExtentFault, Piece};
+use btr_log::{ExtentFault, Piece, READ_AHEAD};
 use btr_node::{NodePage, PAGE, PageSlot, decode};
-use btr_pages::Nodes;
+use btr_pages::{Nodes, block_at};
 use btr_tree::Steps;
 use std::alloc::Global;
-
-/// The number of blocks of a run: 1 MiB.
-const AHEAD: u64 = 256;
 
 /// What is found of the page in a block.
 #[derive(Clone, Copy, PartialEq, Eq)]
@@ -141,7 +137,7 @@ impl BlockReader {
         }
         self.fetch_at(disk, nodes, steps, root)?;
         for i in 0..bytes.len() / PAGE {
-            if let Some(page) = decode(&block_at(bytes, PAGE * i)) {
+            if let Some(page) = decode(block_at(bytes, PAGE * i)) {
                 self.fetch_children(disk, nodes, steps, &page)?;
             }
         }
@@ -314,14 +310,14 @@ impl BlockReader {
         ensures cause { IfErr result (BlockCause ⟦<D as Disk>⟧ disk.old disk.new) }
     {
         if self.ahead.holds(block, 1) {
-            return Ok(held(&self.ahead, block));
+            return Ok(*self.ahead.held(block));
         }
         if block < self.next {
             read(&mut self.one, disk, block, 1)?;
-            return Ok(held(&self.one, block));
+            return Ok(*self.one.held(block));
         }
         self.read_run(disk, block)?;
-        Ok(held(&self.ahead, block))
+        Ok(*self.ahead.held(block))
     }
 
     /// Reads a run with this block, which is at or above the end of the run before.
@@ -334,19 +330,11 @@ impl BlockReader {
         ensures cause { IfErr result (BlockCause ⟦<D as Disk>⟧ disk.old disk.new) }
     {
         let first = first_of_run(self.next, block);
-        let count = AHEAD.min(self.limit - first);
+        let count = READ_AHEAD.min(self.limit - first);
         read(&mut self.ahead, disk, first, count)?;
         self.next = first + count;
         Ok(())
     }
-}
-
-/// The bytes of a block that a piece holds.
-fn held(piece: &Piece, block: u64) -> [u8; PAGE]
-    requires { HoldsBlocks piece.now block 1 }
-    ensures { result ≡ bytes_at piece.now block 1 }
-{
-    block_at(piece.blocks(block, 1), 0)
 }
 
 /// The first block of the run that is read for a block which is not below `next`: `next`, if a run from there has the block, or else
@@ -356,10 +344,10 @@ fn first_of_run(next: u64, block: u64) -> u64
     ensures begins { result ≤ block }
     ensures ends { block < result + 256 }
 {
-    if block - next < AHEAD {
+    if block - next < READ_AHEAD {
         next
     } else {
-        block - (AHEAD - 1)
+        block - (READ_AHEAD - 1)
     }
 }
 

@@ -1,10 +1,10 @@
 //! The entry that the bytes of an extent hold.
 ghost use Rattle.std.specs.Prelude.{◌≡◌, ◌≤◌, ◌↔◌, IfOk, IfSome, IfNone, IsTrue, EachIndex, slice_index};
 ghost use Rattle.btr_log.specs.Extents.{IsBody};
-ghost use Rattle.btr_open.specs.Content.{HasContent, HasNoContent, node_blocks_of};
+ghost use Rattle.btr_open.specs.Content.{HasContent, HasNoContent, MayHaveNodes, node_blocks_of};
 
 use btr_disk::BLOCK;
-use btr_entry::decode;
+use btr_entry::{decode, format_of};
 use btr_hist::Entry;
 use btr_log::{HEAD_BYTES, Head, blocks_of_content};
 use std::alloc::{AllocError, Global};
@@ -13,8 +13,8 @@ use std::alloc::{AllocError, Global};
 /// entry. The node blocks of the body follow the content. The bytes begin with the head and are as many blocks as it says: this is
 /// the caller's condition.
 ///
-/// The bytes are the content of an entry only if all bytes after its spelling, up to the end of the last block of the content, are
-/// zeros.
+/// The bytes are the content of an entry only if the head has the entry's format, and no node blocks if it is a retirement, and all bytes
+/// after its spelling, up to the end of the last block of the content, are zeros.
 pub fn decode_extent(
     alloc: Global,
     body: &[u8],
@@ -34,7 +34,27 @@ pub fn decode_extent(
     if !are_zeros(&body[end..stop]) {
         return Ok(None);
     }
-    decode(alloc, &body[HEAD_BYTES..end])
+    let Some(entry) = decode(alloc, &body[HEAD_BYTES..end])? else {
+        return Ok(None);
+    };
+    if head.format != format_of(&entry) {
+        return Ok(None);
+    }
+    if !may_have_nodes(&entry, head.nodes) {
+        return Ok(None);
+    }
+    Ok(Some(entry))
+}
+
+/// Returns whether the extent of an entry may have this many node blocks. That of a retirement has none.
+fn may_have_nodes(entry: &Entry, nodes: u64) -> bool
+    ensures { IsTrue result ↔ MayHaveNodes entry.now nodes }
+{
+    match entry {
+        Entry::Retire { .. } => nodes == 0,
+        Entry::Create { .. } | Entry::Define { .. } => true,
+        Entry::Commit { .. } | Entry::Distillate { .. } => true,
+    }
 }
 
 /// Returns whether the head is one of an entry with this number, whatever its content, its node blocks and its root are.

@@ -1,7 +1,8 @@
 //! The reading of a whole log from its first gate, with a judge.
 ghost use Rattle.std.specs.Prelude.{IfErr, IfOk};
 ghost use Rattle.btr_super.specs.Super.{IsSuper};
-ghost use Rattle.btr_open.specs.Reads.{OnlyReads, PartCause};
+ghost use Rattle.btr_log.specs.Reads.{OnlyReads};
+ghost use Rattle.btr_open.specs.Reads.{PartCause};
 ghost use Rattle.btr_open.specs.Seen.{nothing_seen, first_reading, EndsInside, IsJudgedLog, IsDamagedLogBy};
 
 use crate::judge::Judge;

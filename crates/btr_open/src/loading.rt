@@ -15,6 +15,7 @@ use crate::judge::Judge;
 use crate::roots::wrong_root;
 use btr_disk::BLOCK;
 use btr_engine::Board;
+use btr_entry::format_of;
 use btr_hist::Entry;
 use btr_log::{Head, blocks_of_content};
 use btr_pages::Nodes;
@@ -32,6 +33,9 @@ pub(crate) struct Loader {
     pub(crate) board: Board,
     pub(crate) nodes: Nodes,
     pub(crate) steps: Steps<OpenWalk>,
+
+    /// The least format that a checkpoint may have: the greatest format of an entry that was read, or 1 if there is none.
+    pub(crate) least: u32,
 }
 
 impl Loader {
@@ -39,11 +43,13 @@ impl Loader {
     pub(crate) fn empty(alloc: Global) -> Loader
         ensures board { IsBoardOf [] result.board }
         ensures nodes { result.nodes ≡ [] }
+        ensures least { result.least ≡ 1 }
     {
         Loader {
             board: Board::empty(),
             nodes: Nodes::new(alloc),
             steps: Steps::new(),
+            least: 1,
         }
     }
 
@@ -64,7 +70,7 @@ impl Loader {
         ensures marked { IfOk result (λ o. IfNone o (HasMarked ⟦<J as Judge>⟧ gate body.now self.now judge.old judge.new)) }
         ensures damaged { IfOk result (λ o. IfSome o (HasNothingNext gate body.now self.now)) }
     {
-        if is_checkpoint(alloc, &self.board, head, body)? {
+        if is_checkpoint(alloc, &self.board, self.least, head, body)? {
             let next = gate + head.n + 1;
             judge.mark(alloc, gate, next)?;
             Ok(None)
@@ -151,6 +157,7 @@ impl Loader {
         let tree = self.nodes.tree(root)?;
         let staged = self.board.stage_read(alloc, entry, tree)?;
         self.board.accept(staged);
+        self.least = self.least.max(format_of(entry));
         Ok(())
     }
 }

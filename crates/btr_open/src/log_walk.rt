@@ -78,6 +78,7 @@ impl<D: Disk> LogWalk<D> {
     }
 
     /// Reads the extent at the gate, and goes to the gate after it. It returns whether there is one: `false` exactly if the gate is closed.
+    /// An extent of a greater format than the superblock's is damaged in the first block of its body, before its content is decoded.
     fn read_next<J: Judge>(&mut self, judge: &mut J) -> Result<bool, OpenCause>
         requires walked { IsWalked ⟦<J as Judge>⟧ self.old judge.old }
         ensures walks { WalksOn self.old self.new }
@@ -94,6 +95,9 @@ impl<D: Disk> LogWalk<D> {
         let Some(head) = found_there else {
             return Ok(false);
         };
+        if head.format > self.found.format {
+            return Err(OpenCause::Damaged { block: gate + 1 });
+        }
         let next = gate + head.n + 1;
         match self.read_body(judge, &head)? {
             Some(block) => Err(OpenCause::Damaged { block }),

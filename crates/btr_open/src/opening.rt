@@ -7,7 +7,7 @@ ghost use Rattle.btr_hist.specs.declared.entry.Entry.{Entry as EntrySpec};
 ghost use Rattle.btr_engine.specs.Holds.{HoldsHistory};
 ghost use Rattle.btr_open.specs.Opening.{KeepsDisk, SyncsFirst, IsOpenedEngine, IsOpenedOn, IsNotOpened};
 ghost use Rattle.btr_open.specs.Reading.{CauseBetween, StoreCause, IsReadEngine};
-ghost use Rattle.btr_open.specs.Reads.{OnlyReads};
+ghost use Rattle.btr_log.specs.Reads.{OnlyReads};
 
 use crate::judge::AnyEntry;
 use crate::loading::Loader;

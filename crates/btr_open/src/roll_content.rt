@@ -45,7 +45,7 @@ fn decode_content(alloc: Global, head: &Head, body: &[u8]) -> Result<Option<Roll
     if !are_zeros(&body[end..]) {
         return Ok(None);
     }
-    decode_roll(alloc, &body[HEAD_BYTES..end])
+    decode_roll(alloc, head.format, &body[HEAD_BYTES..end])
 }
 
 /// Returns whether this number of entries may have an extent each before the gate.

@@ -11,7 +11,7 @@ use crate::loading::Loader;
 use btr_base::ROOT_HEIGHT;
 use btr_hist::Entry;
 use btr_node::{NodePage, PAGE, decode};
-use btr_pages::Nodes;
+use btr_pages::{Nodes, block_at};
 
 /// What is found of the root of a commit.
 #[derive(Clone, Copy, PartialEq, Eq)]
@@ -55,7 +55,7 @@ pub(crate) fn wrong_root(
     ensures named { IfSome result (IsNamedRoot gate entry.now first bytes.now root) }
 {
     let (stream, some) = match entry {
-        Entry::Create { .. } | Entry::Define { .. } => {
+        Entry::Create { .. } | Entry::Define { .. } | Entry::Retire { .. } => {
             return if root == 0 { None } else { Some(gate + 1) };
         }
         Entry::Commit { stream, added, .. } | Entry::Distillate { stream, added, .. } => {
@@ -96,7 +96,7 @@ fn test_root(nodes: &Nodes, made: NewVersion, root: u64, first: u64, bytes: &[u8
     if place >= bytes.len() / PAGE {
         return RootTest::Wrong;
     }
-    match decode(&block_at(bytes, PAGE * place)) {
+    match decode(block_at(bytes, PAGE * place)) {
         None => RootTest::NoPage,
         Some(page) => test(is_root_page(&page, made.stream, made.version)),
     }
@@ -120,14 +120,4 @@ fn is_root_page(page: &NodePage, stream: u32, version: u64) -> bool
 {
     let header = page.header();
     header.height == u32::from(ROOT_HEIGHT) && header.stream == stream && header.version <= version
-}
-
-/// The block of bytes from the index `at` on.
-pub(crate) fn block_at(bytes: &[u8], at: usize) -> [u8; PAGE]
-    requires { at + 4096 ≤ length bytes.now }
-    ensures { result ≡ take 4096 (drop at bytes.now) }
-{
-    let mut block = [0; PAGE];
-    block.copy_from_slice(&bytes[at..at + PAGE]);
-    block
 }

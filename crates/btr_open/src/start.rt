@@ -24,6 +24,9 @@ pub(crate) struct Checkpoint {
     /// The number of entries before it.
     pub(crate) entries: u64,
 
+    /// The format of its content.
+    pub(crate) format: u32,
+
     /// The streams with their versions.
     pub(crate) roll: Roll,
 }
@@ -63,7 +66,7 @@ impl<D: Disk> LogWalk<D> {
         requires some { 0 < self.old.found.checkpoint }
         ensures walks { WalksOn self.old self.new }
         ensures loader { self.new.loader ≡ self.old.loader }
-        ensures read { IfOk result (λ c. IsRollRead D.is_observable (D.contents (disk_of self.old.log)) self.old.found c.entries c.roll) }
+        ensures read { IfOk result (λ c. IsRollRead D.is_observable (D.contents (disk_of self.old.log)) self.old.found c.entries c.format c.roll) }
         ensures cause { IfErr result (FirstCause ⟦<D as Disk>⟧ self.old.found (disk_of self.old.log) (disk_of self.new.log)) }
     {
         let found = self.found;
@@ -78,10 +81,16 @@ impl<D: Disk> LogWalk<D> {
         if head.kind != 2 || next != found.tail {
             return Err(no_checkpoint(found));
         }
+        if head.format > found.format {
+            return Err(OpenCause::Damaged {
+                block: found.checkpoint + 1,
+            });
+        }
         let body = self.piece.blocks(found.checkpoint + 1, head.n);
         match decode_checkpoint(self.alloc, &head, body, found.checkpoint)? {
             Some(roll) => Ok(Checkpoint {
                 entries: head.number,
+                format: head.format,
                 roll,
             }),
             None => Err(OpenCause::Damaged {
@@ -93,15 +102,15 @@ impl<D: Disk> LogWalk<D> {
     /// Makes the trees of the roots of a checkpoint, and the board of its streams.
     fn load(&mut self, checkpoint: &Checkpoint) -> Result<(), OpenCause>
         requires over { IsWalkOver self.old }
-        requires nodes { self.old.loader.nodes ≡ [] }
-        requires roll { IsRoll checkpoint.now.roll }
+        requires fresh { (self.old.loader.nodes ≡ []) × (self.old.loader.least ≡ 1) }
+        requires roll { IsRoll checkpoint.now.format checkpoint.now.roll }
         ensures walks { WalksOn self.old self.new }
         ensures entries { OnOk result (self.new.loader.board.entries ≡ checkpoint.now.entries) }
         ensures grown { OnOk result (AreOfSome self.old.found.checkpoint self.new.loader.nodes) }
         ensures loaded { D.is_observable → OnOk result (IsLoaded (D.contents (disk_of self.old.log)) self.old.found.checkpoint
             checkpoint.now.roll checkpoint.now.entries self.new.loader) }
         ensures cause { IfErr result
-            (StartCause ⟦<D as Disk>⟧ self.old.found checkpoint.now.roll (disk_of self.old.log) (disk_of self.new.log)) }
+            (StartCause ⟦<D as Disk>⟧ self.old.found checkpoint.now.format checkpoint.now.roll (disk_of self.old.log) (disk_of self.new.log)) }
     {
         let limit = self.found.checkpoint;
         let roll = &checkpoint.roll;
@@ -113,7 +122,13 @@ impl<D: Disk> LogWalk<D> {
             &mut self.loader.steps,
             &roots,
         )?;
-        let trees = trees_of(self.alloc, &self.loader.nodes, &roll.streams, limit)?;
+        let trees = trees_of(
+            self.alloc,
+            &self.loader.nodes,
+            checkpoint.format,
+            &roll.streams,
+            limit,
+        )?;
         self.loader.board = Board::restored(self.alloc, roll, trees, checkpoint.entries)?;
         Ok(())
     }

@@ -86,6 +86,12 @@ length-pages [] fits = refl
 length-pages (p ∷ pages) fits =
     omega (arith, ap (length {A = ℕ}) (flat_map-cons page_bytes p pages), length-append (page_bytes p) (flat_map page_bytes pages), length-page p fits.0, length-pages pages fits.1)
 
+-- The bytes of a page are a block.
+pub one-block : (page : NodePage) → Fits page → length (page_bytes page) ≡ 4096
+one-block page fits =
+    ap (λ (xs : List ℕ). length xs) (sym (append-nil (page_bytes page)) ∙ sym (flat_map-cons page_bytes page []))
+    ∙ length-pages (page ∷ []) (each-places (page ∷ []) (fits, tt))
+
 -- No two lists of pages have the same bytes.
 pub pages-one : (pages others : List NodePage) → AllByRecursion Fits pages → AllByRecursion Fits others → flat_map page_bytes pages ≡ flat_map page_bytes others → pages ≡ others
 pages-one [] [] fits fit same = refl

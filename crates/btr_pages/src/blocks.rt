@@ -64,8 +64,8 @@ impl Nodes {
     }
 }
 
-/// The block of bytes from the index `at` on. It is not copied.
-fn block_at(bytes: &[u8], at: usize) -> &[u8; PAGE]
+/// Returns the block of bytes from the index `at` on. It is not copied.
+pub fn block_at(bytes: &[u8], at: usize) -> &[u8; PAGE]
     requires { at + 4096 ≤ length bytes.now }
     ensures { result.now ≡ take 4096 (drop at bytes.now) }
 {

@@ -23,6 +23,7 @@ mod roots;
 // theorems on the definitions
 mod laws;
 
+pub use blocks::block_at;
 pub use known::Known;
 pub use laws::reported_pages_stand;
 pub use new_page::fill_page;

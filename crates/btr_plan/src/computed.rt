@@ -30,7 +30,8 @@ pub fn is_computed(alloc: Global, snapshot: &Snapshot, entry: &Entry) -> Result<
             added,
             reads,
         } => is_distillate(alloc, snapshot, *stream, cut, added, *reads),
-        Entry::Create { .. } | Entry::Commit { .. } | Entry::Define { .. } => Ok(true),
+        Entry::Create { .. } | Entry::Commit { .. } | Entry::Define { .. } | Entry::Retire { .. } =>
+            Ok(true),
     }
 }
 

@@ -8,8 +8,8 @@ use Rattle.std.proofs.lemmas.List.Concat.{flat_map-cons}
 use Rattle.btr_base.specs.declared.limits.TheConstants.{MAX_VERSIONS}
 use Rattle.btr_hist.specs.declared.kernel.Spec.{Spec}
 use Rattle.btr_roll.specs.declared.roll.RollVersion.{RollVersion}
-use Rattle.btr_entry.specs.Grammar.{number, listed, spec_bytes, IsSpec}
-use Rattle.btr_roll.specs.Roll.{RollStreamValue, some_reads_bytes, version_bytes, kind_bytes, stream_bytes, roll_bytes, ReadsFit, VersionFits, StreamFits, RollFits}
+use Rattle.btr_entry.specs.Grammar.{number, spec_bytes, IsSpec}
+use Rattle.btr_roll.specs.Roll.{RollStreamValue, kind_format, some_reads_bytes, version_bytes, kind_bytes, has_firsts, first_bytes, versions_bytes, stream_bytes, roll_bytes, ReadsFit, VersionFits, FirstFits, StreamFits, RollFits}
 use Rattle.btr_roll.specs.Items.{AreItems, IsStreamStart}
 use Rattle.btr_entry.proofs.NumberLemmas.{number_once, wide32, wide64, wide128}
 use Rattle.btr_entry.proofs.FrameLemmas.{heads, tails}
@@ -161,60 +161,113 @@ start_once bytes id id' entry entry' spec spec' count count' rest rest' h k =
     let counts = count_read (after_stream_kind count rest) rest count count' rest' (omega (arith, h.few)) refl k.few kinds.1 in
     record { ids = ids.0; entries = entries.0; specs = kinds.0; counts = counts.0; rests = counts.1 }
 
+-- ---- the first version that is not retired
+
+-- The bytes determine the first version, if the checkpoint has it. Else it is 0.
+pub first_once : (has : Bool) (latest latest' first first' : ℕ) (r s : List ℕ) → latest ≤ MAX_VERSIONS → latest' ≤ MAX_VERSIONS → FirstFits has latest first → FirstFits has latest' first' → first_bytes has first ++ r ≡ first_bytes has first' ++ s → (first ≡ first') × (r ≡ s)
+first_once false latest latest' first first' r s few few' h k same = (h.none refl ∙ sym (k.none refl), same)
+first_once true latest latest' first first' r s few few' h k same =
+    let there = h.there in
+    let there' = k.there in
+    number_once w64 (2 ^ 64) wide64 first first' r s (omega arith) (omega arith) same
+
+-- The bytes of a first version that the checkpoint has are eight at least.
+pub first_long : (has : Bool) (first : ℕ) (bytes rest : List ℕ) → has ≡ true → bytes ≡ first_bytes has first ++ rest → 8 ≤ length bytes
+first_long false first bytes rest is same = absurd (cc)
+first_long true first bytes rest is same =
+    omega (arith, ap (length {A = ℕ}) same, length-append (number w64 first) rest, wide64.len first)
+
+-- The number that was read is the first version that the checkpoint has.
+pub first_read : (has : Bool) (n latest first : ℕ) (bytes after rest : List ℕ) → has ≡ true → n < 2 ^ 64 → bytes ≡ number w64 n ++ after → latest ≤ MAX_VERSIONS → FirstFits has latest first → bytes ≡ first_bytes has first ++ rest → n ≤ latest
+first_read false n latest first bytes after rest is fits read few h same = absurd (cc)
+first_read true n latest first bytes after rest is fits read few h same =
+    let there = h.there in
+    let once = number_once w64 (2 ^ 64) wide64 n first after rest fits (omega arith) (sym read ∙ same) in
+    omega (arith, once.0)
+
 -- ---- streams
 
 abbrev versions_after : RollStreamValue → List ℕ → List ℕ
 versions_after s rest = flat_map version_bytes s.versions ++ rest
 
-stream_parts : (s : RollStreamValue) (rest : List ℕ) → stream_bytes s ++ rest ≡ number w128 s.id ++ after_stream_id s.entry s.spec (length s.versions) (versions_after s rest)
-stream_parts s rest =
-    let counted : listed version_bytes s.versions ++ rest ≡ after_stream_kind (length s.versions) (versions_after s rest) = append_assoc (number w64 (length s.versions)) (flat_map version_bytes s.versions) rest in
-    let kinds = append_assoc (kind_bytes s.spec) (listed version_bytes s.versions) rest ∙ ap (λ (l : List ℕ). kind_bytes s.spec ++ l) counted in
-    let entries = append_assoc (number w64 s.entry) (kind_bytes s.spec ++ listed version_bytes s.versions) rest ∙ ap (λ (l : List ℕ). number w64 s.entry ++ l) kinds in
-    append_assoc (number w128 s.id) (number w64 s.entry ++ (kind_bytes s.spec ++ listed version_bytes s.versions)) rest ∙ ap (λ (l : List ℕ). number w128 s.id ++ l) entries
+abbrev first_after : ℕ → RollStreamValue → List ℕ → List ℕ
+first_after format s rest = first_bytes (has_firsts format) s.first ++ versions_after s rest
+
+stream_parts : (format : ℕ) (s : RollStreamValue) (rest : List ℕ) → stream_bytes format s ++ rest ≡ number w128 s.id ++ after_stream_id s.entry s.spec (length s.versions) (first_after format s rest)
+stream_parts format s rest =
+    let first = first_bytes (has_firsts format) s.first in
+    let versions = flat_map version_bytes s.versions in
+    let counted : versions_bytes format s ++ rest ≡ after_stream_kind (length s.versions) (first_after format s rest) =
+    append_assoc (number w64 (length s.versions)) (first ++ versions) rest ∙ ap (λ (l : List ℕ). number w64 (length s.versions) ++ l) (append_assoc first versions rest) in
+    let kinds = append_assoc (kind_bytes s.spec) (versions_bytes format s) rest ∙ ap (λ (l : List ℕ). kind_bytes s.spec ++ l) counted in
+    let entries = append_assoc (number w64 s.entry) (kind_bytes s.spec ++ versions_bytes format s) rest ∙ ap (λ (l : List ℕ). number w64 s.entry ++ l) kinds in
+    append_assoc (number w128 s.id) (number w64 s.entry ++ (kind_bytes s.spec ++ versions_bytes format s)) rest ∙ ap (λ (l : List ℕ). number w128 s.id ++ l) entries
 
 -- The start of a stream.
-pub start_from_stream : (bytes : List ℕ) (s : RollStreamValue) (rest : List ℕ) → StreamFits s → bytes ≡ stream_bytes s ++ rest → IsStreamStart bytes s.id s.entry s.spec (length s.versions) (versions_after s rest)
-start_from_stream bytes s rest h same = record {
+pub start_from_stream : (format : ℕ) (bytes : List ℕ) (s : RollStreamValue) (rest : List ℕ) → StreamFits format s → bytes ≡ stream_bytes format s ++ rest → IsStreamStart bytes s.id s.entry s.spec (length s.versions) (first_after format s rest)
+start_from_stream format bytes s rest h same = record {
   id_fits = h.id_fits;
   entry_fits = h.entry_fits;
   spec_fits = h.spec_fits;
   few = h.few_versions;
-  parts = same ∙ stream_parts s rest;
+  parts = same ∙ stream_parts format s rest;
 }
 
--- The versions of a stream after its start.
-pub versions_from_stream : (bytes : List ℕ) (id entry : ℕ) (spec : Option Spec) (count : ℕ) (after : List ℕ) (s : RollStreamValue) (rest : List ℕ) → IsStreamStart bytes id entry spec count after → StreamFits s → bytes ≡ stream_bytes s ++ rest → AreItems version_bytes (VersionFits (is_some spec)) count after s.versions rest
-versions_from_stream bytes id entry spec count after s rest start h same =
-    let starts = start_once bytes id s.id entry s.entry spec s.spec count (length s.versions) after (versions_after s rest) start (start_from_stream bytes s rest h same) in
+-- The format of the stream is that of the kind at its start.
+pub format_from_stream : (format : ℕ) (bytes : List ℕ) (id entry : ℕ) (spec : Option Spec) (count : ℕ) (after : List ℕ) (s : RollStreamValue) (rest : List ℕ) → IsStreamStart bytes id entry spec count after → StreamFits format s → bytes ≡ stream_bytes format s ++ rest → kind_format spec ≤ format
+format_from_stream format bytes id entry spec count after s rest start h same =
+    let starts = start_once bytes id s.id entry s.entry spec s.spec count (length s.versions) after (first_after format s rest) start (start_from_stream format bytes s rest h same) in
+    subst (λ (o : Option Spec). kind_format o ≤ format) (sym starts.specs) h.kind_fits
+
+-- The first version of a stream that is not retired, after its start.
+pub record IsFirstAfter (format count : ℕ) (after : List ℕ) (s : RollStreamValue) (rest : List ℕ) : Type 0 where
+  pub fits : FirstFits (has_firsts format) count s.first
+  pub follow : after ≡ first_bytes (has_firsts format) s.first ++ (flat_map version_bytes s.versions ++ rest)
+
+pub first_from_stream : (format : ℕ) (bytes : List ℕ) (id entry : ℕ) (spec : Option Spec) (count : ℕ) (after : List ℕ) (s : RollStreamValue) (rest : List ℕ) → IsStreamStart bytes id entry spec count after → StreamFits format s → bytes ≡ stream_bytes format s ++ rest → IsFirstAfter format count after s rest
+first_from_stream format bytes id entry spec count after s rest start h same =
+    let starts = start_once bytes id s.id entry s.entry spec s.spec count (length s.versions) after (first_after format s rest) start (start_from_stream format bytes s rest h same) in
+    record {
+      fits = subst (λ (n : ℕ). FirstFits (has_firsts format) n s.first) (sym starts.counts) h.first_fits;
+      follow = starts.rests;
+    }
+
+-- The versions of a stream after its start and the first version that is not retired.
+pub versions_from_stream : (format : ℕ) (bytes : List ℕ) (id entry : ℕ) (spec : Option Spec) (count : ℕ) (after : List ℕ) (first : ℕ) (last : List ℕ) (s : RollStreamValue) (rest : List ℕ) → IsStreamStart bytes id entry spec count after → FirstFits (has_firsts format) count first → after ≡ first_bytes (has_firsts format) first ++ last → StreamFits format s → bytes ≡ stream_bytes format s ++ rest → AreItems version_bytes (VersionFits (is_some spec)) count last s.versions rest
+versions_from_stream format bytes id entry spec count after first last s rest start fits is h same =
+    let starts = start_once bytes id s.id entry s.entry spec s.spec count (length s.versions) after (first_after format s rest) start (start_from_stream format bytes s rest h same) in
+    let once = first_once (has_firsts format) count (length s.versions) first s.first last (versions_after s rest) start.few h.few_versions fits h.first_fits (sym is ∙ starts.rests) in
     record {
       each = subst (λ o. AllByRecursion (VersionFits (is_some o)) s.versions) (sym starts.specs) h.versions_fit;
       long = sym starts.counts;
-      parts = starts.rests;
+      parts = once.1;
     }
 
-pub stream_once : IsOnce stream_bytes StreamFits
-stream_once s t x y h k same =
-    let starts = start_once (stream_bytes s ++ x) s.id t.id s.entry t.entry s.spec t.spec (length s.versions) (length t.versions) (versions_after s x) (versions_after t y) (start_from_stream (stream_bytes s ++ x) s x h refl) (start_from_stream (stream_bytes s ++ x) t y k same) in
+pub stream_once : (format : ℕ) → IsOnce (stream_bytes format) (StreamFits format)
+stream_once format s t x y h k same =
+    let all = stream_bytes format s ++ x in
+    let starts = start_once all s.id t.id s.entry t.entry s.spec t.spec (length s.versions) (length t.versions) (first_after format s x) (first_after format t y) (start_from_stream format all s x h refl) (start_from_stream format all t y k same) in
+    let firsts = first_once (has_firsts format) (length s.versions) (length t.versions) s.first t.first (versions_after s x) (versions_after t y) h.few_versions k.few_versions h.first_fits k.first_fits starts.rests in
     let other = subst (λ o. AllByRecursion (VersionFits (is_some o)) t.versions) (sym starts.specs) k.versions_fit in
-    let versions = all_items_once version_bytes (VersionFits (is_some s.spec)) (version_once (is_some s.spec)) s.versions t.versions x y h.versions_fit other starts.counts starts.rests in
-    (λ i. record { id = starts.ids i; entry = starts.entries i; spec = starts.specs i; versions = versions.0 i }, versions.1)
+    let versions = all_items_once version_bytes (VersionFits (is_some s.spec)) (version_once (is_some s.spec)) s.versions t.versions x y h.versions_fit other starts.counts firsts.1 in
+    (λ i. record { id = starts.ids i; entry = starts.entries i; spec = starts.specs i; first = firsts.0 i; versions = versions.0 i }, versions.1)
 
 kind_long : (o : Option Spec) → 1 ≤ length (kind_bytes o)
 kind_long None = omega arith
 kind_long (Some s) = omega arith
 
-pub stream_long : (s : RollStreamValue) → 33 ≤ length (stream_bytes s)
-stream_long s =
-    omega (arith, length-append (number w128 s.id) (number w64 s.entry ++ (kind_bytes s.spec ++ listed version_bytes s.versions)), length-append (number w64 s.entry) (kind_bytes s.spec ++ listed version_bytes s.versions), length-append (kind_bytes s.spec) (listed version_bytes s.versions), length-append (number w64 (length s.versions)) (flat_map version_bytes s.versions), wide128.len s.id, wide64.len s.entry, kind_long s.spec, wide64.len (length s.versions))
+pub stream_long : (format : ℕ) (s : RollStreamValue) → 33 ≤ length (stream_bytes format s)
+stream_long format s =
+    omega (arith, length-append (number w128 s.id) (number w64 s.entry ++ (kind_bytes s.spec ++ versions_bytes format s)), length-append (number w64 s.entry) (kind_bytes s.spec ++ versions_bytes format s), length-append (kind_bytes s.spec) (versions_bytes format s), length-append (number w64 (length s.versions)) (first_bytes (has_firsts format) s.first ++ flat_map version_bytes s.versions), wide128.len s.id, wide64.len s.entry, kind_long s.spec, wide64.len (length s.versions))
 
 -- ---- rolls
 
 -- The number that was read is the number of streams, and the streams follow.
-pub streams_read : (bytes after : List ℕ) (n : ℕ) (streams : List RollStreamValue) → n < 2 ^ 32 → bytes ≡ number w32 n ++ after → RollFits streams → bytes ≡ roll_bytes streams → AreItems stream_bytes StreamFits n after streams []
-streams_read bytes after n streams fits is h same =
-    let once = number_once w32 (2 ^ 32) wide32 n (length streams) after (flat_map stream_bytes streams) fits (omega (arith, h.few_streams)) (sym is ∙ same) in
-    record { each = h.each_fits; long = sym once.0; parts = once.1 ∙ sym (append-nil (flat_map stream_bytes streams)) }
+pub streams_read : (format : ℕ) (bytes after : List ℕ) (n : ℕ) (streams : List RollStreamValue) → n < 2 ^ 32 → bytes ≡ number w32 n ++ after → RollFits format streams → bytes ≡ roll_bytes format streams → AreItems (stream_bytes format) (StreamFits format) n after streams []
+streams_read format bytes after n streams fits is h same =
+    let all = flat_map (stream_bytes format) streams in
+    let once = number_once w32 (2 ^ 32) wide32 n (length streams) after all fits (omega (arith, h.few_streams)) (sym is ∙ same) in
+    record { each = h.each_fits; long = sym once.0; parts = once.1 ∙ sym (append-nil all) }
 
 -- The bytes determine the items and what follows them.
 pub are_items_once : {X : Type 0} (item : X → List ℕ) (Fits : X → Type 0) → IsOnce item Fits → (count : ℕ) (bytes : List ℕ) (xs ys : List X) (r s : List ℕ) → AreItems item Fits count bytes xs r → AreItems item Fits count bytes ys s → (xs ≡ ys) × (r ≡ s)
@@ -222,8 +275,10 @@ are_items_once item Fits once count bytes xs ys r s h k =
     all_items_once item Fits once xs ys r s h.each k.each (h.long ∙ sym k.long) (sym h.parts ∙ k.parts)
 
 -- The bytes determine the streams of a roll.
-pub roll_once : (a b : List RollStreamValue) → RollFits a → RollFits b → roll_bytes a ≡ roll_bytes b → a ≡ b
-roll_once a b h k same =
-    let first = streams_read (roll_bytes a) (flat_map stream_bytes a) (length a) a (omega (arith, h.few_streams)) refl h refl in
-    let second = streams_read (roll_bytes a) (flat_map stream_bytes a) (length a) b (omega (arith, h.few_streams)) refl k same in
-    (are_items_once stream_bytes StreamFits stream_once (length a) (flat_map stream_bytes a) a b [] [] first second).0
+pub roll_once : (format : ℕ) (a b : List RollStreamValue) → RollFits format a → RollFits format b → roll_bytes format a ≡ roll_bytes format b → a ≡ b
+roll_once format a b h k same =
+    let bytes = roll_bytes format a in
+    let after = flat_map (stream_bytes format) a in
+    let first = streams_read format bytes after (length a) a (omega (arith, h.few_streams)) refl h refl in
+    let second = streams_read format bytes after (length a) b (omega (arith, h.few_streams)) refl k same in
+    (are_items_once (stream_bytes format) (StreamFits format) (stream_once format) (length a) after a b [] [] first second).0

@@ -1,5 +1,5 @@
 -- Rolls, which are the content of checkpoints: the bytes of streams with their versions, and which streams a checkpoint can have.
-use Rattle.std.specs.Prelude.{◌≡◌, ◌≢◌, ℕ, ◌<◌, ◌≤◌, ◌^◌, Bool, true, false, List, [], ◌∷◌, ◌++◌, length, map, slice_get}
+use Rattle.std.specs.Prelude.{◌≡◌, ◌≢◌, ℕ, ◌<◌, ◌≤◌, ◌^◌, nat_le, Bool, true, false, List, [], ◌∷◌, ◌++◌, length, map, slice_get}
 use Rattle.std.specs.Prelude.{Option, Some, None, IfSome, IsTrue, is_some}
 use Rattle.std.specs.Int.{w32, w64, w128}
 use Rattle.std.specs.List.{flat_map, filter_map, AllByRecursion, AllPairs}
@@ -9,14 +9,26 @@ use Rattle.btr_hist.specs.declared.kernel.Reads.{Reads}
 use Rattle.btr_hist.specs.Kernel.{is_good}
 use Rattle.btr_hist.specs.History.{nothing_read}
 use Rattle.btr_roll.specs.declared.roll.RollVersion.{RollVersion}
-use Rattle.btr_entry.specs.Grammar.{number, listed, spec_bytes, reads_bytes, IsSpec, AreVersions}
+use Rattle.btr_entry.specs.Grammar.{number, spec_bytes, reads_bytes, IsSpec, AreVersions}
+use Rattle.btr_entry.specs.Format.{spec_format}
 
--- A stream: its id, the number of the entry that made it, the spec of an output, and its versions from version 1 on.
+-- A stream: its id, the number of the entry that made it, the spec of an output, the first version that is not retired, and its
+-- versions from version 1 on.
 pub record RollStreamValue : Type 0 where
   pub id : ℕ
   pub entry : ℕ
   pub spec : Option Spec
+  pub first : ℕ
   pub versions : List RollVersion
+
+-- A checkpoint of this format has the first versions that are not retired.
+abbrev pub has_firsts : ℕ → Bool
+has_firsts format = nat_le 2 format
+
+-- The format of a stream: that of the spec of an output, and 1 for a plain stream.
+abbrev pub kind_format : Option Spec → ℕ
+kind_format None = 1
+kind_format (Some s) = spec_format s
 
 -- ---- the bytes
 
@@ -34,13 +46,22 @@ abbrev pub kind_bytes : Option Spec → List ℕ
 kind_bytes None = 0 ∷ []
 kind_bytes (Some s) = 1 ∷ spec_bytes s
 
--- A stream: its id, the number of its entry, its kind, the number of its versions in eight bytes, and each version.
-abbrev pub stream_bytes : RollStreamValue → List ℕ
-stream_bytes s = number w128 s.id ++ (number w64 s.entry ++ (kind_bytes s.spec ++ listed version_bytes s.versions))
+-- The first version that is not retired in eight bytes, if the checkpoint has it.
+abbrev pub first_bytes : Bool → ℕ → List ℕ
+first_bytes false first = []
+first_bytes true first = number w64 first
+
+-- The number of the versions of a stream in eight bytes, the first one that is not retired, if the format has it, and each version.
+abbrev pub versions_bytes : ℕ → RollStreamValue → List ℕ
+versions_bytes format s = number w64 (length s.versions) ++ (first_bytes (has_firsts format) s.first ++ flat_map version_bytes s.versions)
+
+-- A stream: its id, the number of its entry, its kind, and its versions.
+abbrev pub stream_bytes : ℕ → RollStreamValue → List ℕ
+stream_bytes format s = number w128 s.id ++ (number w64 s.entry ++ (kind_bytes s.spec ++ versions_bytes format s))
 
 -- The number of streams in four bytes, and each stream.
-abbrev pub roll_bytes : List RollStreamValue → List ℕ
-roll_bytes streams = number w32 (length streams) ++ flat_map stream_bytes streams
+abbrev pub roll_bytes : ℕ → List RollStreamValue → List ℕ
+roll_bytes format streams = number w32 (length streams) ++ flat_map (stream_bytes format) streams
 
 -- ---- what fits in the bytes
 
@@ -56,18 +77,26 @@ pub record VersionFits (output : Bool) (v : RollVersion) : Type 0 where
   pub root_fits : v.root < 2 ^ 64
   pub reads_fit : ReadsFit output v.reads
 
--- A stream that has a spelling, with no more versions than are allowed.
-pub record StreamFits (s : RollStreamValue) : Type 0 where
+-- A first version that is not retired which a stream with this latest version can have: one that it has, and 0 if the checkpoint
+-- has none.
+pub record FirstFits (has : Bool) (latest first : ℕ) : Type 0 where
+  pub there : first ≤ latest
+  pub none : has ≡ false → first ≡ 0
+
+-- A stream that has a spelling in a checkpoint of this format, which is at least the stream's, with no more versions than are allowed.
+pub record StreamFits (format : ℕ) (s : RollStreamValue) : Type 0 where
   pub id_fits : s.id < 2 ^ 128
   pub entry_fits : s.entry < 2 ^ 64
   pub spec_fits : IfSome s.spec IsSpec
+  pub kind_fits : kind_format s.spec ≤ format
   pub few_versions : length s.versions ≤ MAX_VERSIONS
+  pub first_fits : FirstFits (has_firsts format) (length s.versions) s.first
   pub versions_fit : AllByRecursion (VersionFits (is_some s.spec)) s.versions
 
 -- Streams that have a spelling, not more than are allowed.
-pub record RollFits (streams : List RollStreamValue) : Type 0 where
+pub record RollFits (format : ℕ) (streams : List RollStreamValue) : Type 0 where
   pub few_streams : length streams ≤ MAX_STREAMS
-  pub each_fits : AllByRecursion StreamFits streams
+  pub each_fits : AllByRecursion (StreamFits format) streams
 
 -- ---- the table
 
@@ -117,15 +146,15 @@ pub record KeepsTable (streams : List RollStreamValue) : Type 0 where
 
 -- ---- the grammar
 
--- Streams that a checkpoint can have.
-pub record IsRoll (streams : List RollStreamValue) : Type 0 where
-  pub fits : RollFits streams
+-- Streams that a checkpoint of this format can have.
+pub record IsRoll (format : ℕ) (streams : List RollStreamValue) : Type 0 where
+  pub fits : RollFits format streams
   pub table : KeepsTable streams
 
--- The bytes are those of these streams, and nothing follows.
-pub record IsRollBytes (bytes : List ℕ) (streams : List RollStreamValue) : Type 0 where
-  pub is_roll : IsRoll streams
-  pub bytes_are : bytes ≡ roll_bytes streams
+-- The bytes are those of these streams in a checkpoint of this format, and nothing follows.
+pub record IsRollBytes (format : ℕ) (bytes : List ℕ) (streams : List RollStreamValue) : Type 0 where
+  pub is_roll : IsRoll format streams
+  pub bytes_are : bytes ≡ roll_bytes format streams
 
 -- Streams that can be encoded: their number fits in four bytes, and each spec is good.
 pub record IsRollWithinBounds (streams : List RollStreamValue) : Type 0 where

@@ -2,33 +2,50 @@
 ghost use Rattle.std.specs.Prelude.{◌≡◌, ◌+◌, ◌*◌, ◌<◌, ◌≤◌, ◌^◌, ℕ, length, slice_get, Some};
 ghost use Rattle.std.specs.List.{flat_map};
 ghost use Rattle.btr_base.specs.declared.limits.TheConstants.{MAX_STREAMS, MAX_VERSIONS};
-ghost use Rattle.btr_roll.specs.Roll.{RollStreamValue, stream_bytes, version_bytes, kind_bytes};
+ghost use Rattle.btr_roll.specs.Roll.{RollStreamValue, has_firsts, first_bytes, stream_bytes, version_bytes, kind_bytes};
 
 use crate::roll::{RollStream, RollVersion};
 use btr_entry::{reads_length, spec_length};
 use btr_hist::Spec;
 
-/// Returns the number of bytes of streams, in time linear in the streams and versions. It takes no memory.
-pub fn streams_length(streams: &[RollStream]) -> u64
+/// Returns whether a checkpoint of this format has the first versions that are not retired. It takes constant time and no memory.
+pub fn has_firsts(format: u32) -> bool
+    ensures { result ≡ has_firsts format }
+{
+    format >= 2
+}
+
+/// Returns the number of bytes of streams in a checkpoint of this format, in time linear in the streams and versions. It takes no
+/// memory.
+pub fn streams_length(format: u32, streams: &[RollStream]) -> u64
     requires few { length streams.now ≤ MAX_STREAMS }
     requires each { (n : ℕ) (s : RollStreamValue) → slice_get streams.now n ≡ Some s → length s.versions ≤ MAX_VERSIONS }
-    ensures length { result ≡ length (flat_map stream_bytes streams.now) }
-    ensures small { result ≤ (76 + 33 * MAX_VERSIONS) * length streams.now }
+    ensures length { result ≡ length (flat_map (stream_bytes format) streams.now) }
+    ensures small { result ≤ (84 + 33 * MAX_VERSIONS) * length streams.now }
 {
     let mut bytes = 0;
     for stream in streams {
-        bytes += stream_length(stream);
+        bytes += stream_length(format, stream);
     }
     bytes
 }
 
 /// Returns the number of bytes of a stream.
-fn stream_length(stream: &RollStream) -> u64
+fn stream_length(format: u32, stream: &RollStream) -> u64
     requires few { length stream.now.versions ≤ MAX_VERSIONS }
-    ensures length { result ≡ length (stream_bytes stream.now) }
-    ensures small { result ≤ 76 + 33 * MAX_VERSIONS }
+    ensures length { result ≡ length (stream_bytes format stream.now) }
+    ensures small { result ≤ 84 + 33 * MAX_VERSIONS }
 {
-    32 + kind_length(&stream.spec) + versions_length(&stream.versions)
+    32 + kind_length(&stream.spec) + first_length(format) + versions_length(&stream.versions)
+}
+
+/// Returns the number of bytes of the first version that is not retired, in a checkpoint of this format. It takes constant time and no
+/// memory.
+pub fn first_length(format: u32) -> u64
+    ensures length { (first : ℕ) → result ≡ length (first_bytes (has_firsts format) first) }
+    ensures small { result ≤ 8 }
+{
+    if has_firsts(format) { 8 } else { 0 }
 }
 
 /// Returns the number of bytes of versions, in time linear in the versions. It takes no memory.

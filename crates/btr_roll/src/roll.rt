@@ -35,6 +35,9 @@ pub struct RollStream {
     /// The spec, if the stream is an output.
     pub spec: Option<Spec>,
 
+    /// The first version that is not retired, or 0 if none is retired.
+    pub first: u64,
+
     /// The versions, from version 1 on.
     pub versions: Vec<RollVersion>,
 }
@@ -44,7 +47,7 @@ impl Model for RollStream {
 
     ghost Value = { RollStreamValue };
 
-    ghost view = { λ s. record { id = s.id; entry = s.entry; spec = s.spec; versions = s.versions.items } };
+    ghost view = { λ s. record { id = s.id; entry = s.entry; spec = s.spec; first = s.first; versions = s.versions.items } };
 }
 
 /// All streams of a store with their versions, in order of creation: what a checkpoint has.
@@ -62,30 +65,30 @@ impl Model for Roll {
     ghost view = { λ r. r.streams.items };
 }
 
-/// Encodes a roll. It takes time linear in the bytes. It does not test the table: an `Ok` says nothing of whether
-/// [`decode_roll`] accepts the bytes. An `Err` means out of memory.
-pub fn encode_roll(alloc: Global, roll: &Roll) -> Result<Vec<u8>, AllocError>
+/// Encodes a roll for a checkpoint of this format. It takes time linear in the bytes. It does not test the table: an `Ok` says nothing of
+/// whether [`decode_roll`] accepts the bytes. An `Err` means out of memory.
+pub fn encode_roll(alloc: Global, format: u32, roll: &Roll) -> Result<Vec<u8>, AllocError>
     requires { IsRollWithinBounds roll.now }
-    ensures bytes { IfOk result (λ v. v.items ≡ roll_bytes roll.now) }
-    ensures spelled { IsRoll roll.now → IfOk result (λ v. IsRollBytes v.items roll.now) }
+    ensures bytes { IfOk result (λ v. v.items ≡ roll_bytes format roll.now) }
+    ensures spelled { IsRoll format roll.now → IfOk result (λ v. IsRollBytes format v.items roll.now) }
 {
     let mut out = Vec::new(alloc);
-    put_roll(&mut out, &roll.streams)?;
+    put_roll(&mut out, format, &roll.streams)?;
     Ok(out)
 }
 
-/// Decodes all of the bytes into the roll that they spell. Returns `None` if they spell none that a checkpoint can have. An
-/// `Err` means out of memory.
+/// Decodes all of the bytes into the roll that they spell in a checkpoint of this format. Returns `None` if they spell none that a
+/// checkpoint can have. An `Err` means out of memory.
 ///
 /// It takes time linear in the bytes, and n log n in the number of streams, and memory linear in the bytes. Each count is
 /// compared with the bytes that are left before memory is taken for it.
-pub fn decode_roll(alloc: Global, bytes: &[u8]) -> Result<Option<Roll>, AllocError>
+pub fn decode_roll(alloc: Global, format: u32, bytes: &[u8]) -> Result<Option<Roll>, AllocError>
     // The bytes are those of the roll that is returned.
-    ensures found { IfOk result (λ o. IfSome o (λ roll. IsRollBytes bytes.now roll)) }
+    ensures found { IfOk result (λ o. IfSome o (λ roll. IsRollBytes format bytes.now roll)) }
     // If none is returned, the bytes are those of no roll.
-    ensures none { IfOk result (λ o. IfNone o ((roll : List RollStreamValue) → IsRollBytes bytes.now roll → ⊥)) }
+    ensures none { IfOk result (λ o. IfNone o ((roll : List RollStreamValue) → IsRollBytes format bytes.now roll → ⊥)) }
 {
-    let Some(streams) = read_roll(alloc, bytes)? else {
+    let Some(streams) = read_roll(alloc, format, bytes)? else {
         return Ok(None);
     };
     if !keeps_table(alloc, &streams)? {
@@ -95,10 +98,15 @@ pub fn decode_roll(alloc: Global, bytes: &[u8]) -> Result<Option<Roll>, AllocErr
 }
 
 /// Reads all of the bytes as streams, and does not test the table. Returns `None` if no streams that fit have these bytes.
-fn read_roll(alloc: Global, bytes: &[u8]) -> Result<Option<Vec<RollStream>>, AllocError>
-    ensures fits { IfOk result (λ o. IfSome o (λ v. RollFits v.items)) }
-    ensures found { IfOk result (λ o. IfSome o (λ v. bytes.now ≡ roll_bytes v.items)) }
-    ensures none { IfOk result (λ o. IfNone o ((streams : List RollStreamValue) → RollFits streams → bytes.now ≡ roll_bytes streams → ⊥)) }
+fn read_roll(
+    alloc: Global,
+    format: u32,
+    bytes: &[u8],
+) -> Result<Option<Vec<RollStream>>, AllocError>
+    ensures fits { IfOk result (λ o. IfSome o (λ v. RollFits format v.items)) }
+    ensures found { IfOk result (λ o. IfSome o (λ v. bytes.now ≡ roll_bytes format v.items)) }
+    ensures none { IfOk result (λ o. IfNone o ((streams : List RollStreamValue)
+        → RollFits format streams → bytes.now ≡ roll_bytes format streams → ⊥)) }
 {
     let Some((count, rest)) = read_u32(bytes) else {
         return Ok(None);
@@ -106,7 +114,7 @@ fn read_roll(alloc: Global, bytes: &[u8]) -> Result<Option<Vec<RollStream>>, All
     if count as usize > MAX_STREAMS {
         return Ok(None);
     }
-    let Some((streams, rest)) = read_streams(alloc, rest, count as usize)? else {
+    let Some((streams, rest)) = read_streams(alloc, format, rest, count as usize)? else {
         return Ok(None);
     };
     if !rest.is_empty() {

@@ -86,22 +86,24 @@ OutcomeRan Output = Unit {0}
 OutcomeRan (NotCreated fault) = Ran (Err fault)
 OutcomeRan (Committed stream results latest) = AllByRecursion Ran results
 
-rejection_benign : (why : Rejection) → IsBenign (status_of_reason (reason_of_rejection why))
-rejection_benign rejections.NoStream = inr (inl refl)
-rejection_benign rejections.StreamExists = inr (inl refl)
-rejection_benign rejections.NotWritable = inr (inl refl)
-rejection_benign (rejections.OutOfDomain time) = inr (inl refl)
-rejection_benign rejections.Empty = inr (inl refl)
-rejection_benign (rejections.TooMany count) = inr (inl refl)
-rejection_benign rejections.StreamLimit = inr (inl refl)
-rejection_benign rejections.VersionLimit = inr (inl refl)
-rejection_benign rejections.BadSpec = inr (inl refl)
-rejection_benign (rejections.Crowded start) = inr (inl refl)
-rejection_benign (rejections.TooManyPoints count) = inr (inl refl)
+rejection_benign : (id : ℕ) (why : Rejection) → IsBenign (status_of_reason (reason_of_rejection id why))
+rejection_benign id rejections.NoStream = inr (inl refl)
+rejection_benign id rejections.StreamExists = inr (inl refl)
+rejection_benign id rejections.NotWritable = inr (inl refl)
+rejection_benign id (rejections.OutOfDomain time) = inr (inl refl)
+rejection_benign id rejections.Empty = inr (inl refl)
+rejection_benign id (rejections.TooMany count) = inr (inl refl)
+rejection_benign id rejections.StreamLimit = inr (inl refl)
+rejection_benign id rejections.VersionLimit = inr (inl refl)
+rejection_benign id rejections.BadSpec = inr (inl refl)
+rejection_benign id (rejections.BadFirst first present last) = inr (inl refl)
+rejection_benign id (rejections.Held output version) = inr (inl refl)
+rejection_benign id (rejections.Crowded start) = inr (inl refl)
+rejection_benign id (rejections.TooManyPoints count) = inr (inl refl)
 
-pub step_benign : (fault : StepFault) → HadRoom (Err fault) → Ran (Err fault) → IsBenign (status_of_reason (reason_of_step fault))
+pub step_benign : (fault : StepFault) → HadRoom (Err fault) → Ran (Err fault) → IsBenign (status_of_reason (reason_of_step 0 fault))
 step_benign (steps.Stopped entries) room ran = inr (inl refl)
-step_benign (steps.Rejected why) room ran = rejection_benign why
+step_benign (steps.Rejected why) room ran = rejection_benign 0 why
 step_benign steps.Want room ran = inr (inr refl)
 step_benign (steps.DeviceFull need left) room ran = absurd room
 step_benign steps.DeviceFault room ran = absurd ran

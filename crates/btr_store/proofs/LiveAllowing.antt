@@ -43,6 +43,7 @@ module _ (start : StoreState) (log : LogState) where
   offers_allowed reported a (entries.Commit stream cut added) reply own next is = committed_allowed a (entries.Commit stream cut added) is.0 own next (λ p. tt) is.1
   offers_allowed reported a (entries.Distillate stream cut added reads) reply own next is =
       allows_landed start log a is.0 is.3 own next is.1.of is.4
+  offers_allowed reported a (entries.Retire stream first) reply own next is = committed_allowed a (entries.Retire stream first) is.0 own next (λ p. tt) is.1
 
   idle_allowed : (a : List Entry) (own : List ℕ) (next : List Entry) → IsIdle a own next → AddsAllowed log own
   idle_allowed a own next is = allows_nothing log own is.own

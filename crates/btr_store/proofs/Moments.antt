@@ -12,10 +12,11 @@ use Rattle.btr_engine.specs.declared.engine.Engine.{Engine}
 use Rattle.btr_streams.specs.declared.board.Receipt.{Receipt}
 use Rattle.btr_engine.specs.declared.step.StepFault.{StepFault}
 use Rattle.btr_engine.specs.declared.step.StepFault.TheVariants.{DeviceFault}
-use Rattle.btr_engine.specs.Engine.{device, IsAtRest}
+use Rattle.btr_engine.specs.Engine.{device, super_of, IsAtRest}
 use Rattle.btr_engine.specs.Holds.{HoldsHistory}
 use Rattle.btr_engine.specs.Step.{IsBeforeOrAfter, CanStep, IsStep, IsStepped, StopsByFault}
 use Rattle.btr_engine.proofs.EngineLemmas.{holds_in}
+use Rattle.btr_engine.proofs.RaiseLemmas.{counted_entry, most_entry}
 use Rattle.btr_hall.specs.declared.item.Item.{Item}
 use Rattle.btr_hall.specs.declared.item.Item.TheVariants.{Earlier, Added, Halted}
 use Rattle.btr_hall.specs.Trace.{IsTrace, engine_after, entries_in}
@@ -74,7 +75,7 @@ module _ {D : Type 0} {disk : Ghosts D} (reported : disk.is_observable) (only_no
   -- nothing follows a step in which the device failed
   nothing_after : (h : List Entry) (x y : Engine D disk) (e : Entry) (l : List (Item D disk)) → Rests h x → IsStep x y e (Err DeviceFault) → IsTrace y l → l ≡ []
   nothing_after h x y e l at step trace =
-      let fault : CanStep h x e × StopsByFault x y = step.cause h at.rest.of in
+      let fault : CanStep h x e × StopsByFault x y e = step.cause h at.rest.of in
       ends_stopped y l fault.1.stopped trace
 
   -- the steps of a list leave prefixes
@@ -180,7 +181,7 @@ module _ {D : Type 0} (disk : Ghosts D) (reported : disk.is_observable) (only_no
       let next : log ≡ log_at (h ++ e ∷ []) l = is ∙ sym (ap (λ (k : List Entry). record { history = k; failed = failed_in l }) (append_assoc h (e ∷ []) (entries_in l))) in (
         keeps_here h x (Added entry engine ∷ l) rest same trace ends is,
         device y,
-        stepped.called,
+        counted_entry (super_of x) e (disk.calls (device x)) (disk.calls (device y)) x.followable.format_from stepped.called,
         moments_here h x y e (Ok trace.0.0) rest same step,
         keeps_each (h ++ e ∷ []) y l (step.at_rest reported h rest) sized trace.1 ends next,
       )
@@ -188,10 +189,10 @@ module _ {D : Type 0} (disk : Ghosts D) (reported : disk.is_observable) (only_no
       let y : Engine D disk = engine.value in
       let e : Entry = entry.value in
       let step : IsStep x y e (Err DeviceFault) = trace.0 in
-      let fault : CanStep h x e × StopsByFault x y = step.cause h rest.of in
+      let fault : CanStep h x e × StopsByFault x y e = step.cause h rest.of in
       let none : l ≡ [] = ends_stopped y l fault.1.stopped trace.1 in
       let last : new ≡ device y = ends ∙ ap (λ (m : List (Item D disk)). device (engine_after y m)) none in
-      let end : EndsAt disk (Some e) (device y) (device x) h = (fault.1.called, fault.1.at_most, moments_last h x y e rest step) in
+      let end : EndsAt disk (Some e) (device y) (device x) h = (fault.1.called, most_entry (super_of x) e (disk.calls (device x)) (disk.calls (device y)) x.followable.format_from fault.1.at_most, moments_last h x y e rest step) in
       subst (λ (m : List (Item D disk)). KeepsEach disk log new (device x) h (entries_in m)) (sym none) (
         keeps_here h x (Halted entry engine ∷ l) rest same trace ends is,
         ends_here (Some e) (device x) h (ap (λ (k : LogState). k.failed) is) (subst (λ (d : D). EndsAt disk (Some e) d (device x) h) (sym last) end),

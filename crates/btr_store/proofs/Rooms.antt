@@ -31,7 +31,7 @@ module _ {D : Type 0} {disk : Ghosts D} where
       fits_before (blocks_of x) (tail_of x) (need_of h entry.value) rest stepped.could.fits
       (subst (λ (n : ℕ). rest ≤ n) room next)
   steps_fit h x (Halted entry engine ∷ l) of trace =
-      let fault : CanStep h x entry.value × StopsByFault x engine.value = trace.0.cause h of in
+      let fault : CanStep h x entry.value × StopsByFault x engine.value entry.value = trace.0.cause h of in
       let none : l ≡ [] = ends_stopped engine.value l fault.1.stopped trace.1 in
       subst (λ (m : List (Item D disk)). needs_after h (entries_in m ++ entry.value ∷ []) ≤ room_of x) (sym none)
       (let could : need_of h entry.value ≤ room_of x = fault.0.fits in omega (arith, could))

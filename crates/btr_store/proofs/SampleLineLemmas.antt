@@ -12,10 +12,12 @@ use Rattle.btr_hist.specs.declared.query.At.TheVariants.{Latest}
 use Rattle.btr_hist.specs.declared.query.Query.TheVariants as ask
 use Rattle.btr_hist.specs.declared.answer.Answer.{Answer}
 use Rattle.btr_hist.specs.declared.answer.Answer.TheVariants.{Found, Refused}
-use Rattle.btr_hist.specs.declared.answer.Refusal.TheVariants.{NoStream, NoVersion}
+use Rattle.btr_hist.specs.declared.answer.Refusal.TheVariants.{NoStream, NoVersion, Retired}
 use Rattle.btr_hist.specs.declared.answer.Rows.TheVariants.{Info}
-use Rattle.btr_hist.specs.History.{ids, is_output, latest, bag, read_by}
+use Rattle.btr_hist.specs.History.{ids, is_output, latest, bag, read_by, earliest}
+use Rattle.btr_hist.specs.Legal.{Follows}
 use Rattle.btr_hist.specs.Answer.{answer}
+use Rattle.btr_hist.proofs.RetireLemmas.{follows-past}
 use Rattle.btr_text.specs.declared.reply.Reason.{Reason}
 use Rattle.btr_work.specs.declared.report.RefreshLine.{RefreshLine}
 use Rattle.btr_store.specs.declared.report_line.ReportLine.{ReportLine}
@@ -77,19 +79,23 @@ summaries_more line old mid new before is one =
 
 -- ---- the line of a stream
 
-info_found : (h : List Entry) (stream : ℕ) → stream < length (ids h) → answer h (ask.Info stream Latest) ≡ Found (latest h stream) (Info (is_output h stream) (agg_within FIRST END (bag h stream (latest h stream))) (read_by h stream (latest h stream)))
-info_found h stream known =
+info_found : (h : List Entry) (stream : ℕ) → Follows h → stream < length (ids h) → answer h (ask.Info stream Latest) ≡ Found (latest h stream) (Info (is_output h stream) (agg_within FIRST END (bag h stream (latest h stream))) (read_by h stream (latest h stream)))
+info_found h stream follows known =
     let v : ℕ = latest h stream in
     let found : Answer = Found v (Info (is_output h stream) (agg_within FIRST END (bag h stream v)) (read_by h stream v)) in
     let there : nat_le (length (ids h)) stream ≡ false = lt-leb (length (ids h)) stream known in
     let has : nat_lt v v ≡ false = le-ltb v v (omega arith) in
-    ap (λ (b : Bool). if b then Refused NoStream else if nat_lt v v then Refused (NoVersion v v) else found) there
-    ∙ ap (λ (b : Bool). if b then Refused (NoVersion v v) else found) has
+    let least : ℕ = earliest h stream in
+    let kept : nat_lt v least ≡ false = le-ltb v least (follows-past h stream follows) in
+    let rest : Bool → Answer = λ b. if b then Refused (Retired v least) else found in
+    ap (λ (b : Bool). if b then Refused NoStream else if nat_lt v v then Refused (NoVersion v v) else rest (nat_lt v least)) there
+    ∙ ap (λ (b : Bool). if b then Refused (NoVersion v v) else rest (nat_lt v least)) has
+    ∙ ap rest kept
 
 -- The answer to a question about the latest version of a stream gives its line.
-pub summary_is : (h : List Entry) (id stream version : ℕ) (output : Bool) (agg : AggValue) (reads : Option Reads) → stream < length (ids h) → Found version (Info output agg reads) ≡ answer h (ask.Info stream Latest) → lines.StreamSummary id version agg ≡ summary_line h id stream
-summary_is h id stream version output agg reads known is =
-    let same : Found version (Info output agg reads) ≡ Found (latest h stream) (Info (is_output h stream) (agg_within FIRST END (bag h stream (latest h stream))) (read_by h stream (latest h stream))) = is ∙ info_found h stream known in
+pub summary_is : (h : List Entry) (id stream version : ℕ) (output : Bool) (agg : AggValue) (reads : Option Reads) → Follows h → stream < length (ids h) → Found version (Info output agg reads) ≡ answer h (ask.Info stream Latest) → lines.StreamSummary id version agg ≡ summary_line h id stream
+summary_is h id stream version output agg reads follows known is =
+    let same : Found version (Info output agg reads) ≡ Found (latest h stream) (Info (is_output h stream) (agg_within FIRST END (bag h stream (latest h stream))) (read_by h stream (latest h stream))) = is ∙ info_found h stream follows known in
     let number : version ≡ latest h stream = cc in
     let all : agg ≡ agg_within FIRST END (bag h stream (latest h stream)) = cc in
     ap (λ (n : ℕ). lines.StreamSummary id n agg) number ∙ ap (lines.StreamSummary id (latest h stream)) all

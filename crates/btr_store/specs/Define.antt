@@ -25,10 +25,10 @@ output_id stream = 2 ^ 64 + stream + 1
 abbrev pub mean_of : ℕ → Spec
 mean_of input = record { kernel = Mean; lead = 1000; grain = 0; first = input; second = None }
 
--- Why an entry was refused, if it was.
+-- Why an entry was refused, if it was. The entry is no retirement: its rejection names no output.
 abbrev pub refusal_of : Result Receipt StepFault → Option Reason
 refusal_of (Ok receipt) = None
-refusal_of (Err fault) = Some (reason_of_step fault)
+refusal_of (Err fault) = Some (reason_of_step 0 fault)
 
 -- The output with this id was defined over an input right after the history p, or refused. Without an input it is refused for that.
 abbrev pub DefinesOver : StoreState → LogState → List Entry → ℕ → Option ℕ → Option Reason → List ℕ → List Entry → Type 0

@@ -58,9 +58,9 @@ last_row [] = 0
 last_row (point ∷ []) = point.number
 last_row (point ∷ next ∷ points) = last_row (next ∷ points)
 
--- The line of rows of a stream that were refused together.
+-- The line of rows of a stream that were refused together. Their entry is no retirement: its rejection names no output.
 abbrev pub span_line : ℕ → List NumberedPoint → StepFault → ReportLine
-span_line id points fault = lines.BatchRefused id (first_number points) (last_row points) (reason_of_step fault)
+span_line id points fault = lines.BatchRefused id (first_number points) (last_row points) (reason_of_step 0 fault)
 
 -- The line of a batch, if it was refused.
 abbrev pub batch_span : ℕ → List NumberedPoint → Result Receipt StepFault → List ReportLine

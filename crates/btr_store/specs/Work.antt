@@ -6,14 +6,15 @@ use Rattle.std.specs.Option.{is_some}
 use Rattle.btr_disk.specs.declared.disk.Disk.{Ghosts}
 use Rattle.btr_disk.specs.Bytes.{Image}
 use Rattle.btr_disk.specs.Images.{Only}
-use Rattle.btr_disk.specs.Causes.{Rose, CountedTimes}
+use Rattle.btr_disk.specs.Causes.{Rose}
 use Rattle.btr_disk.specs.Moments.{Leaves, IsUnwritten}
 use Rattle.btr_log.specs.Extents.{left}
 use Rattle.btr_hist.specs.declared.entry.Entry.{Entry}
 use Rattle.btr_hist.specs.Legal.{Legal, Follows, Allowed}
 use Rattle.btr_hist.specs.Laws.{Right}
 use Rattle.btr_engine.specs.Holds.{HoldsHistory, HoldsHistoryTo}
-use Rattle.btr_engine.specs.Step.{IsBeforeOrAfter, calls_of_step}
+use Rattle.btr_engine.specs.Raise.{CountsEntry, most_calls_of}
+use Rattle.btr_engine.specs.Step.{IsBeforeOrAfter}
 use Rattle.btr_open.specs.Damage.{IsUndamaged}
 use Rattle.btr_gate.specs.Numbers.{one, times, given}
 use Rattle.btr_gate.specs.Prefixes.{StartsWith}
@@ -83,19 +84,20 @@ module _ {D : Type 0} (disk : Ghosts D) where
     pub since : Leaves disk.calls disk.images_since d new (HoldsPrefix (disk.size new) (length h) log)
 
   -- What was done to the device after the last entry, with which the history was `h`: nothing; or, if the device failed in the step of
-  -- an entry, one call or more and at most those of a step, in which a crash leaves the history without that entry, or with it.
+  -- an entry, one call or more and at most those of a step with it, in which a crash leaves the history without that entry, or with it.
   abbrev pub EndsAt : Option Entry → D → D → List Entry → Type 0
   EndsAt None new d h = new ≡ d
   EndsAt (Some e) new d h =
-      Rose (disk.calls d) (disk.calls new) × (disk.calls new ≤ disk.calls d + calls_of_step)
+      Rose (disk.calls d) (disk.calls new) × (disk.calls new ≤ disk.calls d + most_calls_of e)
       × Leaves disk.calls disk.images_since d new (IsBeforeOrAfter (disk.size new) h e)
 
-  -- There is a device after each of these entries, which were added after the history `h` and the device `d`. The calls of a
-  -- step commit an entry. A crash in them leaves the history without the entry, or with it. From then on a crash keeps the entry.
+  -- There is a device after each of these entries, which were added after the history `h` and the device `d`. The calls of a step with it
+  -- commit an entry: four, or five or seven more if its format is above 1 and the superblock is raised for it. A crash in them leaves the
+  -- history without the entry, or with it. From then on a crash keeps the entry.
   abbrev pub KeepsEach : LogState → D → D → List Entry → List Entry → Type 0
   KeepsEach log new d h [] = KeepsHistory log new d h × EndsAt log.failed new d h
   KeepsEach log new d h (e ∷ more) =
-      KeepsHistory log new d h × (c : D) × CountedTimes calls_of_step (disk.calls d) (disk.calls c)
+      KeepsHistory log new d h × (c : D) × CountsEntry e (disk.calls d) (disk.calls c)
       × Leaves disk.calls disk.images_since d c (IsBeforeOrAfter (disk.size new) h e) × KeepsEach log new c (h ++ e ∷ []) more
 
   -- What a crash leaves of work from the device `old` to the device `new`, which began with `first` and went on to this state of the log.

@@ -97,12 +97,12 @@ fn mean_of(input: u32) -> Spec
     }
 }
 
-/// Returns why an entry was refused, if it was.
+/// Returns why an entry was refused, if it was. Its rejection names no output, since the entry is no retirement.
 fn refusal_of(done: Result<Receipt, StepFault>) -> Option<Reason>
     ensures { result ≡ refusal_of done }
 {
     match done {
         Ok(_) => None,
-        Err(fault) => Some(reason_of_step(fault)),
+        Err(fault) => Some(reason_of_step(fault, 0)),
     }
 }

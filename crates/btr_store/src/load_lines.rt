@@ -184,7 +184,7 @@ fn add_batch(
     }
 }
 
-/// Returns the line of rows that were refused together.
+/// Returns the line of rows that were refused together. The rejection names no output, since the entry is no retirement.
 fn span_line(id: u128, points: &[NumberedPoint], fault: StepFault) -> ReportLine
     ensures { result ≡ span_line id points.now fault }
 {
@@ -192,7 +192,7 @@ fn span_line(id: u128, points: &[NumberedPoint], fault: StepFault) -> ReportLine
         id,
         first: first_number(points),
         last: last_number(points),
-        reason: reason_of_step(fault),
+        reason: reason_of_step(fault, 0),
     }
 }
 

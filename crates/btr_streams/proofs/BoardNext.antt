@@ -15,20 +15,22 @@ use Rattle.btr_tree.specs.Root.{TreeValue, IsTree}
 use Rattle.btr_hist.specs.declared.entry.Entry.{Entry}
 use Rattle.btr_hist.specs.declared.kernel.Spec.{Spec}
 use Rattle.btr_hist.specs.declared.kernel.Reads.{Reads}
-use Rattle.btr_hist.specs.History.{ids, kinds, spec_of, commits, latest, recorded}
+use Rattle.btr_hist.specs.History.{ids, kinds, spec_of, commits, latest, recorded, earliest}
 use Rattle.btr_hist.specs.Legal.{rejection}
 use Rattle.btr_hist.proofs.HistoryLemmas.{length-kinds, length-recorded, follows-push, unknown}
+use Rattle.btr_hist.proofs.RetireLemmas.{earliest-silent}
 use Rattle.btr_streams.specs.Past.{with_commits, commits_to, stream_numbers}
-use Rattle.btr_streams.specs.Board.{Versions, Kept, HasPast, HasTrees, reads_count, read_at, HasReads, IsStreamOf, IsBoardOf, IsGrown, IsWellFormed, HasGoodSpec, place_of, ids_of}
-use Rattle.btr_streams.specs.Stage.{MakesStream, MakesVersion, IsNextTree, with_version, new_stream}
-use Rattle.btr_streams.proofs.BoardStreamLemmas.{place-low, places-push, ids-more, kinds-more, commits-still, recorded-still, ids-still, kinds-still, commits-more, recorded-more, commits-other, recorded-other, unknown-recorded, read-none}
+use Rattle.btr_streams.specs.Board.{Versions, Kept, HasPast, HasTrees, reads_count, read_at, HasReads, IsStreamOf, IsBoardOf, IsGrown, IsWellFormed, HasGoodSpec, place_of, ids_of, specs_of}
+use Rattle.btr_streams.specs.Readers.{AreReaders}
+use Rattle.btr_streams.specs.Stage.{MakesStream, MakesVersion, IsNextTree, with_version, with_earliest, new_stream}
+use Rattle.btr_streams.proofs.BoardStreamLemmas.{place-low, places-push, ids-more, kinds-more, commits-still, recorded-still, ids-still, kinds-still, commits-more, recorded-more, commits-other, recorded-other, unknown-recorded, unknown-earliest, read-none}
 use Rattle.btr_streams.proofs.NumberingLemmas.{numbers-still, numbers-new, numbers-more, numbers-other}
 use Rattle.btr_streams.proofs.BoardTrees.{made_by, with_commits-push}
 
 -- ---- the trees of a stream
 
 module _ (g h : List Entry) (s : ℕ) where
-  trees-same : (ts : List TreeValue) → commits g s ≡ commits h s → HasTrees h s ts → HasTrees g s ts
+  pub trees-same : (ts : List TreeValue) → commits g s ≡ commits h s → HasTrees h s ts → HasTrees g s ts
   trees-same ts same has = record {
     counted = has.counted ∙ sym (ap (λ (cs : List Change). length cs + 1) same);
     each = λ v d le. subst (λ (cs : List Change). IsTree (with_commits 0 nothing (take v cs)) (slice_index_or ts v d)) (sym same) (has.each v d (omega (arith, le, ap (length {A = Change}) same)));
@@ -132,18 +134,19 @@ module _ (g h : List Entry) (s : ℕ) where
 -- ---- the next board
 
 -- A stream of which an entry says nothing stays as it is.
-stream-still : (g h : List Entry) (s : ℕ) (v : Versions) → slice_get (ids g) s ≡ slice_get (ids h) s → spec_of g s ≡ spec_of h s → commits g s ≡ commits h s → recorded g s ≡ recorded h s → stream_numbers g s ≡ stream_numbers h s → IsStreamOf h s v → IsStreamOf g s v
-stream-still g h s v same_id same_kind same_commits same_records same_numbers is = record {
+stream-still : (g h : List Entry) (s : ℕ) (v : Versions) → slice_get (ids g) s ≡ slice_get (ids h) s → spec_of g s ≡ spec_of h s → commits g s ≡ commits h s → recorded g s ≡ recorded h s → stream_numbers g s ≡ stream_numbers h s → earliest g s ≡ earliest h s → IsStreamOf h s v → IsStreamOf g s v
+stream-still g h s v same_id same_kind same_commits same_records same_numbers same_earliest is = record {
   named = same_id ∙ is.named;
   defined = same_kind ∙ is.defined;
   kept = trees-same g h s v.trees same_commits is.kept;
   read = reads-same g h s v same_records is.read;
   numbered = is.numbered ∙ sym same_numbers;
+  retired = is.retired ∙ sym same_earliest;
 }
 
 -- A new stream has version 0 alone.
-stream-new : (g : List Entry) (s id : ℕ) (spec : Option Spec) (t : TreeValue) (number : ℕ) → slice_get (ids g) s ≡ Some id → spec_of g s ≡ spec → latest g s ≡ 0 → recorded g s ≡ [] → stream_numbers g s ≡ number ∷ [] → IsTree nothing t → IsStreamOf g s (new_stream id spec t number)
-stream-new g s id spec t number named defined none unread numbers empty = record {
+stream-new : (g : List Entry) (s id : ℕ) (spec : Option Spec) (t : TreeValue) (number : ℕ) → slice_get (ids g) s ≡ Some id → spec_of g s ≡ spec → latest g s ≡ 0 → recorded g s ≡ [] → stream_numbers g s ≡ number ∷ [] → earliest g s ≡ 0 → IsTree nothing t → IsStreamOf g s (new_stream id spec t number)
+stream-new g s id spec t number named defined none unread numbers unretired empty = record {
   named = named;
   defined = defined;
   kept = record {
@@ -157,6 +160,7 @@ stream-new g s id spec t number named defined none unread numbers empty = record
     each = λ version. read-none (recorded g s) unread version ∙ sym (read_at-none version);
   };
   numbered = sym numbers;
+  retired = sym unretired;
 }
 
 module _ (h : List Entry) (b : Kept) (was : IsBoardOf h b) (e : Entry) (allowed : rejection h e ≡ None) where
@@ -181,7 +185,7 @@ module _ (h : List Entry) (b : Kept) (was : IsBoardOf h b) (e : Entry) (allowed 
               let is = was.each s d (omega (arith, was.counted)) in
               let named : slice_get (ids g) s ≡ slice_get (ids h) s = ap (λ l. slice_get l s) ids_are ∙ get-append (ids h) (id ∷ []) s _ is.named ∙ sym is.named in
               let defined : spec_of g s ≡ spec_of h s = ap (λ l. slice_index_or l s None) kinds_are ∙ get_or_append_left (kinds h) (spec ∷ []) None s (omega (arith, was.counted, length-kinds h)) in
-              subst (IsStreamOf g s) (sym (old s d before)) (stream-still g h s _ named defined (commits-still h e id spec makes s) (recorded-still h e id spec makes s) (numbers-still h e id spec makes s (omega (arith, was.counted))) is)
+              subst (IsStreamOf g s) (sym (old s d before)) (stream-still g h s _ named defined (commits-still h e id spec makes s) (recorded-still h e id spec makes s) (numbers-still h e id spec makes s (omega (arith, was.counted))) (earliest-silent h e s (makes.no_first s)) is)
           | inr end ↦
               let place : s ≡ length b.streams = omega (arith, was.counted, size) in
               let past : length (ids h) ≤ s = omega (arith, was.counted) in
@@ -190,7 +194,7 @@ module _ (h : List Entry) (b : Kept) (was : IsBoardOf h b) (e : Entry) (allowed 
               let none : latest g s ≡ 0 = ap (length {A = Change}) (commits-still h e id spec makes s) ∙ unknown h s was.follows past in
               let unread = recorded-still h e id spec makes s ∙ unknown-recorded h s was.follows past in
               let numbers : stream_numbers g s ≡ number ∷ [] = numbers-new h e id spec makes s (place ∙ was.counted) (unknown h s was.follows past) ∙ ap (λ (n : ℕ). (n + 1) ∷ []) (sym was.entries) in
-              subst (IsStreamOf g s) (sym (new s d place)) (stream-new g s id spec t number named defined none unread numbers empty)
+              subst (IsStreamOf g s) (sym (new s d place)) (stream-new g s id spec t number named defined none unread numbers (earliest-silent h e s (makes.no_first s) ∙ unknown-earliest h s was.follows past) empty)
         ];
         entries = one ∙ ap (λ (n : ℕ). n + 1) was.entries ∙ sym (length-append h (e ∷ []));
         follows = follows-push h e was.follows allowed;
@@ -220,6 +224,7 @@ module _ (h : List Entry) (b : Kept) (was : IsBoardOf h b) (e : Entry) (allowed 
         kept = trees-push g h s c (commits-more h e s c read makes) kept.trees t next was_kept.kept;
         read = reads-push g h s kept t number kept.spec read refl kind was_kept.kept.counted was_kept.read (recorded-more h e s c read makes);
         numbered = ap (λ (l : List ℕ). l ++ number ∷ []) was_kept.numbered ∙ ap (λ (n : ℕ). stream_numbers h s ++ (n + 1) ∷ []) was.entries ∙ sym (numbers-more h e s c read makes);
+        retired = was_kept.retired ∙ sym (earliest-silent h e s (makes.no_first s));
       } in
       record {
         counted = size ∙ was.counted ∙ sym same;
@@ -228,7 +233,7 @@ module _ (h : List Entry) (b : Kept) (was : IsBoardOf h b) (e : Entry) (allowed 
               subst (λ (n : ℕ). IsStreamOf g n (slice_index_or streams n d)) (sym is) (subst (IsStreamOf g s) (sym (here d)) is_grown)
           | inr other ↦
               let otherwise : s ≡ i → ⊥ = λ e. other (sym e) in
-              subst (IsStreamOf g i) (sym (others i d other)) (stream-still g h i _ (named i) (defined i) (commits-other h e s c read makes i otherwise) (recorded-other h e s c read makes i otherwise) (numbers-other h e s c read makes i otherwise) (was.each i d (omega (arith, same))))
+              subst (IsStreamOf g i) (sym (others i d other)) (stream-still g h i _ (named i) (defined i) (commits-other h e s c read makes i otherwise) (recorded-other h e s c read makes i otherwise) (numbers-other h e s c read makes i otherwise) (earliest-silent h e i (makes.no_first i)) (was.each i d (omega (arith, same))))
         ];
         entries = one ∙ ap (λ (n : ℕ). n + 1) was.entries ∙ sym (length-append h (e ∷ []));
         follows = follows-push h e was.follows allowed;
@@ -257,10 +262,10 @@ reads-counted (Some spec) (Some r) was now rs kind some one counted =
 reads-counted None (Some r) was now rs kind some one counted = absurd (cc)
 reads-counted (Some spec) None was now rs kind some one counted = absurd (cc)
 
-module _ (streams : List Versions) (number : ℕ → Option ℕ) (was : IsWellFormed streams number) where
+module _ (streams : List Versions) (number : ℕ → Option ℕ) {readers : List (List ℕ)} (was : IsWellFormed streams number readers) where
   -- A board stays well formed with a new stream at version 0.
-  pub formed-stream : (id : ℕ) (spec : Option Spec) (t : TreeValue) (entry : ℕ) (next : ℕ → Option ℕ) (last : ℕ) (after : List Versions) → IsTree nothing t → length streams < MAX_STREAMS → place_of (ids_of streams) id ≡ None → HasGoodSpec spec → after ≡ streams ++ new_stream id spec t entry ∷ [] → last ≡ length streams → ((q : ℕ) → next q ≡ put_at id last number q) → IsWellFormed after next
-  formed-stream id spec t entry next last after empty room fresh good more is put =
+  pub formed-stream : (id : ℕ) (spec : Option Spec) (t : TreeValue) (entry : ℕ) (next : ℕ → Option ℕ) (last : ℕ) (after : List Versions) (read : List (List ℕ)) → IsTree nothing t → length streams < MAX_STREAMS → place_of (ids_of streams) id ≡ None → HasGoodSpec spec → after ≡ streams ++ new_stream id spec t entry ∷ [] → last ≡ length streams → ((q : ℕ) → next q ≡ put_at id last number q) → AreReaders (specs_of streams ++ spec ∷ []) read → IsWellFormed after next read
+  formed-stream id spec t entry next last after read empty room fresh good more is put are =
       let name : Versions → ℕ = λ s. s.id in
       let first : Versions = new_stream id spec t entry in
       let size : length after ≡ length streams + 1 = ap (length {A = Versions}) more ∙ length-append streams (first ∷ []) in
@@ -281,9 +286,11 @@ module _ (streams : List Versions) (number : ℕ → Option ℕ) (was : IsWellFo
                 numbered = refl;
                 read = elim spec as (λ (o : Option Spec). 0 ≡ reads_count o 1) [ None ↦ refl | Some x ↦ refl ];
                 good = good;
+                present = omega arith;
               })
         ];
         numbered = λ q. places-push (ids_of streams) id number next last (is ∙ sym (length-map streams name)) fresh was.numbered put q ∙ ap (λ l. place_of l q) (sym named);
+        read = subst (λ l. AreReaders l read) (sym (ap specs_of more ∙ map-append (λ (v : Versions). v.spec) streams (first ∷ []))) are;
       }
 
   -- Each stream has a tree, and not too many, and each tree is that of some past.
@@ -295,20 +302,51 @@ module _ (streams : List Versions) (number : ℕ → Option ℕ) (was : IsWellFo
   pub kept-at : (entries : ℕ) (b : Kept) → record { streams = streams; entries = entries } ≡ b → (s : ℕ) (kept : Versions) → slice_get streams s ≡ Some kept → (slice_get b.streams s ≡ Some kept) × IsGrown kept
   kept-at entries b view s kept at = (ap (λ (x : Kept). slice_get x.streams s) (sym view) ∙ at, stream-grown s kept at)
 
-  -- A board stays well formed with one version more of one stream.
-  pub formed-version : (s : ℕ) (kept : Versions) (t : TreeValue) (read : Option Reads) (entry : ℕ) (next : ℕ → Option ℕ) (after : List Versions) → slice_get streams s ≡ Some kept → length kept.trees ≤ MAX_VERSIONS → HasPast t → is_some read ≡ is_some kept.spec → after ≡ slice_set streams s (with_version kept t read entry) → ((q : ℕ) → next q ≡ number q) → IsWellFormed after next
-  formed-version s kept t read entry next after at room past kind set same =
+  -- A board stays well formed with a stream that is grown in place of one of the same id and spec.
+  formed-set : (s : ℕ) (kept grown : Versions) (next : ℕ → Option ℕ) (after : List Versions) (read : List (List ℕ)) → slice_get streams s ≡ Some kept → grown.id ≡ kept.id → grown.spec ≡ kept.spec → IsGrown grown → after ≡ slice_set streams s grown → ((q : ℕ) → next q ≡ number q) → read ≡ readers → IsWellFormed after next read
+  formed-set s kept grown next after read at named_same spec_same is_grown set same read_same =
       let name : Versions → ℕ = λ x. x.id in
-      let grown : Versions = with_version kept t read entry in
       let there : s < length streams = slice_get_within streams s kept at in
       let size : length after ≡ length streams = ap (length {A = Versions}) set ∙ length-set streams s grown in
-      let long : length grown.trees ≡ length kept.trees + 1 = length-append kept.trees (t ∷ []) in
       let here : (i : ℕ) (d : Versions) → i ≡ s → slice_index_or after i d ≡ grown =
       λ i d is. ap (λ n. slice_index_or after n d) is ∙ ap (λ l. slice_index_or l s d) set ∙ get_or-set_same streams s grown d there in
       let others : (i : ℕ) (d : Versions) → (i ≡ s → ⊥) → slice_index_or after i d ≡ slice_index_or streams i d =
       λ i d other. ap (λ l. slice_index_or l i d) set ∙ get_or-set_other streams s i grown d other in
       let named : ids_of after ≡ ids_of streams =
-      ap ids_of set ∙ map-set_same name streams s grown kept (ap name (sym (get_or_from_slice_get streams s kept kept at))) in
+      ap ids_of set ∙ map-set_same name streams s grown kept (named_same ∙ ap name (sym (get_or_from_slice_get streams s kept kept at))) in
+      let kind : Versions → Option Spec = λ x. x.spec in
+      let defined : specs_of after ≡ specs_of streams =
+      ap specs_of set ∙ map-set_same kind streams s grown kept (spec_same ∙ ap kind (sym (get_or_from_slice_get streams s kept kept at))) in
+      record {
+        few = omega (arith, size, was.few);
+        each = λ i d low. elim (cases_eq i s) [
+          | inl is ↦ subst IsGrown (sym (here i d is)) is_grown
+          | inr other ↦ subst IsGrown (sym (others i d other)) (was.each i d (omega (arith, size)))
+        ];
+        numbered = λ q. same q ∙ was.numbered q ∙ ap (λ l. place_of l q) (sym named);
+        read = subst (λ l. AreReaders l read) (sym defined) (subst (AreReaders (specs_of streams)) (sym read_same) was.read);
+      }
+
+  -- A board stays well formed with another first version of a stream, if the stream has it.
+  pub formed-earliest : (s first : ℕ) (kept : Versions) (next : ℕ → Option ℕ) (after : List Versions) (read : List (List ℕ)) → slice_get streams s ≡ Some kept → first < length kept.trees → after ≡ slice_set streams s (with_earliest kept first) → ((q : ℕ) → next q ≡ number q) → read ≡ readers → IsWellFormed after next read
+  formed-earliest s first kept next after read at made set same read_same =
+      let grown : IsGrown kept = stream-grown s kept at in
+      let still : IsGrown (with_earliest kept first) = record {
+        some = grown.some;
+        limited = grown.limited;
+        pasts = grown.pasts;
+        numbered = grown.numbered;
+        read = grown.read;
+        good = grown.good;
+        present = made;
+      } in
+      formed-set s kept (with_earliest kept first) next after read at refl refl still set same read_same
+
+  -- A board stays well formed with one version more of one stream.
+  pub formed-version : (s : ℕ) (kept : Versions) (t : TreeValue) (read : Option Reads) (entry : ℕ) (next : ℕ → Option ℕ) (after : List Versions) (with_read : List (List ℕ)) → slice_get streams s ≡ Some kept → length kept.trees ≤ MAX_VERSIONS → HasPast t → is_some read ≡ is_some kept.spec → after ≡ slice_set streams s (with_version kept t read entry) → ((q : ℕ) → next q ≡ number q) → with_read ≡ readers → IsWellFormed after next with_read
+  formed-version s kept t read entry next after with_read at room past kind set same read_same =
+      let grown : Versions = with_version kept t read entry in
+      let long : length grown.trees ≡ length kept.trees + 1 = length-append kept.trees (t ∷ []) in
       let was_grown : IsGrown kept = stream-grown s kept at in
       let is_grown : IsGrown grown = record {
         some = omega (arith, long);
@@ -317,12 +355,6 @@ module _ (streams : List Versions) (number : ℕ → Option ℕ) (was : IsWellFo
         numbered = omega (arith, long, was_grown.numbered, length-append kept.numbers (entry ∷ []));
         read = reads-counted kept.spec read (length kept.trees) (length grown.trees) kept.reads kind was_grown.some long was_grown.read;
         good = was_grown.good;
+        present = let low = was_grown.present in omega (arith, long);
       } in
-      record {
-        few = omega (arith, size, was.few);
-        each = λ i d low. elim (cases_eq i s) [
-          | inl is ↦ subst IsGrown (sym (here i d is)) is_grown
-          | inr other ↦ subst IsGrown (sym (others i d other)) (was.each i d (omega (arith, size)))
-        ];
-        numbered = λ q. same q ∙ was.numbered q ∙ ap (λ l. place_of l q) (sym named);
-      }
+      formed-set s kept grown next after with_read at refl refl is_grown set same read_same

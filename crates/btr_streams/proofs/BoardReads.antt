@@ -1,15 +1,15 @@
 -- What the calls of a board read of a stream, as the history has it.
 use Rattle.std.specs.Prelude.{◌≡◌, ℕ, ◌-◌, ◌<◌, ◌≤◌, cond, List, length, slice_get, Some, None}
-use Rattle.std.proofs.Common.{ap, ◌∙◌, arith, subst}
+use Rattle.std.proofs.Common.{sym, ap, ◌∙◌, arith, subst}
 use Rattle.std.proofs.lemmas.Bool.{le-leb, lt-leb}
 use Rattle.std.proofs.lemmas.Option.{slice_get_within, get_or_from_slice_get}
 use Rattle.btr_tree.specs.Root.{TreeValue, IsTree}
 use Rattle.btr_hist.specs.declared.entry.Entry.{Entry}
-use Rattle.btr_hist.specs.History.{ids, spec_of, latest, read_by}
+use Rattle.btr_hist.specs.History.{ids, spec_of, latest, read_by, earliest}
 use Rattle.btr_hist.proofs.HistoryLemmas.{unknown}
 use Rattle.btr_streams.specs.Past.{commits_to, stream_numbers}
 use Rattle.btr_streams.specs.Board.{Versions, Kept, HasVersion, IsTreeOf, IsStreamOf, IsBoardOf, latest_of, read_at}
-use Rattle.btr_streams.proofs.BoardStreamLemmas.{unknown-spec, unknown-read}
+use Rattle.btr_streams.proofs.BoardStreamLemmas.{unknown-spec, unknown-read, unknown-earliest}
 use Rattle.btr_streams.proofs.NumberingLemmas.{numbers-past}
 use Rattle.btr_streams.proofs.BoardNext.{kept-stream}
 
@@ -31,6 +31,9 @@ module _ (h : List Entry) (b : Kept) (s : ℕ) (of : IsBoardOf h b) where
 
     pub read-past : (version : ℕ) → read_by h s version ≡ None
     read-past version = unknown-read h s version of.follows past-ids
+
+    pub earliest-past : earliest h s ≡ 0
+    earliest-past = unknown-earliest h s of.follows past-ids
 
     pub number-past : (version : ℕ) → slice_get (stream_numbers h s) version ≡ None
     number-past version = ap (λ (l : List ℕ). slice_get l version) (numbers-past h s past-ids (unknown h s of.follows past-ids))
@@ -67,3 +70,6 @@ module _ (h : List Entry) (b : Kept) (s : ℕ) (of : IsBoardOf h b) where
 
     pub read-kept : (version : ℕ) → read_by h s version ≡ read_at kept.reads version
     read-kept version = is.1.read.each version
+
+    pub earliest-kept : earliest h s ≡ kept.earliest
+    earliest-kept = sym is.1.retired

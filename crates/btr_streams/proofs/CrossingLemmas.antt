@@ -62,7 +62,7 @@ stream_sync : IsSync stream.the_row
 stream_sync = search (sendable, trail_sync, tree_send, tree_sync, spec_sync, reads_send, reads_sync) depth 20
 
 pub board_send : IsSend board.the_row
-board_send = search (sendable, trail_send, stream_send, stream_sync, index_send) depth 20
+board_send = search (sendable, trail_send, trail_sync, stream_send, stream_sync, index_send) depth 20
 
 pub snapshot_send : IsSend snapshot.the_row
 snapshot_send = search (sendable, board_send) depth 20

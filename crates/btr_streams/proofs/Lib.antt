@@ -6,6 +6,8 @@ pub mod RollingLemmas
 pub mod RollFits
 pub mod OutlineLemmas
 mod RolledOutline
+mod ReaderLists
+mod Holding
 pub mod StreamsLemmas
 mod Crowded
 pub mod BoardCommits

@@ -12,7 +12,7 @@ use Rattle.btr_hist.specs.declared.kernel.Spec.{Spec}
 use Rattle.btr_hist.specs.declared.kernel.Reads.{Reads}
 use Rattle.btr_hist.specs.History.{new_id, change_of, ids, latest}
 use Rattle.btr_streams.specs.Past.{entry_numbers, creation_numbers, commit_numbers, stream_numbers}
-use Rattle.btr_streams.specs.Stage.{MakesStream, MakesVersion}
+use Rattle.btr_streams.specs.Stage.{MakesStream, MakesVersion, RetiresVersions}
 use Rattle.btr_streams.proofs.BoardStreamLemmas.{none-in}
 
 -- ---- how many there are
@@ -175,3 +175,10 @@ module _ (h : List Entry) (e : Entry) (s : ℕ) (c : Change) (read : Option Read
   numbers-other stream other =
       ap (λ (l : List ℕ). cons_option (slice_get l stream) (commit_numbers (h ++ e ∷ []) stream)) creations-same
       ∙ ap (cons_option (slice_get (creation_numbers h) stream)) (no-number (λ x. is_some (change_of stream x)) h e (ap (is_some {T = Change}) (makes.no_other_change stream other)))
+
+module _ (h : List Entry) (e : Entry) (s first : ℕ) (retires : RetiresVersions e s first) where
+  -- All streams keep their numbers.
+  pub numbers-kept : (stream : ℕ) → stream_numbers (h ++ e ∷ []) stream ≡ stream_numbers h stream
+  numbers-kept stream =
+      ap (λ (l : List ℕ). cons_option (slice_get l stream) (commit_numbers (h ++ e ∷ []) stream)) (no-number (λ x. is_some (new_id x)) h e (ap (is_some {T = ℕ}) retires.no_id))
+      ∙ ap (cons_option (slice_get (creation_numbers h) stream)) (no-number (λ x. is_some (change_of stream x)) h e (ap (is_some {T = Change}) (retires.no_change stream)))

@@ -3,7 +3,7 @@ use Rattle.std.specs.Prelude.{◌≡◌, ℕ, ◌+◌, ◌-◌, ◌^◌, ◌<◌
 use Rattle.std.proofs.Common.{zero, suc, refl, sym, ap, ◌∙◌, arith, subst}
 use Rattle.std.proofs.lemmas.List.{take_more}
 use Rattle.std.proofs.lemmas.Option.{slice_get_within, get_or_from_slice_get}
-use Rattle.std.proofs.lemmas.Bool.{lt-leb, le-ltb, le-leb, and_from}
+use Rattle.std.proofs.lemmas.Bool.{lt-leb, le-ltb, lt-ltb, le-leb, and_from}
 use Rattle.btr_base.specs.declared.limits.TheConstants.{FIRST, END}
 use Rattle.btr_base.specs.declared.point.Point.{Point}
 use Rattle.btr_base.specs.Range.{RangeValue}
@@ -14,43 +14,67 @@ use Rattle.btr_tree.specs.Root.{TreeValue}
 use Rattle.btr_base.specs.Point.{AreInDomain}
 use Rattle.btr_hist.specs.declared.entry.Entry.{Entry}
 use Rattle.btr_hist.specs.declared.answer.Answer.TheVariants.{Found, Refused}
-use Rattle.btr_hist.specs.declared.answer.Refusal.TheVariants.{NoStream, NoVersion, BadRange}
+use Rattle.btr_hist.specs.declared.answer.Refusal.TheVariants.{NoStream, NoVersion, Retired, BadRange}
 use Rattle.btr_hist.specs.declared.answer.Rows.{Rows}
 use Rattle.btr_hist.specs.declared.answer.StreamRow.{StreamRow}
 use Rattle.btr_hist.specs.declared.kernel.Spec.{Spec}
-use Rattle.btr_hist.specs.History.{ids, is_output, latest, bag}
-use Rattle.btr_hist.specs.Answer.{answer_at, is_range, is_power, is_width, rows_from}
+use Rattle.btr_hist.specs.History.{ids, is_output, latest, bag, earliest}
+use Rattle.btr_hist.specs.Answer.{answer_from, answer_at, is_range, is_power, is_width, rows_from}
 use Rattle.btr_streams.specs.Past.{commits_to}
 use Rattle.btr_streams.specs.Board.{Versions, Kept, IsBoardOf}
-use Rattle.btr_streams.specs.Answering.{IsVersion, IsAskedRange}
+use Rattle.btr_streams.specs.Answering.{IsVersion, IsPresentVersion, IsAskedRange}
 use Rattle.btr_streams.proofs.BoardTrees.{bag-commits_to}
 use Rattle.btr_streams.proofs.BoardNext.{kept-stream}
 
 -- ---- a version that a stream has
 
--- The answer for a good question, and for a bad one.
-pub answer-there : (h : List Entry) (stream asked : ℕ) → stream < length (ids h) → asked ≤ latest h stream → (good : Bool) (rows : List Point → Rows) → answer_at h stream asked good rows ≡ cond good (Found asked (rows (bag h stream asked))) (Refused BadRange)
-answer-there h stream asked is_there made good rows =
-    let reported = cond good (Found asked (rows (bag h stream asked))) (Refused BadRange) in
-    ap (λ t. cond t (Refused NoStream) (cond (nat_lt (latest h stream) asked) (Refused (NoVersion asked (latest h stream))) reported)) (lt-leb (length (ids h)) stream is_there)
-    ∙ ap (λ t. cond t (Refused (NoVersion asked (latest h stream))) reported) (le-ltb (latest h stream) asked made)
+module _ (h : List Entry) (stream asked least : ℕ) (is_there : stream < length (ids h)) (made : asked ≤ latest h stream) where
+  -- The answer depends on whether the least version is retired.
+  answer-made : (retired : Bool) → nat_lt least (earliest h stream) ≡ retired → (good : Bool) (rows : List Point → Rows) → answer_from h stream least asked good rows ≡ cond retired (Refused (Retired least (earliest h stream))) (cond good (Found asked (rows (bag h stream asked))) (Refused BadRange))
+  answer-made retired found good rows =
+      let reported = cond good (Found asked (rows (bag h stream asked))) (Refused BadRange) in
+      let kept_or = λ (t : Bool). cond t (Refused (Retired least (earliest h stream))) reported in
+      let late = nat_lt least (earliest h stream) in
+      ap (λ t. cond t (Refused NoStream) (cond (nat_lt (latest h stream) asked) (Refused (NoVersion asked (latest h stream))) (kept_or late))) (lt-leb (length (ids h)) stream is_there)
+      ∙ ap (λ t. cond t (Refused (NoVersion asked (latest h stream))) (kept_or late)) (le-ltb (latest h stream) asked made)
+      ∙ ap kept_or found
 
-module _ (h : List Entry) (stream version asked : ℕ) (t : TreeValue) (there : IsVersion h stream asked version t) where
-  good_or_bad : (good : Bool) (rows : List Point → Rows) → answer_at h stream asked good rows ≡ cond good (Found asked (rows (bag h stream asked))) (Refused BadRange)
-  good_or_bad good rows = answer-there h stream asked there.known (omega (arith, there.made, there.same)) good rows
+  -- The answer for a good question, and for a bad one.
+  pub answer-there : earliest h stream ≤ least → (good : Bool) (rows : List Point → Rows) → answer_from h stream least asked good rows ≡ cond good (Found asked (rows (bag h stream asked))) (Refused BadRange)
+  answer-there present good rows = answer-made false (le-ltb least (earliest h stream) present) good rows
+
+  -- A question about a retired version is refused.
+  pub answer-retired : least < earliest h stream → (good : Bool) (rows : List Point → Rows) → answer_from h stream least asked good rows ≡ Refused (Retired least (earliest h stream))
+  answer-retired late good rows = answer-made true (lt-ltb least (earliest h stream) late) good rows
+
+module _ (h : List Entry) (stream version asked : ℕ) (t : TreeValue) (there : IsVersion h stream asked version t) (least : ℕ) (present : earliest h stream ≤ least) where
+  good_or_bad : (good : Bool) (rows : List Point → Rows) → answer_from h stream least asked good rows ≡ cond good (Found asked (rows (bag h stream asked))) (Refused BadRange)
+  good_or_bad good rows =
+      answer-there h stream asked least there.known (omega (arith, there.made, there.same)) present good rows
 
   -- A bad question is refused.
-  pub refused : (good : Bool) (rows : List Point → Rows) → good ≡ false → Refused BadRange ≡ answer_at h stream asked good rows
-  refused good rows bad =
+  pub refused-from : (good : Bool) (rows : List Point → Rows) → good ≡ false → Refused BadRange ≡ answer_from h stream least asked good rows
+  refused-from good rows bad =
       sym (good_or_bad good rows ∙ ap (λ t. cond t (Found asked (rows (bag h stream asked))) (Refused BadRange)) bad)
 
   -- The rows of a good question are those of the version's tree.
-  pub found : (good : Bool) (rows : List Point → Rows) (x : Rows) → good ≡ true → x ≡ rows (tree.bag (commits_to h stream version)) → Found version x ≡ answer_at h stream asked good rows
-  found good rows x is_good is =
+  pub found-from : (good : Bool) (rows : List Point → Rows) (x : Rows) → good ≡ true → x ≡ rows (tree.bag (commits_to h stream version)) → Found version x ≡ answer_from h stream least asked good rows
+  found-from good rows x is_good is =
       let read : x ≡ rows (bag h stream version) = is ∙ ap rows (bag-commits_to h stream version) in
       ap (Found version) read
       ∙ ap (λ v. Found v (rows (bag h stream v))) there.same
       ∙ sym (good_or_bad good rows ∙ ap (λ t. cond t (Found asked (rows (bag h stream asked))) (Refused BadRange)) is_good)
+
+-- The same of a question about one version.
+module _ (h : List Entry) (stream version asked : ℕ) (t : TreeValue) (there : IsPresentVersion h stream asked version t) where
+  present_asked : earliest h stream ≤ asked
+  present_asked = omega (arith, there.present, there.has.same)
+
+  pub refused : (good : Bool) (rows : List Point → Rows) → good ≡ false → Refused BadRange ≡ answer_at h stream asked good rows
+  refused good rows bad = refused-from h stream version asked t there.has asked present_asked good rows bad
+
+  pub found : (good : Bool) (rows : List Point → Rows) (x : Rows) → good ≡ true → x ≡ rows (tree.bag (commits_to h stream version)) → Found version x ≡ answer_at h stream asked good rows
+  found good rows x is_good is = found-from h stream version asked t there.has asked present_asked good rows x is_good is
 
 -- ---- ranges
 

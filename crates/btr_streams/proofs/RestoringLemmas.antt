@@ -14,7 +14,7 @@ use Rattle.btr_board.specs.Put.{put_at}
 use Rattle.btr_tree.specs.Root.{TreeValue}
 use Rattle.btr_tree.specs.Slots.{block_of}
 use Rattle.btr_hist.specs.declared.entry.Entry.{Entry}
-use Rattle.btr_hist.specs.declared.entry.Entry.TheVariants.{Create, Commit, Define, Distillate}
+use Rattle.btr_hist.specs.declared.entry.Entry.TheVariants.{Create, Commit, Define, Distillate, Retire}
 use Rattle.btr_hist.specs.declared.kernel.Spec.{Spec}
 use Rattle.btr_hist.specs.declared.kernel.Reads.{Reads}
 use Rattle.btr_hist.specs.declared.rejection.Rejection.TheVariants.{NotWritable}
@@ -27,15 +27,17 @@ use Rattle.btr_hist.proofs.AcceptedLemmas.{distillate_causes}
 use Rattle.btr_hist.proofs.VersionLemmas.{from_end}
 use Rattle.btr_entry.specs.Grammar.{IsSpec}
 use Rattle.btr_roll.specs.declared.roll.RollVersion.{RollVersion}
-use Rattle.btr_roll.specs.Roll.{RollStreamValue, ReadsFit, VersionFits, StreamFits, IsRoll, reads_of_versions}
+use Rattle.btr_roll.specs.Roll.{RollStreamValue, ReadsFit, VersionFits, StreamFits, IsRoll, IsOutputAt, KeepsTableAt, reads_of_versions}
 use Rattle.btr_streams.specs.Past.{stream_numbers}
 use Rattle.btr_streams.specs.Rolling.{root_at, rolled_versions, rolled_stream, rolled_from, roll_of, kept_versions, kept_stream, rolled}
-use Rattle.btr_streams.specs.Board.{Versions, Kept, HasTrees, HasGoodSpec, reads_count, read_at, IsBoardOf, HasStreamOf, HasStreamsOf, IsGrown, IsWellFormed, place_of, ids_of}
+use Rattle.btr_streams.specs.Board.{Versions, Kept, HasTrees, HasGoodSpec, reads_count, read_at, IsBoardOf, HasStreamOf, HasStreamsOf, IsGrown, IsWellFormed, place_of, ids_of, specs_of}
+use Rattle.btr_streams.specs.Readers.{AreInputsBelow, AreReaders}
 use Rattle.btr_streams.specs.Rolling.{HaveRoots}
-use Rattle.btr_streams.specs.Stage.{MakesStream, MakesVersion, change}
+use Rattle.btr_streams.specs.Stage.{MakesStream, MakesVersion, RetiresVersions, change}
 use Rattle.btr_streams.specs.Restoring.{restored_stream, restored_streams, FitTrees, AllFitTrees, HaveRolledRoots}
 use Rattle.btr_streams.proofs.BoardStreamLemmas.{places-push, kinds-more, recorded-still, kinds-still, recorded-more, recorded-other, unknown-recorded}
-use Rattle.btr_streams.proofs.BoardStreamLemmas.{create-makes, define-makes, commit-makes, distillate-makes}
+use Rattle.btr_streams.proofs.BoardStreamLemmas.{kinds-kept, recorded-kept, unknown-earliest}
+use Rattle.btr_streams.proofs.BoardStreamLemmas.{create-makes, define-makes, commit-makes, distillate-makes, retire-retires}
 use Rattle.btr_streams.proofs.NumberingLemmas.{numbers-counted}
 use Rattle.btr_streams.proofs.RollFits as fits
 use Rattle.btr_streams.proofs.StreamsLemmas.{is-board}
@@ -148,8 +150,8 @@ good-spec None is = tt
 good-spec (Some spec) is = is.good
 
 -- A stream of a roll is kept as boards keep streams.
-pub restored-grown : (s : RollStreamValue) (ts : List TreeValue) → StreamFits s → FitTrees s ts → IsGrown (restored_stream s ts)
-restored-grown s ts fits fit =
+pub restored-grown : (format : ℕ) (s : RollStreamValue) (ts : List TreeValue) → StreamFits format s → FitTrees s ts → IsGrown (restored_stream s ts)
+restored-grown format s ts fits fit =
     let counted = fit.counted in
     let few = fits.few_versions in
     record {
@@ -159,11 +161,12 @@ restored-grown s ts fits fit =
       numbered = omega (arith, length-map s.versions (λ (v : RollVersion). v.entry));
       read = reads-length s.spec s.versions (length ts) counted fits.versions_fit;
       good = good-spec s.spec fits.spec_fits;
+      present = let low = fits.first_fits.there in omega arith;
     }
 
 -- A board stays well formed with one stream more.
-pub formed-restored : (streams : List Versions) (number : ℕ → Option ℕ) → IsWellFormed streams number → (one : Versions) (next : ℕ → Option ℕ) (last : ℕ) (after : List Versions) → IsGrown one → length streams < MAX_STREAMS → place_of (ids_of streams) one.id ≡ None → after ≡ streams ++ one ∷ [] → last ≡ length streams → ((q : ℕ) → next q ≡ put_at one.id last number q) → IsWellFormed after next
-formed-restored streams number was one next last after grown room fresh more is put =
+pub formed-restored : (streams : List Versions) (number : ℕ → Option ℕ) {readers : List (List ℕ)} → IsWellFormed streams number readers → (one : Versions) (next : ℕ → Option ℕ) (last : ℕ) (after : List Versions) (read : List (List ℕ)) → IsGrown one → length streams < MAX_STREAMS → place_of (ids_of streams) one.id ≡ None → after ≡ streams ++ one ∷ [] → last ≡ length streams → ((q : ℕ) → next q ≡ put_at one.id last number q) → AreReaders (specs_of streams ++ one.spec ∷ []) read → IsWellFormed after next read
+formed-restored streams number was one next last after read grown room fresh more is put are =
     let name : Versions → ℕ = λ s. s.id in
     let size : length after ≡ length streams + 1 = ap (length {A = Versions}) more ∙ length-append streams (one ∷ []) in
     let old : (s : ℕ) (d : Versions) → s < length streams → slice_index_or after s d ≡ slice_index_or streams s d =
@@ -178,6 +181,7 @@ formed-restored streams number was one next last after grown room fresh more is 
         | inr end ↦ subst IsGrown (sym (new s d (omega (arith, size)))) grown
       ];
       numbered = λ q. places-push (ids_of streams) one.id number next last (is ∙ sym (length-map streams name)) fresh was.numbered put q ∙ ap (λ l. place_of l q) (sym named);
+      read = subst (λ l. AreReaders l read) (sym (ap specs_of more ∙ map-append (λ (v : Versions). v.spec) streams (one ∷ []))) are;
     }
 
 -- ---- the streams one by one
@@ -238,10 +242,11 @@ pub record IsRestoring (roll : List RollStreamValue) (trees left : List (List Tr
 pub record IsNextStream (b : Kept) (s : RollStreamValue) (ts : List TreeValue) : Type 0 where
   pub room : length b.streams < MAX_STREAMS
   pub fresh : place_of (ids_of b.streams) s.id ≡ None
-  pub fits : StreamFits s
+  pub inputs : IfSome s.spec (AreInputsBelow (length b.streams))
+  pub fits : (format : ℕ) × StreamFits format s
   pub trees : FitTrees s ts
 
-module _ (roll : List RollStreamValue) (trees : List (List TreeValue)) (is : IsRoll roll) (fit : AllFitTrees roll trees) where
+module _ (roll : List RollStreamValue) (trees : List (List TreeValue)) (format : ℕ) (is : IsRoll format roll) (fit : AllFitTrees roll trees) where
   module _ (left : List (List TreeValue)) (entries : ℕ) (b : Kept) (was : IsRestoring roll trees left entries b) where
     module _ (s : RollStreamValue) (ts : List TreeValue) (more : List (List TreeValue)) (at : slice_get roll (length b.streams) ≡ Some s) (next : left ≡ ts ∷ more) where
       its : slice_get trees (length b.streams) ≡ Some ts
@@ -274,11 +279,21 @@ module _ (roll : List RollStreamValue) (trees : List (List TreeValue)) (is : IsR
           earlier (x ∷ xs) (suc n) zero d low = refl
           earlier (x ∷ xs) (suc n) (suc k) d low = earlier xs n k d (omega arith)
 
+      inputs : IfSome s.spec (AreInputsBelow (length b.streams))
+      inputs =
+          let n = length b.streams in
+          go s.spec (subst (λ (o : Option RollStreamValue). IfSome o (KeepsTableAt roll n)) at (is.table.each_keeps n))
+        where
+          go : (o : Option Spec) → IfSome o (λ spec. IsOutputAt roll (length b.streams) spec s.versions) → IfSome o (AreInputsBelow (length b.streams))
+          go None keeps = tt
+          go (Some spec) keeps = record { first = keeps.first_before; second = keeps.second_before }
+
       pub restoring-next : IsNextStream b s ts
       restoring-next = record {
         room = let low = slice_get_within roll (length b.streams) s at in omega (arith, is.fits.few_streams);
         fresh = fresh;
-        fits = each-at StreamFits roll (length b.streams) s is.fits.each_fits at;
+        inputs = inputs;
+        fits = (format, each-at (StreamFits format) roll (length b.streams) s is.fits.each_fits at);
         trees = fit.each (length b.streams) s ts at its;
       }
 
@@ -335,8 +350,8 @@ one-less : {X : Type 0} (xs : List X) → length (drop 1 xs) ≡ length xs - 1
 one-less [] = refl
 one-less (x ∷ xs) = omega arith
 
-stream-again : (s : RollStreamValue) (ts : List TreeValue) → StreamFits s → FitTrees s ts → ((i : ℕ) (v : RollVersion) (t : TreeValue) → slice_get s.versions i ≡ Some v → slice_get ts (i + 1) ≡ Some t → block_of t.node ≡ v.root) → kept_stream (restored_stream s ts) ≡ s
-stream-again s ts fits fit roots =
+stream-again : (format : ℕ) (s : RollStreamValue) (ts : List TreeValue) → StreamFits format s → FitTrees s ts → ((i : ℕ) (v : RollVersion) (t : TreeValue) → slice_get s.versions i ≡ Some v → slice_get ts (i + 1) ≡ Some t → block_of t.node ≡ v.root) → kept_stream (restored_stream s ts) ≡ s
+stream-again format s ts fits fit roots =
     let one : Versions = restored_stream s ts in
     let entry_of : RollVersion → ℕ = λ v. v.entry in
     let step : (i : ℕ) → 1 + i ≡ suc i = λ i. omega arith in
@@ -344,7 +359,7 @@ stream-again s ts fits fit roots =
       ap (λ (k : ℕ). get_or one.numbers k 0) (step i) ∙ get_or_from_slice_get (map entry_of s.versions) i v.entry 0 (slice_get-map entry_of s.versions i ∙ ap (option_map entry_of) at),
       ap (read_at one.reads) (step i) ∙ reads-at (is_some s.spec) s.versions i v fits.versions_fit at,
     )) (λ i v t at its. roots i v t at (sym (after-first ts i) ∙ its)) in
-    λ i. record { id = s.id; entry = s.entry; spec = s.spec; versions = all i }
+    λ i. record { id = s.id; entry = s.entry; spec = s.spec; first = s.first; versions = all i }
 
 streams-again : (roll : List RollStreamValue) (trees : List (List TreeValue)) → length trees ≡ length roll → ((i : ℕ) (s : RollStreamValue) (ts : List TreeValue) → slice_get roll i ≡ Some s → slice_get trees i ≡ Some ts → kept_stream (restored_stream s ts) ≡ s) → map kept_stream (restored_streams roll trees) ≡ roll
 streams-again [] trees long each = refl
@@ -355,10 +370,10 @@ streams-again (s ∷ roll) (ts ∷ trees) long each =
     λ i. first i ∷ rest i
 
 -- The roll of a board that was restored is the one that it was made of, if the trees have the roots that the roll says.
-pub rolled-restored : (roll : List RollStreamValue) (trees : List (List TreeValue)) (entries : ℕ) → IsRoll roll → AllFitTrees roll trees → HaveRolledRoots roll trees → rolled (record { streams = restored_streams roll trees; entries = entries }) ≡ roll
-rolled-restored roll trees entries is fit roots =
+pub rolled-restored : (format : ℕ) (roll : List RollStreamValue) (trees : List (List TreeValue)) (entries : ℕ) → IsRoll format roll → AllFitTrees roll trees → HaveRolledRoots roll trees → rolled (record { streams = restored_streams roll trees; entries = entries }) ≡ roll
+rolled-restored format roll trees entries is fit roots =
     streams-again roll trees fit.counted (λ i s ts at its.
-    stream-again s ts (each-at StreamFits roll i s is.fits.each_fits at) (fit.each i s ts at its) (λ place v t there tree. roots i place s v ts t at there its tree))
+    stream-again format s ts (each-at (StreamFits format) roll i s is.fits.each_fits at) (fit.each i s ts at its) (λ place v t there tree. roots i place s v ts t at there its tree))
 
 -- ---- what each history keeps of reads
 
@@ -399,6 +414,15 @@ module _ (h : List Entry) (was : KeepsReads h) (e : Entry) (accepted : rejection
         kinds = λ i. subst (λ (k : Option Spec). AllByRecursion (λ (o : Option Reads). is_some o ≡ is_some k) (recorded g i)) (same i) (now i);
       }
 
+  keeps-retired : (s first : ℕ) → RetiresVersions e s first → KeepsReads (h ++ e ∷ [])
+  keeps-retired s first retires =
+      let g = h ++ e ∷ [] in
+      let same : (i : ℕ) → spec_of h i ≡ spec_of g i = λ i. ap (λ (l : List (Option Spec)). slice_index_or l i None) (sym (kinds-kept h e s first retires)) in
+      record {
+        follows = follows-push h e was.follows accepted;
+        kinds = λ i. subst (λ (k : Option Spec). AllByRecursion (λ (o : Option Reads). is_some o ≡ is_some k) (recorded g i)) (same i) (subst (AllByRecursion (λ (o : Option Reads). is_some o ≡ is_some (spec_of h i))) (sym (recorded-kept h e s first retires i)) (was.kinds i));
+      }
+
 takes-some : (h : List Entry) (s : ℕ) (o : Option Spec) (new : Reads) → takes_reads h s o new ≡ true → true ≡ is_some o
 takes-some h s None new takes = absurd (cc)
 takes-some h s (Some spec) new takes = refl
@@ -415,6 +439,8 @@ keeps-push h was (Commit s cut added) accepted =
 keeps-push h was (Distillate s cut added new) accepted =
     let takes = not-false (takes_reads h s (spec_of h s) new) (when_none (not (takes_reads h s (spec_of h s) new)) NotWritable (second-cause _ _ (drop 2 (distillate_causes h s (change cut added) new)) accepted)) in
     keeps-version h was (Distillate s cut added new) accepted s (change cut added) (Some new) (distillate-makes s cut added new) (takes-some h s (spec_of h s) new takes)
+keeps-push h was (Retire s first) accepted =
+    keeps-retired h was (Retire s first) accepted s first (retire-retires s first)
 
 keeps-reads : (h : List Entry) → Follows h → KeepsReads h
 keeps-reads h follows =
@@ -495,6 +521,7 @@ module _ (h : List Entry) (roots : List ℕ) where
             each = λ version. kept.1 version ∙ ap (λ (l : List Reads). read_at l version) (sym (stream-reads s low));
           };
           numbered = numbers-again s low;
+          retired = refl;
         }
 
     module _ (trees : List (List TreeValue)) (counted : length trees ≡ length (ids h)) where
@@ -515,6 +542,7 @@ module _ (h : List Entry) (roots : List ℕ) where
             subst (HasStreamOf h s) (sym (get_or_from_slice_get (restored_streams (roll_of h roots) trees) s one d (restored-there s low))) (restored-has s id (slice_index_or trees s []) (slice_get-get_or (ids h) s 0 low) (long s [] low));
         entries = refl;
         beyond = λ s past. unknown h s follows past;
+        unretired = λ s past. unknown-earliest h s follows past;
       }
 
       -- The board of the roll of a history is that of the history, if each stream has its trees.

@@ -13,27 +13,30 @@ use Rattle.btr_base.specs.Commit.{Change}
 use Rattle.btr_base.specs.declared.limits.TheConstants.{MAX_STREAMS, MAX_VERSIONS}
 use Rattle.btr_base.proofs.ListLemmas.{each-append}
 use Rattle.btr_hist.specs.declared.entry.Entry.{Entry}
-use Rattle.btr_hist.specs.declared.entry.Entry.TheVariants.{Create, Commit, Define, Distillate}
+use Rattle.btr_hist.specs.declared.entry.Entry.TheVariants.{Create, Commit, Define, Distillate, Retire}
 use Rattle.btr_hist.specs.declared.kernel.Spec.{Spec}
 use Rattle.btr_hist.specs.declared.kernel.Reads.{Reads}
 use Rattle.btr_hist.specs.declared.rejection.Rejection.{Rejection}
 use Rattle.btr_hist.specs.declared.rejection.Rejection.TheVariants.{NoStream, StreamExists, StreamLimit, BadSpec, NotWritable, VersionLimit}
 use Rattle.btr_hist.specs.Kernel.{is_good}
-use Rattle.btr_hist.specs.History.{ids, kinds, spec_of, is_output, latest, recorded, read_by, reads, nothing_read}
+use Rattle.btr_hist.specs.History.{ids, kinds, spec_of, is_output, latest, recorded, read_by, reads, nothing_read, earliest}
 use Rattle.btr_hist.specs.Legal.{first_some, when, rejection, change_rejection, points_rejection, next_bag, has_inputs, takes_reads, may_read, may_read_second, Follows}
 use Rattle.btr_hist.proofs.HistoryLemmas.{length-kinds, length-recorded, follows-none, follows-push, unknown}
 use Rattle.btr_hist.proofs.RejectionLemmas.{when_none}
+use Rattle.btr_hist.proofs.RetireLemmas.{follows-past}
 use Rattle.btr_hist.proofs.VersionLemmas.{from_end}
 use Rattle.btr_hist.proofs.AcceptedLemmas.{distillate_causes, new-defined}
 use Rattle.btr_entry.specs.Grammar.{IsSpec, KernelFits, IsSpelled}
+use Rattle.btr_entry.specs.Format.{format_of}
 use Rattle.btr_roll.specs.declared.roll.RollVersion.{RollVersion}
-use Rattle.btr_roll.specs.Roll.{RollStreamValue, ReadsFit, VersionFits, StreamFits, versions_count, ReadsSecond}
+use Rattle.btr_roll.specs.Roll.{RollStreamValue, has_firsts, kind_format, ReadsFit, VersionFits, StreamFits, versions_count, ReadsSecond}
 use Rattle.btr_roll.specs.Roll.{ReadInTurn, reads_of_versions, IsOutputAt, KeepsTableAt, IsRoll}
 use Rattle.btr_streams.specs.Past.{entry_numbers, creation_numbers, commit_numbers, stream_numbers}
-use Rattle.btr_streams.specs.Stage.{MakesStream, MakesVersion, change}
+use Rattle.btr_streams.specs.Stage.{MakesStream, MakesVersion, RetiresVersions, change}
 use Rattle.btr_streams.specs.Rolling.{rolled_versions, rolled_stream, rolled_from, roll_of}
 use Rattle.btr_streams.proofs.BoardStreamLemmas.{ids-more, kinds-more, commits-still, recorded-still, ids-still, kinds-still, commits-more, recorded-more, commits-other, recorded-other, unknown-recorded}
-use Rattle.btr_streams.proofs.BoardStreamLemmas.{create-makes, define-makes, commit-makes, distillate-makes}
+use Rattle.btr_streams.proofs.BoardStreamLemmas.{ids-kept, kinds-kept, commits-kept, recorded-kept}
+use Rattle.btr_streams.proofs.BoardStreamLemmas.{create-makes, define-makes, commit-makes, distillate-makes, retire-retires}
 use Rattle.btr_streams.proofs.NumberingLemmas.{numbers-counted}
 
 -- ---- reads in turn
@@ -228,6 +231,26 @@ module _ (h : List Entry) (was : Keeps h) (e : Entry) (accepted : rejection h e 
         ]);
       }
 
+  -- Versions that are retired: all else as before.
+  keeps-retired : (s first : ℕ) → RetiresVersions e s first → Keeps (h ++ e ∷ [])
+  keeps-retired s first retires =
+      let g = h ++ e ∷ [] in
+      let ids_are = ids-kept h e s first retires in
+      let same : (i : ℕ) → latest g i ≡ latest h i = λ i. ap (length {A = Change}) (commits-kept h e s first retires i) in
+      let grows : (i : ℕ) → latest h i ≤ latest g i = λ i. omega (arith, same i) in
+      let defined : (i : ℕ) → spec_of g i ≡ spec_of h i = λ i. ap (λ l. slice_index_or l i None) (kinds-kept h e s first retires) in
+      record {
+        follows = follows-push h e was.follows accepted;
+        few = let low = was.few in omega (arith, ap (length {A = ℕ}) ids_are);
+        differ = subst (AllPairs (λ a b. a ≢ b)) (sym ids_are) was.differ;
+        fit = subst (AllByRecursion (λ n. n < 2 ^ 128)) (sym ids_are) was.fit;
+        short = λ i. let low = was.short i in omega (arith, same i);
+        specs = λ i. subst (λ o. IfSome o (IsSpecAt i)) (sym (defined i)) (was.specs i);
+        turn = λ i.
+            let now = turn-more (latest h) (latest g) grows (spec_of h i) (recorded h i) (was.turn i) in
+            subst (λ o. Turn (latest g) o (recorded g i)) (sym (defined i)) (subst (Turn (latest g) (spec_of h i)) (sym (recorded-kept h e s first retires i)) now);
+      }
+
 -- ---- each entry
 
 -- A plain stream has read nothing with one version more of a user's.
@@ -308,6 +331,8 @@ keeps-push h was (Distillate s cut added new) spelled accepted =
     let takes = not-false (takes_reads h s (spec_of h s) new) (when_none (not (takes_reads h s (spec_of h s) new)) NotWritable none.1.0) in
     let room = leb-false MAX_VERSIONS (latest h s) (when_none (nat_le MAX_VERSIONS (latest h s)) VersionLimit none.1.1.1.0) in
     keeps-version h was (Distillate s cut added new) accepted s (change cut added) (Some new) (distillate-makes s cut added new) room (turn-output h s (spec_of h s) new takes (was.turn s))
+keeps-push h was (Retire s first) spelled accepted =
+    keeps-retired h was (Retire s first) accepted s first (retire-retires s first)
 
 each-at : {X : Type 0} (P : X → Type 0) (xs : List X) (n : ℕ) (x : X) → AllByRecursion P xs → slice_get xs n ≡ Some x → P x
 each-at P [] n x all at = absurd (cc)
@@ -418,6 +443,35 @@ versions-fit output [] numbers reads = tt
 versions-fit output (v ∷ vs) numbers reads =
     (record { entry_fits = numbers.0.0; root_fits = numbers.0.1; reads_fit = reads.0 }, versions-fit output vs numbers.1 reads.1)
 
+-- ---- the formats of entries
+
+-- Entries whose extents have the format 1 retire no version.
+none-retired : (h : List Entry) (format : ℕ) → AllByRecursion (λ e. format_of e ≤ format) h → has_firsts format ≡ false → (stream : ℕ) → earliest h stream ≡ 0
+unfolding format_of
+none-retired [] format within without stream = refl
+none-retired (Create id ∷ h) format within without stream = none-retired h format within.1 without stream
+none-retired (Define id spec ∷ h) format within without stream = none-retired h format within.1 without stream
+none-retired (Commit s cut added ∷ h) format within without stream = none-retired h format within.1 without stream
+none-retired (Distillate s cut added reads ∷ h) format within without stream = none-retired h format within.1 without stream
+none-retired (Retire s first ∷ h) format within without stream =
+    let low : format < 2 = leb-false 2 format without in
+    absurd (omega (arith, within.0, low))
+
+-- The format of a stream is that of the entry that made it.
+kinds-within : (h : List Entry) (format : ℕ) → AllByRecursion (λ e. format_of e ≤ format) h → AllByRecursion (λ o. kind_format o ≤ format) (kinds h)
+unfolding format_of
+kinds-within [] format within = tt
+kinds-within (Create id ∷ h) format within = (within.0, kinds-within h format within.1)
+kinds-within (Define id spec ∷ h) format within = (within.0, kinds-within h format within.1)
+kinds-within (Commit s cut added ∷ h) format within = kinds-within h format within.1
+kinds-within (Distillate s cut added reads ∷ h) format within = kinds-within h format within.1
+kinds-within (Retire s first ∷ h) format within = kinds-within h format within.1
+
+get-each-within : {X : Type 0} (P : X → Type 0) (xs : List X) (i : ℕ) (d : X) → i < length xs → AllByRecursion P xs → P (slice_index_or xs i d)
+get-each-within P [] i d low all = absurd (omega (arith, low))
+get-each-within P (x ∷ xs) zero d low all = all.0
+get-each-within P (x ∷ xs) (suc i) d low all = get-each-within P xs i d (omega (arith, low)) all.1
+
 -- ---- the roll of a history
 
 module _ (h : List Entry) (roots : List ℕ) where
@@ -474,8 +528,8 @@ module _ (h : List Entry) (roots : List ℕ) where
       let one : (i : ℕ) → 1 + i ≡ suc i = λ i. omega arith in
       reads-are s 1 (drop 1 (stream_numbers h s)) (recorded h s) (versions-counted s low ∙ sym (length-recorded h s)) (λ i. ap (read_by h s) (one i))
 
-  module _ (kept : Keeps h) (roots_fit : AllByRecursion (λ r. r < 2 ^ 64) roots) (few : length h < 2 ^ 64) where
-    stream-fits : (s id : ℕ) → slice_get (ids h) s ≡ Some id → StreamFits (rolled_stream h roots s id)
+  module _ (format : ℕ) (kept : Keeps h) (roots_fit : AllByRecursion (λ r. r < 2 ^ 64) roots) (few : length h < 2 ^ 64) (within : AllByRecursion (λ e. format_of e ≤ format) h) where
+    stream-fits : (s id : ℕ) → slice_get (ids h) s ≡ Some id → StreamFits format (rolled_stream h roots s id)
     stream-fits s id at =
         let low : s < length (ids h) = slice_get_within (ids h) s id at in
         let numbers = stream-numbers-low h s (2 ^ 64) few in
@@ -486,16 +540,21 @@ module _ (h : List Entry) (roots : List ℕ) where
           id_fits = each-at (λ n. n < 2 ^ 128) (ids h) s id kept.fit at;
           entry_fits = get-each (λ n. n < 2 ^ 64) (stream_numbers h s) 0 0 none numbers;
           spec_fits = let streams = kept.few in spec-fits s (spec_of h s) (omega arith) (kept.specs s);
+          kind_fits = get-each-within (λ o. kind_format o ≤ format) (kinds h) s None (omega (arith, low, length-kinds h)) (kinds-within h format within);
           few_versions = omega (arith, versions-length s 1 (drop 1 (stream_numbers h s)), versions-counted s low);
+          first_fits = record {
+            there = omega (arith, versions-length s 1 (drop 1 (stream_numbers h s)), versions-counted s low, follows-past h s kept.follows);
+            none = λ without. none-retired h format within without s;
+          };
           versions_fit = versions-fit (is_some (spec_of h s)) _ (numbers-fit s 1 (drop 1 (stream_numbers h s)) (drop-each (λ n. n < 2 ^ 64) (stream_numbers h s) numbers) roots_fit) (subst (AllByRecursion (ReadsFit (is_some (spec_of h s)))) (sym (stream-reads s low)) reads_ok);
         }
 
-    streams-fit : (n : ℕ) (xs : List ℕ) → ((i id : ℕ) → slice_get xs i ≡ Some id → StreamFits (rolled_stream h roots (n + i) id)) → AllByRecursion StreamFits (rolled_from h roots n xs)
+    streams-fit : (n : ℕ) (xs : List ℕ) → ((i id : ℕ) → slice_get xs i ≡ Some id → StreamFits format (rolled_stream h roots (n + i) id)) → AllByRecursion (StreamFits format) (rolled_from h roots n xs)
     streams-fit n [] each = tt
     streams-fit n (x ∷ xs) each =
         let here : n + 0 ≡ n = omega arith in
         let step : (i : ℕ) → n + suc i ≡ (n + 1) + i = λ i. omega arith in
-        (subst (λ (k : ℕ). StreamFits (rolled_stream h roots k x)) here (each 0 x refl), streams-fit (n + 1) xs (λ i id at. subst (λ (k : ℕ). StreamFits (rolled_stream h roots k id)) (step i) (each (suc i) id at)))
+        (subst (λ (k : ℕ). StreamFits format (rolled_stream h roots k x)) here (each 0 x refl), streams-fit (n + 1) xs (λ i id at. subst (λ (k : ℕ). StreamFits format (rolled_stream h roots k id)) (step i) (each (suc i) id at)))
 
     there : (s : ℕ) → s < length (ids h) → slice_get (roll_of h roots) s ≡ Some (rolled_stream h roots s (get_or (ids h) s 0))
     there s low =
@@ -526,11 +585,11 @@ module _ (h : List Entry) (roots : List ℕ) where
           in_turn = subst (ReadInTurn streams spec (nothing_read spec)) same (read-in-turn streams spec (nothing_read spec) (recorded h s) more);
         }
 
-    is-roll : IsRoll (roll_of h roots)
+    is-roll : IsRoll format (roll_of h roots)
     is-roll = record {
       fits = record {
         few_streams = let streams = kept.few in omega (arith, roll-length 0 (ids h));
-        each_fits = streams-fit 0 (ids h) (λ i id at. let place : i ≡ 0 + i = omega arith in subst (λ (k : ℕ). StreamFits (rolled_stream h roots k id)) place (stream-fits i id at));
+        each_fits = streams-fit 0 (ids h) (λ i id at. let place : i ≡ 0 + i = omega arith in subst (λ (k : ℕ). StreamFits format (rolled_stream h roots k id)) place (stream-fits i id at));
       };
       table = record {
         ids_differ = subst (AllPairs (λ a b. a ≢ b)) (sym (roll-ids 0 (ids h))) kept.differ;
@@ -541,6 +600,7 @@ module _ (h : List Entry) (roots : List ℕ) where
       };
     }
 
--- The roll of a history of which each entry is accepted and has a spelling keeps the table, if the roots fit in eight bytes.
-pub roll-fits : (h : List Entry) (roots : List ℕ) → Follows h → AllByRecursion IsSpelled h → AllByRecursion (λ root. root < 2 ^ 64) roots → length h < 2 ^ 64 → IsRoll (roll_of h roots)
-roll-fits h roots follows spelled fit few = is-roll h roots (keeps h follows spelled) fit few
+-- The roll of a history of which each entry is accepted and has a spelling keeps the table, if the roots fit in eight bytes, and if the
+-- format is at least that of each entry.
+pub roll-fits : (h : List Entry) (roots : List ℕ) (format : ℕ) → Follows h → AllByRecursion IsSpelled h → AllByRecursion (λ root. root < 2 ^ 64) roots → length h < 2 ^ 64 → AllByRecursion (λ e. format_of e ≤ format) h → IsRoll format (roll_of h roots)
+roll-fits h roots format follows spelled fit few within = is-roll h roots format (keeps h follows spelled) fit few within

@@ -1,5 +1,5 @@
 -- What the outline of a board's roll shows of the board, and what the tests of a board find by it.
-use Rattle.std.specs.Prelude.{◌≡◌, ℕ, ◌+◌, ◌-◌, ◌≤◌, nat_eq, nat_le, nat_lt, not, Bool, true, false, List, [], ◌∷◌, length, map, drop, slice_get, Option, Some}
+use Rattle.std.specs.Prelude.{◌≡◌, ℕ, ◌+◌, ◌-◌, ◌<◌, ◌≤◌, ◌⊎◌, nat_eq, nat_le, nat_lt, not, ◌||◌, Bool, true, false, List, [], ◌∷◌, length, map, drop, slice_get, Option, Some}
 use Rattle.std.specs.List.{list_any}
 use Rattle.std.specs.Option.{option_map, is_some, unwrap_or}
 use Rattle.std.proofs.Common.{suc, refl, sym, ap, ◌∙◌, arith, inl, inr}
@@ -12,13 +12,13 @@ use Rattle.btr_tree.specs.Root.{TreeValue}
 use Rattle.btr_hist.specs.declared.kernel.Spec.{Spec}
 use Rattle.btr_hist.specs.declared.kernel.Reads.{Reads}
 use Rattle.btr_hist.specs.declared.rejection.Rejection.{Rejection}
-use Rattle.btr_hist.specs.declared.rejection.Rejection.TheVariants.{NoStream, StreamExists, NotWritable, StreamLimit, VersionLimit}
+use Rattle.btr_hist.specs.declared.rejection.Rejection.TheVariants.{NoStream, StreamExists, NotWritable, StreamLimit, VersionLimit, BadFirst}
 use Rattle.btr_hist.specs.History.{nothing_read}
 use Rattle.btr_hist.specs.Legal.{first_some, when, change_rejection, distillate_change_rejection}
 use Rattle.btr_streams.specs.Board.{Versions, Kept, IsGrown, ids_of, reads_count, read_at}
 use Rattle.btr_streams.specs.Rolling.{kept_versions, kept_stream, rolled}
 use Rattle.btr_streams.specs.Outline.{Outlined, no_stream, stream_at, ids_in, last_read, outlined_in_roll, outline_in, takes_reads_in}
-use Rattle.btr_streams.specs.Outline.{create_refusal, commit_refusal, distillate_refusal}
+use Rattle.btr_streams.specs.Outline.{create_refusal, commit_refusal, distillate_refusal, held_in_all, retire_refusal}
 
 -- ---- a stream
 
@@ -97,6 +97,11 @@ module _ (b : Kept) where
           let at = stream_at o s in
           ap (λ t. first_some (when t NoStream ∷ when (not (takes_reads_in o at.spec at.reads new)) NotWritable ∷ distillate_change_rejection c ∷ when (nat_le MAX_VERSIONS at.latest) VersionLimit ∷ [])) many
 
+      pub retire-unknown : (first : ℕ) → retire_refusal o s first ≡ Some NoStream
+      retire-unknown first =
+          let at = stream_at o s in
+          ap (λ t. first_some (when t NoStream ∷ when (nat_le first at.earliest || nat_lt at.latest first) (BadFirst first at.earliest at.latest) ∷ held_in_all s first 0 o)) many
+
     -- ---- a stream
 
     module _ (kept : Versions) (at : slice_get b.streams s ≡ Some kept) where
@@ -134,3 +139,35 @@ module _ (b : Kept) where
           let there = known in
           let full = limit in
           λ i. first_some (when (there i) NoStream ∷ when (not (takes i)) NotWritable ∷ of_change i ∷ when (full i) VersionLimit ∷ [])
+
+      -- Versions may not be retired for what the tests find of the stream and of all streams.
+      pub retire-refused : (first : ℕ) → retire_refusal o s first ≡ first_some (when (nat_le first kept.earliest || nat_lt (length kept.trees - 1) first) (BadFirst first kept.earliest (length kept.trees - 1)) ∷ held_in_all s first 0 o)
+      retire-refused first =
+          let there = known in
+          let earlier : (stream_at o s).earliest ≡ kept.earliest = ap (λ (x : Outlined). x.earliest) at-rolled in
+          let last = latest-at in
+          λ i. first_some (when (there i) NoStream ∷ when (nat_le first (earlier i) || nat_lt (last i) first) (BadFirst first (earlier i) (last i)) ∷ held_in_all s first 0 o)
+
+      module _ (first earlier latest : ℕ) (earlier_is : earlier ≡ kept.earliest) (latest_is : latest ≡ length kept.trees - 1) where
+        abbrev after-tests : Bool → ℕ → ℕ → Option Rejection
+        after-tests bad e l = first_some (when bad (BadFirst first e l) ∷ held_in_all s first 0 o)
+
+        retire-tests : (bad : Bool) → (nat_le first earlier || nat_lt latest first) ≡ bad → after-tests bad earlier latest ≡ retire_refusal o s first
+        retire-tests bad found =
+            (λ i. after-tests (sym found i) earlier latest)
+            ∙ (λ i. after-tests (nat_le first (earlier_is i) || nat_lt (latest_is i) first) (earlier_is i) (latest_is i))
+            ∙ sym (retire-refused first)
+
+        -- The version is not after the first one so far, or the stream does not have it.
+        pub retire-bad : (first ≤ earlier) ⊎ (latest < first) → Some (BadFirst first earlier latest) ≡ retire_refusal o s first
+        retire-bad (inl low) = retire-tests true (ap (λ t. t || nat_lt latest first) (le-leb first earlier low))
+        retire-bad (inr high) =
+            retire-tests true (elim (nat_le first earlier) as (λ t. (t || nat_lt latest first) ≡ true) [
+              | true ↦ refl
+              | false ↦ lt-ltb latest first high
+            ])
+
+        -- Else it is refused exactly if a stream holds one of the versions before it.
+        pub retire-held : earlier < first → first ≤ latest → first_some (held_in_all s first 0 o) ≡ retire_refusal o s first
+        retire-held later there =
+            retire-tests false (ap (λ t. t || nat_lt latest first) (lt-leb first earlier later) ∙ le-ltb latest first there)

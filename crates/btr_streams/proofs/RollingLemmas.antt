@@ -65,7 +65,8 @@ module _ (h : List Entry) (roots : List ℕ) where
       let all = same ∙ ap (λ (ns : List ℕ). rolled_versions h roots stream 1 (drop 1 ns)) is.numbered in
       let first = ap (λ (ns : List ℕ). get_or ns 0 0) is.numbered in
       let defined = is.defined in
-      λ i. record { id = s.id; entry = first i; spec = sym defined i; versions = all i }
+      let retired = is.retired in
+      λ i. record { id = s.id; entry = first i; spec = sym defined i; first = retired i; versions = all i }
 
   streams-are : (n : ℕ) (xs : List ℕ) (ss : List Versions) → length ss ≡ length xs → ((i : ℕ) (s : Versions) → slice_get ss i ≡ Some s → (kept_stream s ≡ rolled_stream h roots (n + i) s.id) × (slice_get xs i ≡ Some s.id)) → map kept_stream ss ≡ rolled_from h roots n xs
   streams-are n [] [] long each = refl
@@ -128,14 +129,14 @@ versions-push s (suc i) so_far after v some low is were more =
     let begin : suc i - 1 ≡ i = omega arith in
     more ∙ ap (λ (l : List RollVersion). l ++ v ∷ []) (were ∙ ap (λ (k : ℕ). take k all) begin) ∙ sym (take-next all i v here) ∙ ap (λ (k : ℕ). take k all) end
 
+one-less : {X : Type 0} (xs : List X) → length (drop 1 xs) ≡ length xs - 1
+one-less [] = refl
+one-less (x ∷ xs) = omega arith
+
 -- The versions up to one are all, if the stream has no more.
 pub versions-all : (s : Versions) (version : ℕ) (so_far : List RollVersion) → 1 ≤ version → length s.trees ≤ version → so_far ≡ take (version - 1) (kept_versions s 1 (drop 1 s.trees)) → so_far ≡ kept_versions s 1 (drop 1 s.trees)
 versions-all s version so_far some past are =
     are ∙ take_all (version - 1) (kept_versions s 1 (drop 1 s.trees)) (omega (arith, length-versions s 1 (drop 1 s.trees), one-less s.trees))
-  where
-    one-less : {X : Type 0} (xs : List X) → length (drop 1 xs) ≡ length xs - 1
-    one-less [] = refl
-    one-less (x ∷ xs) = omega arith
 
 -- The streams before a place, and the one at the place.
 pub streams-push : (b : Kept) (place : ℕ) (kept : Versions) (so_far after : List RollStreamValue) (s : RollStreamValue) → slice_get b.streams place ≡ Some kept → s ≡ kept_stream kept → so_far ≡ take place (rolled b) → after ≡ so_far ++ s ∷ [] → after ≡ take (place + 1) (rolled b)
@@ -150,7 +151,7 @@ good-streams [] each = tt
 good-streams (s ∷ streams) each = ((each 0 s refl).good, good-streams streams (λ i v at. each (suc i) v at))
 
 -- The roll of a board can be encoded, whatever the history of the board is.
-pub rolled-bounds : (b : Kept) (number : ℕ → Option ℕ) → IsWellFormed b.streams number → IsRollWithinBounds (rolled b)
+pub rolled-bounds : (b : Kept) (number : ℕ → Option ℕ) {readers : List (List ℕ)} → IsWellFormed b.streams number readers → IsRollWithinBounds (rolled b)
 rolled-bounds b number formed = record {
   few_streams = omega (arith, formed.few, length-map b.streams kept_stream);
   good_specs = good-streams b.streams (λ i s at. stream-grown b.streams number formed i s at);

@@ -14,13 +14,14 @@ use Rattle.btr_hist.specs.declared.kernel.Reads.{Reads}
 use Rattle.btr_hist.specs.declared.rejection.Rejection.{Rejection}
 use Rattle.btr_hist.specs.declared.rejection.Rejection.TheVariants.{VersionLimit}
 use Rattle.btr_hist.specs.History.{ids, spec_of, latest, read_by}
-use Rattle.btr_hist.specs.Legal.{when, create_rejection, define_rejection, takes_reads, Follows}
+use Rattle.btr_hist.specs.Legal.{when, create_rejection, define_rejection, retire_rejection, takes_reads, Follows}
 use Rattle.btr_hist.proofs.HistoryLemmas.{unknown}
 use Rattle.btr_streams.specs.Board.{Versions, Kept, HasTrees, IsStreamOf, IsBoardOf, HasStreamOf, HasStreamsOf, latest_of, ids_of}
 use Rattle.btr_streams.specs.Rolling.{kept_stream, rolled}
 use Rattle.btr_streams.specs.Outline.{Outlined, outlined, outline_from, outline_of, outlined_in_roll, outline_in, stream_at, takes_reads_in}
-use Rattle.btr_streams.specs.Outline.{create_refusal, define_refusal, refusal}
-use Rattle.btr_streams.proofs.OutlineLemmas.{IsOutlineOf, outline-of, takes-here, create-same, define-same}
+use Rattle.btr_streams.specs.Outline.{create_refusal, define_refusal, retire_refusal, refusal}
+use Rattle.btr_streams.proofs.BoardStreamLemmas.{unknown-earliest}
+use Rattle.btr_streams.proofs.OutlineLemmas.{IsOutlineOf, outline-of, takes-here, create-same, define-same, retire-same}
 use Rattle.btr_streams.proofs.RolledOutline.{latest-rolled, reads-rolled, at-rolled}
 
 -- A stream that is not refused for the number of its versions may have one more.
@@ -35,7 +36,8 @@ room-if count none = elim (cases_lt MAX_VERSIONS count) [
 -- ---- boards of a history
 
 pub has-stream : (h : List Entry) (s : ℕ) (v : Versions) → IsStreamOf h s v → HasStreamOf h s v
-has-stream h s v is = record { named = is.named; defined = is.defined; counted = is.kept.counted; read = is.read; numbered = is.numbered }
+has-stream h s v is =
+    record { named = is.named; defined = is.defined; counted = is.kept.counted; read = is.read; numbered = is.numbered; retired = is.retired }
 
 -- The board of a history has its streams.
 pub has-streams : (h : List Entry) (b : Kept) → IsBoardOf h b → HasStreamsOf h b
@@ -44,6 +46,7 @@ has-streams h b of = record {
   each = λ s d low. has-stream h s (slice_index_or b.streams s d) (of.each s d low);
   entries = of.entries;
   beyond = λ s past. unknown h s of.follows past;
+  unretired = λ s past. unknown-earliest h s of.follows past;
 }
 
 -- A board that has the streams of a history, and the trees of their commits, is that of the history, if each entry follows those
@@ -51,7 +54,7 @@ has-streams h b of = record {
 pub is-board : (h : List Entry) (b : Kept) → HasStreamsOf h b → ((s : ℕ) (d : Versions) → s < length (ids h) → HasTrees h s (slice_index_or b.streams s d).trees) → Follows h → IsBoardOf h b
 is-board h b has trees follows = record {
   counted = has.counted;
-  each = λ s d low. let is = has.each s d low in record { named = is.named; defined = is.defined; kept = trees s d low; read = is.read; numbered = is.numbered };
+  each = λ s d low. let is = has.each s d low in record { named = is.named; defined = is.defined; kept = trees s d low; read = is.read; numbered = is.numbered; retired = is.retired };
   entries = has.entries;
   follows = follows;
 }
@@ -67,7 +70,7 @@ module _ (h : List Entry) (b : Kept) (has : HasStreamsOf h b) where
   pub ids-of : ids_of b.streams ≡ ids h
   ids-of =
       let name : Versions → ℕ = λ s. s.id in
-      let d : Versions = record { id = 0; spec = None; trees = []; reads = []; numbers = [] } in
+      let d : Versions = record { id = 0; spec = None; trees = []; reads = []; numbers = []; earliest = 0 } in
       let size : length (ids_of b.streams) ≡ length b.streams = length-map b.streams name in
       ext_get_or 0 (ids_of b.streams) (ids h) (size ∙ has.counted) (λ i low.
       let kept = slice_index_or b.streams i d in
@@ -77,7 +80,7 @@ module _ (h : List Entry) (b : Kept) (has : HasStreamsOf h b) where
 
   -- The outline of the history shows what it has.
   pub outline-kept : IsOutlineOf h (outline_of h)
-  outline-kept = outline-of h has.beyond
+  outline-kept = outline-of h has.beyond has.unretired
 
   module _ (s : ℕ) where
     pub latest-beyond : length b.streams ≤ s → latest_of h s ≡ None
@@ -104,9 +107,10 @@ stream-outlined h stream s is =
     let counted = is.counted in
     let last : length s.trees - 1 ≡ latest h stream = omega arith in
     let defined = sym is.defined in
+    let retired = is.retired in
     let version = latest-rolled s ∙ last in
     let read = reads-rolled s ∙ sym (is.read.each (length s.trees - 1)) ∙ ap (read_by h stream) last in
-    λ i. record { id = s.id; spec = defined i; latest = version i; reads = read i }
+    λ i. record { id = s.id; spec = defined i; latest = version i; reads = read i; earliest = retired i }
 
 streams-outlined : (h : List Entry) (n : ℕ) (xs : List ℕ) (ss : List Versions) → length ss ≡ length xs → ((i : ℕ) (s : Versions) → slice_get ss i ≡ Some s → (outlined_in_roll (kept_stream s) ≡ outlined h (n + i) s.id) × (slice_get xs i ≡ Some s.id)) → outline_in (map kept_stream ss) ≡ outline_from h n xs
 streams-outlined h n [] [] long each = refl
@@ -141,6 +145,10 @@ create-of h b has id =
 pub define-of : (h : List Entry) (b : Kept) → HasStreamsOf h b → (id : ℕ) (spec : Spec) → define_refusal (outline_in (rolled b)) id spec ≡ define_rejection h id spec
 define-of h b has id spec =
     ap (λ o. define_refusal o id spec) (rolled-outline h b has) ∙ sym (define-same h (outline_of h) (outline-kept h b has) id spec)
+
+pub retire-of : (h : List Entry) (b : Kept) → HasStreamsOf h b → (s first : ℕ) → retire_refusal (outline_in (rolled b)) s first ≡ retire_rejection h s first
+retire-of h b has s first =
+    ap (λ o. retire_refusal o s first) (rolled-outline h b has) ∙ sym (retire-same h (outline_of h) (outline-kept h b has) s first)
 
 -- A distillate may have the reads after the history that it may have by the outline of the roll.
 pub takes-of : (h : List Entry) (b : Kept) → HasStreamsOf h b → (s : ℕ) (kept : Versions) → slice_get b.streams s ≡ Some kept → (new : Reads) → takes_reads_in (outline_in (rolled b)) kept.spec (outlined_in_roll (kept_stream kept)).reads new ≡ takes_reads h s (spec_of h s) new

@@ -1,5 +1,5 @@
--- What a board keeps of a history: of each stream the id, the spec, the trees of its versions, what they have read, and the numbers of
--- the entries that made them; and the number of entries.
+-- What a board keeps of a history: of each stream the id, the spec, the trees of its versions, what they have read, the numbers of the
+-- entries that made them, and the first version that is not retired; and the number of entries.
 use Rattle.std.specs.Prelude.{◌≡◌, ℕ, zero, suc, ◌+◌, ◌-◌, ◌<◌, ◌≤◌, nat_eq, nat_le, List, length}
 use Rattle.std.specs.Prelude.{map, slice_get, slice_index_or, Option, Some, None, IfSome, true, if◌then◌else◌}
 use Rattle.std.specs.List.{position_from, AllByRecursion}
@@ -11,18 +11,21 @@ use Rattle.btr_hist.specs.declared.entry.Entry.{Entry}
 use Rattle.btr_hist.specs.declared.kernel.Spec.{Spec}
 use Rattle.btr_hist.specs.declared.kernel.Reads.{Reads}
 use Rattle.btr_hist.specs.Kernel.{is_good}
-use Rattle.btr_hist.specs.History.{ids, spec_of, latest, read_by}
+use Rattle.btr_hist.specs.History.{ids, spec_of, latest, read_by, earliest}
 use Rattle.btr_hist.specs.Legal.{Follows}
 use Rattle.btr_streams.specs.Past.{commits_to, stream_numbers}
+use Rattle.btr_streams.specs.Readers.{AreReaders}
 
 -- A stream: its id, the spec of an output, the trees of its versions, from version 0 on, what the versions of an output have read, from
--- version 1 on, and the numbers of the entries that made its versions, from version 0 on. A plain stream has no spec and no reads.
+-- version 1 on, the numbers of the entries that made its versions, from version 0 on, and the first version that is not retired, 0 if none
+-- is. A plain stream has no spec and no reads. The trees of retired versions are kept.
 pub record Versions : Type 0 where
   pub id : ℕ
   pub spec : Option Spec
   pub trees : List TreeValue
   pub reads : List Reads
   pub numbers : List ℕ
+  pub earliest : ℕ
 
 -- What contracts see of a board: the streams in order of creation, and the number of entries.
 pub record Kept : Type 0 where
@@ -40,6 +43,10 @@ place_of ids id = position_from (nat_eq id) 0 ids
 -- The ids of streams, in order of creation.
 abbrev pub ids_of : List Versions → List ℕ
 ids_of streams = map (λ s. s.id) streams
+
+-- The specs of streams, in order of creation: none of a plain stream.
+abbrev pub specs_of : List Versions → List (Option Spec)
+specs_of streams = map (λ s. s.spec) streams
 
 -- The tree is that of some past.
 abbrev pub HasPast : TreeValue → Type 0
@@ -60,7 +67,7 @@ abbrev pub HasGoodSpec : Option Spec → Type 0
 HasGoodSpec spec = IfSome spec (λ s. is_good s ≡ true)
 
 -- What holds of each stream of each board: it has a version, not too many versions, and each tree is that of some past; it has a number
--- for each version, and of an output the reads of each version but version 0, and a good spec.
+-- for each version, and of an output the reads of each version but version 0, and a good spec; and its latest version is not retired.
 pub record IsGrown (s : Versions) : Type 0 where
   pub some : 1 ≤ length s.trees
   pub limited : length s.trees ≤ MAX_VERSIONS + 1
@@ -68,13 +75,15 @@ pub record IsGrown (s : Versions) : Type 0 where
   pub numbered : length s.numbers ≡ length s.trees
   pub read : length s.reads ≡ reads_count s.spec (length s.trees)
   pub good : HasGoodSpec s.spec
+  pub present : s.earliest < length s.trees
 
--- What holds of each board, whatever its history is: there are not too many streams, and `number` gives each id the place of the
--- first stream with it.
-pub record IsWellFormed (streams : List Versions) (number : ℕ → Option ℕ) : Type 0 where
+-- What holds of each board, whatever its history is: there are not too many streams, `number` gives each id the place of the first stream
+-- with it, and `readers` are the readers of each stream.
+pub record IsWellFormed (streams : List Versions) (number : ℕ → Option ℕ) (readers : List (List ℕ)) : Type 0 where
   pub few : length streams ≤ MAX_STREAMS
   pub each : (place : ℕ) (d : Versions) → place < length streams → IsGrown (slice_index_or streams place d)
   pub numbered : (id : ℕ) → number id ≡ place_of (ids_of streams) id
+  pub read : AreReaders (specs_of streams) readers
 
 -- The trees of a stream's versions, from version 0 on.
 pub record HasTrees (h : List Entry) (stream : ℕ) (trees : List TreeValue) : Type 0 where
@@ -92,30 +101,34 @@ pub record HasReads (h : List Entry) (stream : ℕ) (s : Versions) : Type 0 wher
   pub counted : length s.reads ≡ reads_count s.spec (length s.trees)
   pub each : (version : ℕ) → read_by h stream version ≡ read_at s.reads version
 
--- The stream of this number is kept as the history has it: its id, its spec, the trees of its versions, what they have read, and the
--- numbers of the entries that made them.
+-- The stream of this number is kept as the history has it: its id, its spec, the trees of its versions, what they have read, the
+-- numbers of the entries that made them, and the first version that is not retired.
 pub record IsStreamOf (h : List Entry) (stream : ℕ) (s : Versions) : Type 0 where
   pub named : slice_get (ids h) stream ≡ Some s.id
   pub defined : spec_of h stream ≡ s.spec
   pub kept : HasTrees h stream s.trees
   pub read : HasReads h stream s
   pub numbered : s.numbers ≡ stream_numbers h stream
+  pub retired : s.earliest ≡ earliest h stream
 
 -- The stream of this number has what the history has of it beside its points: its id, its spec, the number of its versions, what they
--- have read, and the numbers of the entries that made them.
+-- have read, the numbers of the entries that made them, and the first version that is not retired.
 pub record HasStreamOf (h : List Entry) (stream : ℕ) (s : Versions) : Type 0 where
   pub named : slice_get (ids h) stream ≡ Some s.id
   pub defined : spec_of h stream ≡ s.spec
   pub counted : length s.trees ≡ latest h stream + 1
   pub read : HasReads h stream s
   pub numbered : s.numbers ≡ stream_numbers h stream
+  pub retired : s.earliest ≡ earliest h stream
 
--- The board has the streams of the history, and the number of its entries, whatever its trees are. No other number has a version.
+-- The board has the streams of the history, and the number of its entries, whatever its trees are. No other number has a version, or one
+-- that is retired.
 pub record HasStreamsOf (h : List Entry) (b : Kept) : Type 0 where
   pub counted : length b.streams ≡ length (ids h)
   pub each : (stream : ℕ) (d : Versions) → stream < length (ids h) → HasStreamOf h stream (slice_index_or b.streams stream d)
   pub entries : b.entries ≡ length h
   pub beyond : (stream : ℕ) → length (ids h) ≤ stream → latest h stream ≡ 0
+  pub unretired : (stream : ℕ) → length (ids h) ≤ stream → earliest h stream ≡ 0
 
 -- The board is that of the history: it has its streams, and the number of its entries. Each entry is accepted after those before
 -- it: it may follow them as to streams, versions, reads and numbers of points, which is what the board tests.

@@ -1,6 +1,7 @@
 -- the commits that a version has, and the numbers of the entries that made the versions
 pub mod Past
 -- what is kept in memory of a history, and what contracts see of it
+pub mod Readers
 pub mod Board
 pub mod Snapshot
 -- what a checkpoint has

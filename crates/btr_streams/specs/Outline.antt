@@ -1,36 +1,44 @@
 -- What shows of a history beside its points, its outline; the outline of a roll; and why an entry may not follow a history, by the
 -- outline and by the points.
-use Rattle.std.specs.Prelude.{◌≡◌, ℕ, ◌+◌, Bool, true, false, not, ◌&&◌, nat_eq, nat_lt, nat_le, List, [], ◌∷◌, length, map}
+use Rattle.std.specs.Prelude.{◌≡◌, ℕ, ◌+◌, Bool, true, false, not, ◌&&◌, ◌||◌, nat_eq, nat_lt, nat_le, List, [], ◌∷◌, length, map}
 use Rattle.std.specs.Prelude.{slice_index_or, Option, Some, None}
 use Rattle.std.specs.List.{list_any}
 use Rattle.std.specs.Option.{unwrap_or, is_some}
 use Rattle.btr_base.specs.declared.limits.TheConstants.{MAX_STREAMS, MAX_VERSIONS}
 use Rattle.btr_base.specs.Commit.{Change}
 use Rattle.btr_hist.specs.declared.entry.Entry.{Entry}
-use Rattle.btr_hist.specs.declared.entry.Entry.TheVariants.{Create, Commit, Define, Distillate}
+use Rattle.btr_hist.specs.declared.entry.Entry.TheVariants.{Create, Commit, Define, Distillate, Retire}
 use Rattle.btr_hist.specs.declared.kernel.Spec.{Spec}
 use Rattle.btr_hist.specs.declared.kernel.Reads.{Reads}
 use Rattle.btr_hist.specs.declared.rejection.Rejection.{Rejection}
-use Rattle.btr_hist.specs.declared.rejection.Rejection.TheVariants.{NoStream, StreamExists, NotWritable, StreamLimit, VersionLimit, BadSpec}
+use Rattle.btr_hist.specs.declared.rejection.Rejection.TheVariants.{NoStream, StreamExists, NotWritable, StreamLimit, VersionLimit, BadSpec, BadFirst}
 use Rattle.btr_hist.specs.Kernel.{is_good}
-use Rattle.btr_hist.specs.History.{ids, spec_of, latest, read_by, nothing_read}
-use Rattle.btr_hist.specs.Legal.{first_some, when, next_bag, change_rejection, distillate_change_rejection, points_rejection}
+use Rattle.btr_hist.specs.History.{ids, spec_of, latest, read_by, nothing_read, earliest}
+use Rattle.btr_hist.specs.Legal.{first_some, when, next_bag, change_rejection, distillate_change_rejection, points_rejection, least_read, held_at}
 use Rattle.btr_roll.specs.Roll.{RollStreamValue}
 use Rattle.btr_roll.specs.declared.roll.RollVersion.{RollVersion}
 
 -- ---- an outline
 
--- A stream of an outline: its id, the spec of an output, its latest version, and what that version has read.
+-- A stream of an outline: its id, the spec of an output, its latest version, what that version has read, and the first version that is not
+-- retired.
 pub record Outlined : Type 0 where
   pub id : ℕ
   pub spec : Option Spec
   pub latest : ℕ
   pub reads : Option Reads
+  pub earliest : ℕ
 
 -- The stream of a history with this number and this id.
 abbrev pub outlined : List Entry → ℕ → ℕ → Outlined
 outlined h stream id =
-    record { id = id; spec = spec_of h stream; latest = latest h stream; reads = read_by h stream (latest h stream) }
+    record {
+      id = id;
+      spec = spec_of h stream;
+      latest = latest h stream;
+      reads = read_by h stream (latest h stream);
+      earliest = earliest h stream;
+    }
 
 -- The streams of a history with these ids, of which the first has this number.
 abbrev pub outline_from : List Entry → ℕ → List ℕ → List Outlined
@@ -41,9 +49,9 @@ outline_from h stream (id ∷ more) = outlined h stream id ∷ outline_from h (s
 abbrev pub outline_of : List Entry → List Outlined
 outline_of h = outline_from h 0 (ids h)
 
--- What an outline has for a number that is not that of a stream: no spec, no version but version 0, and no reads.
+-- What an outline has for a number that is not that of a stream: no spec, no version but version 0, which is not retired, and no reads.
 abbrev pub no_stream : Outlined
-no_stream = record { id = 0; spec = None; latest = 0; reads = None }
+no_stream = record { id = 0; spec = None; latest = 0; reads = None; earliest = 0 }
 
 -- The stream with this number.
 abbrev pub stream_at : List Outlined → ℕ → Outlined
@@ -61,9 +69,10 @@ last_read [] = None
 last_read (v ∷ []) = v.reads
 last_read (v ∷ (w ∷ more)) = last_read (w ∷ more)
 
--- The stream of a roll: its id, its spec, the number of its versions, and what the last one has read.
+-- The stream of a roll: its id, its spec, the number of its versions, what the last one has read, and the first that is not retired.
 abbrev pub outlined_in_roll : RollStreamValue → Outlined
-outlined_in_roll s = record { id = s.id; spec = s.spec; latest = length s.versions; reads = last_read s.versions }
+outlined_in_roll s =
+    record { id = s.id; spec = s.spec; latest = length s.versions; reads = last_read s.versions; earliest = s.first }
 
 -- The outline of a roll, whose streams are in order of creation.
 abbrev pub outline_in : List RollStreamValue → List Outlined
@@ -136,21 +145,46 @@ distillate_refusal o stream c new = first_some (
     ∷ when (nat_le MAX_VERSIONS (stream_at o stream).latest) VersionLimit
     ∷ [])
 
+-- The reason why a stream with this number, this spec and these reads of its latest version holds the versions of another stream before the
+-- first: it is an output, and has read last one of them.
+abbrev pub held_in : ℕ → ℕ → ℕ → Option Spec → Option Reads → Option Rejection
+held_in stream first output None last = None
+held_in stream first output (Some spec) last = held_at first output (least_read stream spec (unwrap_or last (nothing_read spec)))
+
+-- The reason why the stream of this number holds versions of another stream before the first.
+abbrev pub held_by_in : List Outlined → ℕ → ℕ → ℕ → Option Rejection
+held_by_in o stream first output = held_in stream first output (stream_at o output).spec (stream_at o output).reads
+
+-- For each of these streams, which are numbered from the given number on, the reason why it holds versions before the first.
+abbrev pub held_in_all : ℕ → ℕ → ℕ → List Outlined → List (Option Rejection)
+held_in_all stream first number [] = []
+held_in_all stream first number (s ∷ more) = held_in stream first number s.spec s.reads ∷ held_in_all stream first (number + 1) more
+
+-- The reason why the versions of this stream before the first may not be retired.
+abbrev pub retire_refusal : List Outlined → ℕ → ℕ → Option Rejection
+retire_refusal o stream first = first_some (
+    when (nat_le (length o) stream) NoStream
+    ∷ when (nat_le first (stream_at o stream).earliest || nat_lt (stream_at o stream).latest first)
+    (BadFirst first (stream_at o stream).earliest (stream_at o stream).latest)
+    ∷ held_in_all stream first 0 o)
+
 -- The reason why an entry may not follow a history with this outline, if the outline shows one.
 abbrev pub refusal : List Outlined → Entry → Option Rejection
 refusal o (Create id) = create_refusal o id
 refusal o (Define id spec) = define_refusal o id spec
 refusal o (Commit stream cut added) = commit_refusal o stream (record { cut = cut; added = added })
 refusal o (Distillate stream cut added new) = distillate_refusal o stream (record { cut = cut; added = added }) new
+refusal o (Retire stream first) = retire_refusal o stream first
 
 -- ---- why an entry may not follow, by the points
 
--- The reason why the version that a commit makes may not hold its points. An entry that makes a stream adds no points.
+-- The reason why the version that a commit makes may not hold its points. An entry that makes no version adds no points.
 abbrev pub points_refusal : List Entry → Entry → Option Rejection
 points_refusal h (Create id) = None
 points_refusal h (Define id spec) = None
 points_refusal h (Commit stream cut added) = points_rejection (next_bag h stream (record { cut = cut; added = added }))
 points_refusal h (Distillate stream cut added new) = points_rejection (next_bag h stream (record { cut = cut; added = added }))
+points_refusal h (Retire stream first) = None
 
 -- ---- both
 

@@ -16,6 +16,7 @@ restored_stream s trees =
       trees = trees;
       reads = reads_of_versions s.versions;
       numbers = s.entry ∷ map (λ v. v.entry) s.versions;
+      earliest = s.first;
     }
 
 -- The streams of a roll with these trees, in order.

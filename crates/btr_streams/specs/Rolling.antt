@@ -1,10 +1,10 @@
--- What a checkpoint after a history has: each stream with its versions, and for each version the number of its entry and the block of its
--- root; and what a checkpoint of a board has.
+-- What a checkpoint after a history has: each stream with its first version that is not retired and all its versions, and for each version
+-- the number of its entry and the block of its root; and what a checkpoint of a board has.
 use Rattle.std.specs.Prelude.{◌≡◌, ℕ, ◌+◌, ◌-◌, ◌≤◌, List, [], ◌∷◌, drop, map, slice_get, get_or, IfSome}
 use Rattle.btr_tree.specs.Root.{TreeValue}
 use Rattle.btr_tree.specs.Slots.{block_of}
 use Rattle.btr_hist.specs.declared.entry.Entry.{Entry}
-use Rattle.btr_hist.specs.History.{ids, spec_of, read_by}
+use Rattle.btr_hist.specs.History.{ids, spec_of, read_by, earliest}
 use Rattle.btr_roll.specs.Roll.{RollStreamValue}
 use Rattle.btr_roll.specs.declared.roll.RollVersion.{RollVersion}
 use Rattle.btr_streams.specs.Past.{stream_numbers}
@@ -30,6 +30,7 @@ rolled_stream h roots stream id =
       id = id;
       entry = get_or (stream_numbers h stream) 0 0;
       spec = spec_of h stream;
+      first = earliest h stream;
       versions = rolled_versions h roots stream 1 (drop 1 (stream_numbers h stream));
     }
 
@@ -57,7 +58,13 @@ kept_versions s version (t ∷ trees) = kept_version s version t ∷ kept_versio
 -- The stream, with its versions from version 1 on.
 abbrev pub kept_stream : Versions → RollStreamValue
 kept_stream s =
-    record { id = s.id; entry = get_or s.numbers 0 0; spec = s.spec; versions = kept_versions s 1 (drop 1 s.trees) }
+    record {
+      id = s.id;
+      entry = get_or s.numbers 0 0;
+      spec = s.spec;
+      first = s.earliest;
+      versions = kept_versions s 1 (drop 1 s.trees);
+    }
 
 -- The streams of a board with their versions, in order of creation.
 abbrev pub rolled : Kept → List RollStreamValue

@@ -1,7 +1,7 @@
 -- What the functions promise that stage an entry: why none is staged, what each stream of the next board has, and what the entry
 -- writes.
 use Rattle.std.specs.Prelude.{◌≡◌, ℕ, ◌+◌, ◌-◌, ◌*◌, ◌^◌, ◌<◌, ◌≤◌, Bool, true, false, List, [], ◌∷◌, ◌++◌, length}
-use Rattle.std.specs.Prelude.{slice_get, slice_set, Option, Some, None}
+use Rattle.std.specs.Prelude.{slice_get, slice_set, Option, Some, None, IfSome}
 use Rattle.std.specs.Option.{option_to_list, is_some}
 use Rattle.btr_base.specs.declared.limits.TheConstants.{FIRST, MAX_STREAMS, MAX_VERSIONS}
 use Rattle.btr_base.specs.declared.point.Point.{Point}
@@ -16,12 +16,12 @@ use Rattle.btr_tree.specs.Stored.{Store, IsBelow, IsLaid}
 use Rattle.btr_tree.specs.Root.{TreeValue, IsTree, AfterCommit}
 use Rattle.btr_tree.specs.declared.commit.TreeCommit.{TreeCommit}
 use Rattle.btr_hist.specs.declared.entry.Entry.{Entry}
-use Rattle.btr_hist.specs.declared.entry.Entry.TheVariants.{Create, Define, Commit, Distillate}
+use Rattle.btr_hist.specs.declared.entry.Entry.TheVariants.{Create, Define, Commit, Distillate, Retire}
 use Rattle.btr_hist.specs.declared.kernel.Spec.{Spec}
 use Rattle.btr_hist.specs.declared.kernel.Reads.{Reads}
 use Rattle.btr_hist.specs.declared.rejection.Rejection.{Rejection}
 use Rattle.btr_hist.specs.declared.rejection.Rejection.TheVariants.{Crowded, TooManyPoints}
-use Rattle.btr_hist.specs.History.{latest, new_id, new_kind, change_of, read_of}
+use Rattle.btr_hist.specs.History.{latest, new_id, new_kind, change_of, read_of, first_of}
 use Rattle.btr_hist.specs.Legal.{rejection, version_rejection}
 use Rattle.btr_hist.specs.Machine as machine
 use Rattle.btr_streams.specs.declared.board.Receipt.{Receipt}
@@ -30,6 +30,7 @@ use Rattle.btr_streams.specs.declared.board.PushFault.{PushFault}
 use Rattle.btr_streams.specs.declared.staging.NewVersion.{NewVersion}
 use Rattle.btr_streams.specs.declared.board.PushFault.TheVariants.{Rejected, Want}
 use Rattle.btr_streams.specs.Past.{commits_to}
+use Rattle.btr_streams.specs.Readers.{AreInputsBelow}
 use Rattle.btr_streams.specs.Board.{Versions, Kept, IsGrown, IsBoardOf, HasTrees, HasGoodSpec, place_of, ids_of}
 
 -- Memory may run out before the entry is rejected only while the points are tested that the stream would have. All other tests
@@ -78,6 +79,7 @@ pub record MakesStream (e : Entry) (id : ℕ) (spec : Option Spec) : Type 0 wher
   pub kind : new_kind e ≡ Some spec
   pub no_change : (stream : ℕ) → change_of stream e ≡ None
   pub no_read : (stream : ℕ) → read_of stream e ≡ None
+  pub no_first : (stream : ℕ) → first_of stream e ≡ None
 
 -- The entry makes a version of this stream: it is a commit of this change, which has read these versions or none.
 pub record MakesVersion (e : Entry) (stream : ℕ) (c : Change) (read : Option Reads) : Type 0 where
@@ -87,6 +89,16 @@ pub record MakesVersion (e : Entry) (stream : ℕ) (c : Change) (read : Option R
   pub reads : read_of stream e ≡ Some read
   pub no_other_change : (other : ℕ) → (stream ≡ other → ⊥) → change_of other e ≡ None
   pub no_other_read : (other : ℕ) → (stream ≡ other → ⊥) → read_of other e ≡ None
+  pub no_first : (other : ℕ) → first_of other e ≡ None
+
+-- The entry retires the versions of this stream before the first. It makes no stream and no version.
+pub record RetiresVersions (e : Entry) (stream first : ℕ) : Type 0 where
+  pub no_id : new_id e ≡ None
+  pub no_kind : new_kind e ≡ None
+  pub no_change : (other : ℕ) → change_of other e ≡ None
+  pub no_read : (other : ℕ) → read_of other e ≡ None
+  pub leaves : first_of stream e ≡ Some first
+  pub no_other_first : (other : ℕ) → (stream ≡ other → ⊥) → first_of other e ≡ None
 
 -- ---- the next version of a stream
 
@@ -143,11 +155,18 @@ with_version s t read number = record {
   trees = s.trees ++ t ∷ [];
   reads = s.reads ++ option_to_list read;
   numbers = s.numbers ++ number ∷ [];
+  earliest = s.earliest;
 }
 
 -- The stream at version 0, which has this tree and was made by the entry of this number: an output of this spec, or a plain stream.
 abbrev pub new_stream : ℕ → Option Spec → TreeValue → ℕ → Versions
-new_stream id spec t number = record { id = id; spec = spec; trees = t ∷ []; reads = []; numbers = number ∷ [] }
+new_stream id spec t number =
+    record { id = id; spec = spec; trees = t ∷ []; reads = []; numbers = number ∷ []; earliest = 0 }
+
+-- The stream with its versions before the first retired.
+abbrev pub with_earliest : Versions → ℕ → Versions
+with_earliest s first =
+    record { id = s.id; spec = s.spec; trees = s.trees; reads = s.reads; numbers = s.numbers; earliest = first }
 
 -- ---- what an entry writes
 
@@ -191,12 +210,25 @@ pub record WritesStream (b : Kept) (id : ℕ) (spec : Option Spec) (next : Kept)
   pub none : nodes ≡ []
   pub no_root : root ≡ 0
 
+-- The next board has this first version of a stream, and all else of its streams as before.
+pub record SetsEarliest (b : Kept) (stream first : ℕ) (next : Kept) : Type 0 where
+  pub kept : Versions
+  pub there : slice_get b.streams stream ≡ Some kept
+  pub streams : next.streams ≡ slice_set b.streams stream (with_earliest kept first)
+
+-- The next board has this first version of a stream, and the entry has no node and no root.
+pub record WritesRetirement (b : Kept) (stream first : ℕ) (next : Kept) (nodes : List NewNodeValue) (root : ℕ) : Type 0 where
+  pub sets : SetsEarliest b stream first next
+  pub none : nodes ≡ []
+  pub no_root : root ≡ 0
+
 -- What an entry makes of a board, and which nodes and which root it writes, if its first node is for the block `first`.
 abbrev pub WritesOn : Kept → Entry → ℕ → Kept → List NewNodeValue → ℕ → Type 0
 WritesOn b (Create id) first = WritesStream b id None
 WritesOn b (Define id spec) first = WritesStream b id (Some spec)
 WritesOn b (Commit stream cut added) first = WritesCommit b first stream (change cut added) None
 WritesOn b (Distillate stream cut added reads) first = WritesCommit b first stream (change cut added) (Some reads)
+WritesOn b (Retire stream least) first = WritesRetirement b stream least
 
 -- The staged entry has the board that it makes, the nodes that it writes, and the block of the new root.
 abbrev pub WritesEntry : Kept → Entry → ℕ → Staged → Type 0
@@ -204,11 +236,12 @@ WritesEntry b e first s = WritesOn b e first s.next s.nodes.items s.root
 
 -- ---- an entry whose tree was read
 
--- The board may have one stream more, with this id: an output of this spec, or a plain stream.
+-- The board may have one stream more, with this id: an output of this spec, whose inputs it has, or a plain stream.
 pub record HasRoomForStream (b : Kept) (id : ℕ) (spec : Option Spec) : Type 0 where
   pub few : length b.streams < MAX_STREAMS
   pub fresh : place_of (ids_of b.streams) id ≡ None
   pub good : HasGoodSpec spec
+  pub inputs : IfSome spec (AreInputsBelow (length b.streams))
 
 -- The stream may have one version more, and keeps what each stream of a board keeps. It is an output, or a plain stream.
 pub record HasRoomForVersion (b : Kept) (stream : ℕ) (output : Bool) : Type 0 where
@@ -218,12 +251,20 @@ pub record HasRoomForVersion (b : Kept) (stream : ℕ) (output : Bool) : Type 0 
   pub kind : is_some kept.spec ≡ output
   pub few : length kept.trees ≤ MAX_VERSIONS
 
+-- The stream has the version that is to be its first, and keeps what each stream of a board keeps.
+pub record HasRoomForFirst (b : Kept) (stream first : ℕ) : Type 0 where
+  pub kept : Versions
+  pub there : slice_get b.streams stream ≡ Some kept
+  pub grown : IsGrown kept
+  pub made : first < length kept.trees
+
 -- The board may have what the entry makes.
 abbrev pub HasRoomFor : Kept → Entry → Type 0
 HasRoomFor b (Create id) = HasRoomForStream b id None
 HasRoomFor b (Define id spec) = HasRoomForStream b id (Some spec)
 HasRoomFor b (Commit stream cut added) = HasRoomForVersion b stream false
 HasRoomFor b (Distillate stream cut added reads) = HasRoomForVersion b stream true
+HasRoomFor b (Retire stream first) = HasRoomForFirst b stream first
 
 -- The next board has one version more of a stream, with this tree, which has read these versions or none. No node is written, and the
 -- root is that of the tree.
@@ -235,20 +276,22 @@ pub record ReadsVersion (b : Kept) (stream : ℕ) (read : Option Reads) (t : Tre
   pub none : nodes ≡ []
   pub root_is : root ≡ block_of t.node
 
--- What an entry makes of a board, if the version that it makes has this tree. An entry that makes a stream does not take the tree.
+-- What an entry makes of a board, if the version that it makes has this tree. An entry that makes no version does not take the tree.
 abbrev pub ReadsOn : Kept → Entry → TreeValue → Kept → List NewNodeValue → ℕ → Type 0
 ReadsOn b (Create id) t = WritesStream b id None
 ReadsOn b (Define id spec) t = WritesStream b id (Some spec)
 ReadsOn b (Commit stream cut added) t = ReadsVersion b stream None t
 ReadsOn b (Distillate stream cut added reads) t = ReadsVersion b stream (Some reads) t
+ReadsOn b (Retire stream first) t = WritesRetirement b stream first
 
 -- The staged entry has the board that it makes with this tree.
 abbrev pub ReadsEntry : Kept → Entry → TreeValue → Staged → Type 0
 ReadsEntry b e t s = ReadsOn b e t s.next s.nodes.items s.root
 
--- The tree is that of the version that an entry makes. An entry that makes a stream has no tree.
+-- The tree is that of the version that an entry makes. An entry that makes no version has no tree.
 abbrev pub IsTreeAfter : List Entry → Entry → TreeValue → Type 0
 IsTreeAfter h (Create id) t = Unit {0}
 IsTreeAfter h (Define id spec) t = Unit {0}
 IsTreeAfter h (Commit stream cut added) t = IsNextTree h stream (change cut added) t
 IsTreeAfter h (Distillate stream cut added reads) t = IsNextTree h stream (change cut added) t
+IsTreeAfter h (Retire stream first) t = Unit {0}

@@ -1,11 +1,12 @@
 //! The answers to questions, which a board reads from the trees of its streams.
-ghost use Rattle.std.specs.Prelude.{◌≡◌, ◌≤◌, List, length, slice_get, IfOk, IfErr, IsNone, MatchOption, Some};
+ghost use Rattle.std.specs.Prelude.{◌≡◌, ◌<◌, ◌≤◌, List, length, slice_get, IfOk, IfErr, IsNone, MatchOption, Some};
 ghost use Rattle.btr_hist.specs.declared.entry.Entry.{Entry as EntrySpec};
 ghost use Rattle.btr_hist.specs.declared.query.Query.TheVariants as ask;
-ghost use Rattle.btr_hist.specs.History.{ids};
+ghost use Rattle.btr_hist.specs.declared.answer.Refusal.TheVariants.{Retired};
+ghost use Rattle.btr_hist.specs.History.{ids, earliest};
 ghost use Rattle.btr_hist.specs.Answer.{answer, version_of, rows_from};
 ghost use Rattle.btr_streams.specs.Board.{IsBoardOf};
-ghost use Rattle.btr_streams.specs.Answering.{IsVersion, IsAskedRange, RefusesVersion, RefusesRange};
+ghost use Rattle.btr_streams.specs.Answering.{IsVersion, IsPresentVersion, IsAskedRange, RefusesEach, RefusesVersion, RefusesRange};
 
 use crate::board::Board;
 use btr_base::{MAX_EXPONENT, MAX_WIDTH, Range, Toward};
@@ -175,14 +176,17 @@ impl Board {
         ensures { (h : List EntrySpec) → IsBoardOf h self.now → IfOk result (λ a. a ≡ answer h (ask.Changes stream old new p)) }
     {
         let newest = At::Number(old.max(new));
-        let (version, newer) = match self.version_at(VersionAsked { stream, at: newest }) {
+        let (version, newer) = match self.kept_version_at(VersionAsked { stream, at: newest }) {
             Ok(there) => there,
             Err(refusal) => return Ok(Answer::Refused(refusal)),
         };
+        if let Some(refusal) = self.retired_at(stream, old.min(new)) {
+            return Ok(Answer::Refused(refusal));
+        }
         if old > new || p > MAX_EXPONENT {
             return Ok(Answer::Refused(Refusal::BadRange));
         }
-        let (_, older) = match self.version_at(VersionAsked {
+        let (_, older) = match self.kept_version_at(VersionAsked {
             stream,
             at: At::Number(old),
         }) {
@@ -254,7 +258,7 @@ impl Board {
         to: i64,
     ) -> Result<(u64, &Tree, Range), Refusal>
         ensures there { (h : List EntrySpec) → IsBoardOf h self.now
-            → IfOk result (λ r. IsVersion h asked.stream (version_of h asked.stream asked.at) r.0 r.1.now) }
+            → IfOk result (λ r. IsPresentVersion h asked.stream (version_of h asked.stream asked.at) r.0 r.1.now) }
         ensures range { IfOk result (λ r. IsAskedRange from to r.2) }
         ensures refused { (h : List EntrySpec) → IsBoardOf h self.now → IfErr result (RefusesRange h asked.stream from to asked.at) }
     {
@@ -271,8 +275,41 @@ impl Board {
     /// Returns the number of the version that a question asks for, and its tree, or why the question is refused.
     fn version_at(&self, asked: VersionAsked) -> Result<(u64, &Tree), Refusal>
         ensures there { (h : List EntrySpec) → IsBoardOf h self.now
-            → IfOk result (λ r. IsVersion h asked.stream (version_of h asked.stream asked.at) r.0 r.1.now) }
+            → IfOk result (λ r. IsPresentVersion h asked.stream (version_of h asked.stream asked.at) r.0 r.1.now) }
         ensures refused { (h : List EntrySpec) → IsBoardOf h self.now → IfErr result (RefusesVersion h asked.stream asked.at) }
+    {
+        let (version, tree) = match self.kept_version_at(asked) {
+            Ok(there) => there,
+            Err(refusal) => return Err(refusal),
+        };
+        match self.retired_at(asked.stream, version) {
+            Some(refusal) => Err(refusal),
+            None => Ok((version, tree)),
+        }
+    }
+
+    /// Returns why a question about this version of a stream is refused if it is retired, or `None` if it is not.
+    fn retired_at(&self, stream: u32, asked: u64) -> Option<Refusal>
+        ensures { (h : List EntrySpec) → IsBoardOf h self.now
+            → MatchOption result (earliest h stream ≤ asked) (λ r. (asked < earliest h stream) × (r ≡ Retired asked (earliest h stream))) }
+    {
+        let Some(kept) = self.streams.get(stream as usize) else {
+            return None;
+        };
+        if asked < kept.earliest {
+            return Some(Refusal::Retired {
+                asked,
+                first: kept.earliest,
+            });
+        }
+        None
+    }
+
+    /// Returns the number of the version that a question asks for, which may be retired, and its tree, or why the question is refused.
+    fn kept_version_at(&self, asked: VersionAsked) -> Result<(u64, &Tree), Refusal>
+        ensures there { (h : List EntrySpec) → IsBoardOf h self.now
+            → IfOk result (λ r. IsVersion h asked.stream (version_of h asked.stream asked.at) r.0 r.1.now) }
+        ensures refused { (h : List EntrySpec) → IsBoardOf h self.now → IfErr result (RefusesEach h asked.stream asked.at) }
     {
         let VersionAsked { stream, at } = asked;
         let Some(latest) = self.latest(stream) else {

@@ -24,7 +24,8 @@ pub enum PushFault {
 }
 
 /// A stream: its id, the trees of all its versions, from version 0 on, and if it is an output its spec and what its versions have
-/// read, from version 1 on. A plain stream has no reads. And the numbers of the entries that made the versions, from version 0 on.
+/// read, from version 1 on. A plain stream has no reads. And the numbers of the entries that made the versions, from version 0 on,
+/// and the first version that is not retired, 0 if none is. The trees of retired versions are kept.
 #[derive(Drop)]
 pub(crate) struct Stream {
     pub(crate) id: u128,
@@ -32,6 +33,7 @@ pub(crate) struct Stream {
     pub(crate) trees: Trail<Tree>,
     pub(crate) reads: Trail<Reads>,
     pub(crate) numbers: Trail<u64>,
+    pub(crate) earliest: u64,
 }
 
 impl Model for Stream {
@@ -43,17 +45,27 @@ impl Model for Stream {
 
     ghost coded = { Prim.hlevel (codes, tree_contract.the_row.coded) };
 
-    ghost view = { λ s. record { id = s.id; spec = s.spec; trees = s.trees; reads = s.reads; numbers = s.numbers } };
+    ghost view = { λ s. record {
+      id = s.id;
+      spec = s.spec;
+      trees = s.trees;
+      reads = s.reads;
+      numbers = s.numbers;
+      earliest = s.earliest;
+    } };
 }
 
-/// What a history's answers and tests need: of each stream the id, the spec, the tree of each version, what it has read, and the
-/// number of the entry that made it; and the number of entries. The entries themselves are not kept. Each of them is accepted
-/// after those before it.
+/// What a history's answers and tests need: of each stream the id, the spec, the tree of each version, what it has read, the number
+/// of the entry that made it, and the first version that is not retired; and the number of entries. The entries themselves are not kept.
+/// Each of them is accepted after those before it.
 ///
 /// A board is a value: [`Board::stage`] makes the next board and shares with this one all that does not change.
 #[derive(Drop)]
 pub struct Board {
     pub(crate) streams: Trail<Stream>,
+
+    /// The readers of each stream: the numbers of the outputs that have it as an input, in order of creation, each once.
+    pub(crate) readers: Trail<Trail<u32>>,
     pub(crate) numbers: Index,
     pub(crate) entries: u64,
 }
@@ -70,7 +82,7 @@ impl Model for Board {
 
     ghost view = { λ b. record { streams = b.streams; entries = b.entries } };
 
-    ghost invariant = { λ b. IsWellFormed b.streams (number_of b.numbers) };
+    ghost invariant = { λ b. IsWellFormed b.streams (number_of b.numbers) b.readers };
 }
 
 /// The receipt of an entry that was accepted. On a device the entry is durable.
@@ -82,7 +94,7 @@ pub struct Receipt {
     /// The number of its stream.
     pub stream: u32,
 
-    /// The version of the stream that the entry made, 0 for a new stream.
+    /// The version of the stream that the entry made, 0 for a new stream and for a retirement.
     pub version: u64,
 }
 
@@ -94,7 +106,7 @@ pub struct Staged {
     /// The receipt of the entry.
     pub receipt: Receipt,
 
-    /// The new nodes of its stream's tree, children before parents. An entry that makes a stream has none.
+    /// The new nodes of its stream's tree, children before parents. An entry that makes no version has none.
     pub nodes: Vec<NewNode>,
 
     /// The block of the root of its stream's new tree, or 0 if there is none.
@@ -108,6 +120,7 @@ impl Board {
     {
         Board {
             streams: Trail::empty(),
+            readers: Trail::empty(),
             numbers: Index::empty(),
             entries: 0,
         }
@@ -119,6 +132,7 @@ impl Board {
     {
         Ok(Board {
             streams: self.streams.share()?,
+            readers: self.readers.share()?,
             numbers: self.numbers.share()?,
             entries: self.entries,
         })
@@ -151,6 +165,14 @@ impl Board {
         self.numbers.find(id)
     }
 
+    /// Returns the id of a stream, or `None` if there is no such stream. It costs logarithmic time and takes no memory.
+    pub fn id(&self, stream: u32) -> Option<u128>
+        ensures { (h : List EntrySpec) → IsBoardOf h self.now → result ≡ slice_get (ids h) stream }
+    {
+        let kept = self.streams.get(stream as usize)?;
+        Some(kept.id)
+    }
+
     /// Returns the number of streams, in constant time. It takes no memory.
     pub fn streams(&self) -> u32
         ensures of { (h : List EntrySpec) → IsBoardOf h self.now → result ≡ length (ids h) }
@@ -171,8 +193,8 @@ impl Board {
         Some((kept.trees.len() - 1) as u64)
     }
 
-    /// Returns the tree of a version of a stream, or `None` if there is no such stream or version. It costs logarithmic time
-    /// and takes no memory.
+    /// Returns the tree of a version of a stream, or `None` if there is no such stream or version. A retired version has its tree.
+    /// It costs logarithmic time and takes no memory.
     pub fn tree(&self, stream: u32, version: u64) -> Option<&Tree>
         ensures { (h : List EntrySpec) → IsBoardOf h self.now
             → MatchOption result (HasVersion h stream version → ⊥) (λ t. IsTreeOf h stream version t.now) }

@@ -13,7 +13,9 @@ mod snapshot;
 mod making;
 mod next_board;
 mod next_tree;
+mod readers;
 mod refusing;
+mod retiring;
 mod staging;
 // what a checkpoint has, and the board that it makes
 mod restoring;

@@ -1,13 +1,14 @@
 //! The next board: one stream more, or one version more of a stream.
 ghost use Rattle.std.specs.Prelude.{◌≡◌, ◌+◌, ◌-◌, ◌^◌, ◌<◌, ◌≤◌, List, [], ◌∷◌, ◌++◌, length};
 ghost use Rattle.btr_base.specs.declared.limits.TheConstants.{MAX_STREAMS, MAX_VERSIONS};
-ghost use Rattle.std.specs.Prelude.{slice_get, slice_set, IfOk, Some, None};
+ghost use Rattle.std.specs.Prelude.{slice_get, slice_set, IfOk, IfSome, Some, None};
 ghost use Rattle.std.specs.Option.{is_some, option_to_list};
 ghost use Rattle.btr_tree.specs.History.{nothing};
 ghost use Rattle.btr_tree.specs.Root.{TreeValue, IsTree};
 ghost use Rattle.btr_hist.specs.declared.entry.Entry.{Entry as EntrySpec};
 ghost use Rattle.btr_hist.specs.declared.entry.Entry.TheVariants as entry;
 ghost use Rattle.btr_hist.specs.Legal.{rejection};
+ghost use Rattle.btr_streams.specs.Readers.{AreInputsBelow};
 ghost use Rattle.btr_streams.specs.Board.{IsBoardOf, HasPast, HasGoodSpec, place_of, ids_of};
 ghost use Rattle.btr_streams.specs.Stage.{MakesStream, MakesNext};
 ghost use Rattle.btr_streams.specs.Stage.{HasRoomFor, HasRoomForVersion, ReadsVersion, ReadsOn};
@@ -15,13 +16,14 @@ ghost use Rattle.btr_streams.specs.Stage.{with_version, new_stream};
 ghost use Rattle.btr_streams.specs.Stage.{AddsStream};
 
 use crate::board::{Board, Stream};
+use crate::readers::with_stream_read;
 use btr_board::Trail;
 use btr_hist::{Entry, Reads, Spec};
 use btr_tree::{NewNode, Tree};
 use std::alloc::{AllocError, Global};
 
 /// The next board, and what its last entry writes: the new nodes of its stream's tree, and the block of the root. An entry that
-/// makes a stream has no nodes, and its root is 0.
+/// makes no version has no nodes, and its root is 0.
 #[derive(Drop)]
 pub(crate) struct NextBoard {
     pub(crate) board: Board,
@@ -53,6 +55,9 @@ impl Board {
             Entry::Commit { stream, .. } => self.read_version(alloc, *stream, tree, None),
             Entry::Distillate { stream, reads, .. } => {
                 self.read_version(alloc, *stream, tree, Some(*reads))
+            }
+            Entry::Retire { stream, first } => {
+                Ok(without_nodes(alloc, self.with_earliest(alloc, *stream, *first)?))
             }
         }
     }
@@ -96,6 +101,7 @@ impl Board {
         requires room { length self.now.streams < MAX_STREAMS }
         requires fresh { place_of (ids_of self.now.streams) id ≡ None }
         requires good { HasGoodSpec spec }
+        requires inputs { IfSome spec (AreInputsBelow (length self.now.streams)) }
         ensures next { (h : List EntrySpec) (e : EntrySpec) → IsBoardOf h self.now → MakesStream e id spec → rejection h e ≡ None
             → IfOk result (IsBoardOf (h ++ e ∷ [])) }
         ensures counted { IfOk result (λ b. b.entries ≡ self.now.entries + 1) }
@@ -104,9 +110,11 @@ impl Board {
         let number = self.streams.len() as u32;
         let first = first_version(alloc, id, spec, self.entries + 1)?;
         let streams = self.streams.push(alloc, first)?;
+        let readers = with_stream_read(alloc, &self.readers, number, spec)?;
         let numbers = self.numbers.insert(alloc, id, number)?;
         Ok(Board {
             streams,
+            readers,
             numbers,
             entries: self.entries + 1,
         })
@@ -135,9 +143,11 @@ impl Board {
     {
         let next = next_stream(alloc, kept, tree, read, self.entries + 1)?;
         let streams = self.streams.set(alloc, place, next)?;
+        let readers = self.readers.share()?;
         let numbers = self.numbers.share()?;
         Ok(Board {
             streams,
+            readers,
             numbers,
             entries: self.entries + 1,
         })
@@ -176,6 +186,7 @@ pub(crate) fn first_version(
         trees,
         reads: Trail::empty(),
         numbers,
+        earliest: 0,
     })
 }
 
@@ -199,6 +210,7 @@ pub(crate) fn next_stream(
         trees,
         reads,
         numbers,
+        earliest: kept.earliest,
     })
 }
 

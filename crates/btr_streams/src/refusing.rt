@@ -10,6 +10,7 @@ ghost use Rattle.btr_hist.specs.History.{nothing_read};
 ghost use Rattle.btr_hist.specs.declared.rejection.Rejection.TheVariants.{VersionLimit};
 ghost use Rattle.btr_hist.specs.Legal.{when};
 ghost use Rattle.btr_entry.specs.Grammar.{AreVersions};
+ghost use Rattle.btr_streams.specs.Readers.{AreInputsBelow};
 ghost use Rattle.btr_streams.specs.Board.{HasStreamsOf, IsGrown, place_of, ids_of};
 ghost use Rattle.btr_streams.specs.Rolling.{rolled, kept_stream};
 ghost use Rattle.btr_streams.specs.Stage.{change};
@@ -26,7 +27,7 @@ impl Board {
     /// Returns why an entry may not follow, whatever points its stream has, or `None` if nothing else shows against it. These are
     /// the tests that [`Board::stage`] makes before it looks at points, in the same order. They do not look at the trees. What they
     /// find is said of any board, also of one that is that of no history. It costs logarithmic time, and the length of the entry,
-    /// and takes no memory.
+    /// and takes no memory. A retirement costs logarithmic time for each output that has the stream as an input.
     pub fn refusal(&self, entry: &Entry) -> Option<Rejection>
         ensures of { (h : List EntrySpec) → HasStreamsOf h self.now → result ≡ refusal (outline_of h) entry.now }
         ensures rolled { result ≡ refusal (outline_in (rolled self.now)) entry.now }
@@ -42,6 +43,7 @@ impl Board {
                 added,
                 reads,
             } => self.distillate_refusal(*stream, cut, added, reads),
+            Entry::Retire { stream, first } => self.retire_refusal(*stream, *first),
         }
     }
 
@@ -106,6 +108,7 @@ impl Board {
         ensures room { IsNone result → length self.now.streams < MAX_STREAMS }
         ensures fresh { IsNone result → place_of (ids_of self.now.streams) id ≡ None }
         ensures good { IsNone result → is_good spec.now ≡ true }
+        ensures inputs { IsNone result → AreInputsBelow (length self.now.streams) spec.now }
     {
         if !self.has_inputs(spec) {
             return Some(Rejection::NoStream);
@@ -121,7 +124,8 @@ impl Board {
 
     /// Returns whether the inputs of a spec are streams.
     pub(crate) fn has_inputs(&self, spec: &Spec) -> bool
-        ensures { result ≡ has_inputs_in (outline_in (rolled self.now)) spec.now }
+        ensures rolled { result ≡ has_inputs_in (outline_in (rolled self.now)) spec.now }
+        ensures below { IsTrue result → AreInputsBelow (length self.now.streams) spec.now }
     {
         let has_second = match spec.second {
             Some(stream) => self.has_stream(stream),
@@ -132,7 +136,8 @@ impl Board {
 
     /// Returns whether there is a stream of this number.
     pub(crate) fn has_stream(&self, stream: u32) -> bool
-        ensures { result ≡ is_stream_in (outline_in (rolled self.now)) stream }
+        ensures rolled { result ≡ is_stream_in (outline_in (rolled self.now)) stream }
+        ensures below { IsTrue result → stream < length self.now.streams }
     {
         (stream as usize) < self.streams.len()
     }

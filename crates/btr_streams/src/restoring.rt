@@ -1,12 +1,14 @@
 //! The board of a roll: what an opening makes of the content of a checkpoint and of the trees that it has read.
-ghost use Rattle.std.specs.Prelude.{◌≡◌, ◌∷◌, ◌++◌, ◌<◌, List, [], length, map, IfOk, None};
+ghost use Rattle.std.specs.Prelude.{◌≡◌, ℕ, ◌∷◌, ◌++◌, ◌<◌, List, [], length, map, IfOk, IfSome, None};
 ghost use Rattle.std.specs.Option.{option_to_list};
 ghost use Rattle.btr_base.specs.declared.limits.TheConstants.{MAX_STREAMS};
 ghost use Rattle.btr_roll.specs.Roll.{IsRoll, StreamFits, reads_of_versions};
+ghost use Rattle.btr_streams.specs.Readers.{AreInputsBelow};
 ghost use Rattle.btr_streams.specs.Board.{place_of, ids_of};
 ghost use Rattle.btr_streams.specs.Restoring.{restored_stream, restored_streams, FitTrees, AllFitTrees};
 
 use crate::board::{Board, Stream};
+use crate::readers::with_stream_read;
 use btr_board::{Index, Trail};
 use btr_hist::Reads;
 use btr_roll::{Roll, RollStream, RollVersion};
@@ -27,7 +29,7 @@ impl Board {
         trees: Vec<Vec<Tree>>,
         entries: u64,
     ) -> Result<Board, AllocError>
-        requires roll { IsRoll roll.now }
+        requires roll { (format : ℕ) × IsRoll format roll.now }
         requires trees { AllFitTrees roll.now (map (λ v. v.items) trees.items) }
         ensures { IfOk result (λ b. b ≡ record {
           streams = restored_streams roll.now (map (λ v. v.items) trees.items);
@@ -36,6 +38,7 @@ impl Board {
     {
         let mut board = Board {
             streams: Trail::empty(),
+            readers: Trail::empty(),
             numbers: Index::empty(),
             entries,
         };
@@ -58,7 +61,8 @@ impl Board {
     ) -> Result<Board, AllocError>
         requires room { length self.now.streams < MAX_STREAMS }
         requires fresh { place_of (ids_of self.now.streams) stream.now.id ≡ None }
-        requires fits { StreamFits stream.now }
+        requires inputs { IfSome stream.now.spec (AreInputsBelow (length self.now.streams)) }
+        requires fits { (format : ℕ) × StreamFits format stream.now }
         requires trees { FitTrees stream.now trees.items }
         ensures { IfOk result (λ b. b ≡ record {
           streams = self.now.streams ++ restored_stream stream.now trees.items ∷ [];
@@ -68,9 +72,11 @@ impl Board {
         let number = self.streams.len() as u32;
         let next = restored_stream(alloc, stream, trees)?;
         let streams = self.streams.push(alloc, next)?;
+        let readers = with_stream_read(alloc, &self.readers, number, stream.spec)?;
         let numbers = self.numbers.insert(alloc, stream.id, number)?;
         Ok(Board {
             streams,
+            readers,
             numbers,
             entries: self.entries,
         })
@@ -91,6 +97,7 @@ fn restored_stream(
         trees: trail_of(alloc, trees)?,
         reads: restored_reads(alloc, &stream.versions)?,
         numbers: restored_numbers(alloc, stream.entry, &stream.versions)?,
+        earliest: stream.first,
     })
 }
 

@@ -28,7 +28,7 @@ impl Board {
     }
 }
 
-/// Returns a stream with its versions from version 1 on.
+/// Returns a stream with its first version that is not retired, and its versions from version 1 on.
 fn roll_stream(alloc: Global, kept: &Stream) -> Result<RollStream, AllocError>
     ensures { IfOk result (λ s. s ≡ kept_stream kept.now) }
 {
@@ -43,6 +43,7 @@ fn roll_stream(alloc: Global, kept: &Stream) -> Result<RollStream, AllocError>
         id: kept.id,
         entry: number_at(&kept.numbers, 0),
         spec: kept.spec,
+        first: kept.earliest,
         versions,
     })
 }

@@ -66,7 +66,8 @@ impl Snapshot {
     }
 
     /// Returns the tree of a version of a stream, or `None` if there is no such stream or version. The tree has the points
-    /// that the stream's commits up to the version leave. It takes logarithmic time and no memory.
+    /// that the stream's commits up to the version leave. A retired version has its tree: outputs may still be computed from it. It
+    /// takes logarithmic time and no memory.
     pub fn tree(&self, stream: u32, version: u64) -> Option<&Tree>
         ensures { (h : List EntrySpec) → IsSnapshotOf h self.now
             → MatchOption result (HasVersion h stream version → ⊥) (λ t. IsTreeOf h stream version t.now) }

@@ -43,7 +43,7 @@ impl Board {
     ///
     /// All tests come before memory is taken, except those of the points that the stream would have. A new stream costs
     /// logarithmic time. A commit costs logarithmic time, and the nodes of the stream's tree that it touches: all other nodes
-    /// are shared with the versions before.
+    /// are shared with the versions before. A retirement costs what [`Board::refusal`] costs of it.
     ///
     /// Of a distillate the stream and the reads are tested, and that its stream may have the points. That its cut and its points
     /// are those of the definition is not tested here: it follows for those that are planned.
@@ -75,7 +75,7 @@ impl Board {
         })
     }
 
-    /// Makes the next board, with an entry more whose new version has this tree. An entry that makes a stream does not take the
+    /// Makes the next board, with an entry more whose new version has this tree. An entry that makes no version does not take the
     /// tree. This board stays as it is.
     ///
     /// The caller has called [`Board::refusal`], which returned `None`: this call makes no test. The tree is not compared with the
@@ -139,6 +139,7 @@ impl Board {
                 added,
                 reads,
             } => self.stage_distillate(&with, *stream, cut, added, reads),
+            Entry::Retire { stream, first } => self.stage_retirement(alloc, *stream, *first),
         }
     }
 
@@ -312,6 +313,11 @@ fn receipt_of(board: &Board, entry: &Entry) -> Receipt
             number,
             stream: *stream,
             version: board.latest(*stream).unwrap_or(0) + 1,
+        },
+        Entry::Retire { stream, .. } => Receipt {
+            number,
+            stream: *stream,
+            version: 0,
         },
     }
 }

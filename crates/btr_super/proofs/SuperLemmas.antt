@@ -1,13 +1,14 @@
--- Lemmas on the bytes of a superblock: their number, and that they spell no other.
-use Rattle.std.specs.Prelude.{◌≡◌, ℕ, List, ◌++◌, length, take, drop, codes}
-use Rattle.std.proofs.Common.{refl, sym, ◌∙◌, ap, arith, append_assoc, length-append}
+-- Lemmas on superblocks: the number of their bytes, that these spell no other, and where the log is read from.
+use Rattle.std.specs.Prelude.{◌≡◌, ℕ, nat_eq, nat_le, nat_lt, true, ◌&&◌, List, ◌++◌, length, take, drop, codes}
+use Rattle.std.proofs.Common.{refl, sym, ◌∙◌, ap, arith, inl, inr, append_assoc, length-append}
+use Rattle.std.proofs.lemmas.Bool.{and_from, and_parts, or_left, or_right, or_cases, eqb-true, leb-true, ltb-true, eq-eqb, le-leb, lt-ltb}
 use Rattle.std.proofs.lemmas.List.{take_at, drop_at}
 use Rattle.std.proofs.lemmas.Nat.{from_be_bytes-to_be_bytes_4, from_be_bytes-to_be_bytes_8}
 use Rattle.std.specs.Int.{w32, w64, to_be_bytes, from_be_bytes}
 use Rattle.btr_disk.specs.Gate.{zeros}
 use Rattle.btr_disk.proofs.GateLemmas.{length-zeros}
 use Rattle.btr_super.specs.declared.superblock.Super.{Super}
-use Rattle.btr_super.specs.Super.{super_bytes, IsSuper, FitsFields}
+use Rattle.btr_super.specs.Super.{super_bytes, IsLogStart, is_log_start, IsSuper, FitsFields}
 
 -- a field after a prefix
 field_at : (prefix x rest : List ℕ) (at n : ℕ) → length prefix ≡ at → length x ≡ n → take n (drop at (prefix ++ (x ++ rest))) ≡ x
@@ -92,4 +93,21 @@ length-super_bytes s =
 
 -- the table keeps each field small enough
 pub FitsFields-from_table : (size : ℕ) (s : Super) → IsSuper size s → FitsFields s
-FitsFields-from_table size s keeps = record { format = omega arith; seq = omega arith; blocks = omega arith; tail = omega arith; checkpoint = omega arith }
+FitsFields-from_table size s keeps = record { format = omega (arith, keeps.known_format.1); seq = omega (arith, keeps.known_format.1); blocks = omega arith; tail = omega arith; checkpoint = omega arith }
+
+-- ---- where the log is read from
+
+module _ (checkpoint tail : ℕ) where
+  pub is_log_start-is : IsLogStart checkpoint tail → is_log_start checkpoint tail ≡ true
+  is_log_start-is starts = elim starts [
+    | inl first ↦ or_left (nat_eq checkpoint 0 && nat_eq tail 4) (nat_le 4 checkpoint && nat_lt checkpoint tail)
+        (and_from (nat_eq checkpoint 0) (nat_eq tail 4) (eq-eqb checkpoint 0 first.0) (eq-eqb tail 4 first.1))
+    | inr later ↦ or_right (nat_eq checkpoint 0 && nat_eq tail 4) (nat_le 4 checkpoint && nat_lt checkpoint tail)
+        (and_from (nat_le 4 checkpoint) (nat_lt checkpoint tail) (le-leb 4 checkpoint later.0) (lt-ltb checkpoint tail later.1))
+  ]
+
+  pub IsLogStart-from : is_log_start checkpoint tail ≡ true → IsLogStart checkpoint tail
+  IsLogStart-from is = elim (or_cases (nat_eq checkpoint 0 && nat_eq tail 4) (nat_le 4 checkpoint && nat_lt checkpoint tail) is) [
+    | inl first ↦ let parts = and_parts (nat_eq checkpoint 0) (nat_eq tail 4) first in inl (eqb-true checkpoint 0 parts.0, eqb-true tail 4 parts.1)
+    | inr later ↦ let parts = and_parts (nat_le 4 checkpoint) (nat_lt checkpoint tail) later in inr (leb-true 4 checkpoint parts.0, ltb-true checkpoint tail parts.1)
+  ]

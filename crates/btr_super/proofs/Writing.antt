@@ -48,7 +48,7 @@ Has-decides image address (b ∷ bytes) =
 module _ (size blocks : ℕ) (least : 8 ≤ blocks) (greatest : blocks ≤ 2 ^ 32) (inside : blocks ≤ size) where
   first_in_table : IsSuper size (first_super blocks)
   first_in_table = record {
-    known_format = refl;
+    known_format = (omega arith, omega arith);
     has_side = omega arith;
     seq_from = omega arith;
     seq_to = omega arith;

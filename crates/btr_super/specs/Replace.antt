@@ -1,7 +1,7 @@
 -- The replacement of a superblock by one on the other side: its premises, and what a crash at any moment leaves.
 use Rattle.std.specs.Prelude.{◌≡◌, ◌⊎◌, ℕ, ◌+◌, ◌-◌, ◌*◌, ◌<◌, ◌≤◌, List, Result, OnOk}
 use Rattle.btr_disk.specs.Bytes.{Image, Has, SameBut}
-use Rattle.btr_disk.specs.Causes.{CountedTimes}
+use Rattle.btr_disk.specs.Causes.{Rose, CountedTimes}
 use Rattle.btr_disk.specs.Gate.{IsOpen, gate_block}
 use Rattle.btr_disk.specs.Images.{Only}
 use Rattle.btr_disk.specs.Moments.{Leaves}
@@ -33,9 +33,10 @@ pub record IsReplacing (size : ℕ) (images : Image → Type 0) (s next : Super)
   pub elsewhere : IsButSide next.side images c
   pub either : IsChosen size c s ⊎ IsChosen size c next
 
--- At most `most` calls were counted, and exactly `least` or exactly `most` if all of them succeeded.
+-- At least one call was counted and at most `most`, and exactly `least` or exactly `most` if all of them succeeded.
 pub record CountsEither {T E : Type 0} (least most old new : ℕ) (result : Result T E) : Type 0 where
   pub later : old ≤ new
+  pub called : Rose old new
   pub at_most : new ≤ old + most
   pub all : OnOk result (CountedTimes least old new ⊎ CountedTimes most old new)
 

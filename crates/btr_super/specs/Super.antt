@@ -1,5 +1,5 @@
 -- Superblocks: the bytes of one, and the table that it keeps.
-use Rattle.std.specs.Prelude.{◌≡◌, ◌⊎◌, ℕ, ◌+◌, ◌-◌, ◌^◌, ◌<◌, ◌≤◌, List, ◌++◌, codes}
+use Rattle.std.specs.Prelude.{◌≡◌, ◌⊎◌, ℕ, ◌+◌, ◌-◌, ◌^◌, ◌<◌, ◌≤◌, nat_eq, nat_le, nat_lt, Bool, ◌&&◌, ◌||◌, List, ◌++◌, codes}
 use Rattle.std.specs.Int.{w32, w64, to_be_bytes}
 use Rattle.btr_disk.specs.Gate.{zeros}
 use Rattle.btr_super.specs.declared.superblock.Super.{Super}
@@ -20,9 +20,13 @@ super_bytes s =
 abbrev pub IsLogStart : ℕ → ℕ → Type 0
 IsLogStart checkpoint tail = ((checkpoint ≡ 0) × (tail ≡ 4)) ⊎ ((4 ≤ checkpoint) × (checkpoint < tail))
 
+-- Whether it is read so.
+abbrev pub is_log_start : ℕ → ℕ → Bool
+is_log_start checkpoint tail = (nat_eq checkpoint 0 && nat_eq tail 4) || (nat_le 4 checkpoint && nat_lt checkpoint tail)
+
 -- The table that a superblock keeps on a device of `size` blocks.
 pub record IsSuper (size : ℕ) (s : Super) : Type 0 where
-  pub known_format : s.format ≡ 1
+  pub known_format : (1 ≤ s.format) × (s.format ≤ 3)
   pub has_side : s.side ≤ 1
   pub seq_from : 1 ≤ s.seq
   pub seq_to : s.seq ≤ s.tail - 4 + s.format

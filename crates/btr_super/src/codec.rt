@@ -3,7 +3,7 @@ ghost use Rattle.std.specs.Prelude.{◌≡◌, ◌↔◌, ◌≤◌, length, IsT
 ghost use Rattle.btr_super.specs.declared.superblock.Super.{Super};
 ghost use Rattle.btr_super.specs.Super.{super_bytes, IsLogStart, IsSuper, FitsFields};
 
-use crate::superblock::{FORMAT, LOG_START, MAX_BLOCKS, MIN_BLOCKS, SUPER_MARK, Super};
+use crate::superblock::{FORMAT, LOG_START, MAX_BLOCKS, MAX_FORMAT, MIN_BLOCKS, SUPER_MARK, Super};
 use btr_disk::BLOCK;
 use btr_disk::bytes::{put, u32_at, u64_at};
 
@@ -48,7 +48,8 @@ pub(crate) fn keeps_table(s: &Super, size: u64) -> bool
     requires { s.now.side ≤ 1 }
     ensures { IsTrue result ↔ IsSuper size s.now }
 {
-    s.format == FORMAT
+    FORMAT <= s.format
+        && s.format <= MAX_FORMAT
         && MIN_BLOCKS <= s.blocks
         && s.blocks <= MAX_BLOCKS
         && s.blocks <= size

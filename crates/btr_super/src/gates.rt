@@ -2,7 +2,7 @@
 ghost use Rattle.std.specs.Prelude.{◌≡◌, ◌↔◌, ◌<◌, ◌≤◌, IsTrue, IfOk, OnOk};
 ghost use Rattle.btr_disk.specs.Images.{Only};
 ghost use Rattle.btr_disk.specs.Moments.{WroteNothing};
-ghost use Rattle.btr_disk.specs.Causes.{CountsCalls, HasCause};
+ghost use Rattle.btr_disk.specs.Causes.{CountsCalls, HasCause, Rose};
 ghost use Rattle.btr_disk.specs.Gate.{IsOpen};
 ghost use Rattle.btr_disk.specs.Moments.{IsUnwritten};
 
@@ -13,6 +13,7 @@ pub(crate) fn read_gate<D: Disk>(device: &mut D, block: u64) -> Result<bool, Fai
     requires { block < D.size device.old }
     ensures size { D.size device.new ≡ D.size device.old }
     ensures calls { CountsCalls 1 (D.calls device.old) (D.calls device.new) result }
+    ensures called { Rose (D.calls device.old) (D.calls device.new) }
     ensures cause { HasCause (D.faults device.old) (D.faults device.new) result }
     ensures gate { D.is_observable → IfOk result (λ yes. IsTrue yes ↔ IsOpen (D.contents device.old) block) }
     ensures nothing { D.is_observable → WroteNothing D.calls D.contents D.images_now D.images_since device.old device.new }

@@ -1,7 +1,10 @@
 //! Superblocks: what one says, and the limits of its fields.
 
-/// The format of a superblock that [`format`](crate::format) writes.
+/// The format of a superblock that [`format`](crate::format) writes: the least one. [`crate::formats_are_these`] states it as a numeral.
 pub const FORMAT: u32 = 1;
+
+/// The greatest format of a superblock. [`crate::formats_are_these`] states it as a numeral.
+pub const MAX_FORMAT: u32 = 3;
 
 /// The block at which the log begins: a gate.
 pub const LOG_START: u64 = 4;
@@ -33,6 +36,6 @@ pub struct Super {
     /// The gate of the checkpoint from which the log is read, less than `tail`, or 0 if there is no checkpoint.
     pub checkpoint: u64,
 
-    /// The format of the device: [`FORMAT`].
+    /// The format of the device: [`FORMAT`] to [`MAX_FORMAT`].
     pub format: u32,
 }

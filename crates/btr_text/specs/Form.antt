@@ -6,8 +6,9 @@ use Rattle.btr_base.specs.Decimal.{signed_of}
 use Rattle.btr_hist.specs.declared.query.StreamQuery.{StreamQuery}
 use Rattle.btr_hist.specs.declared.query.StreamQuery.TheVariants.{Points, Nearest, Aligned, Windows, Changes, Info}
 use Rattle.btr_text.specs.declared.script.Line.{Line}
-use Rattle.btr_text.specs.declared.script.Line.TheVariants.{Create, Insert, Delete, Feed, Flush, Discard, Ask, Streams}
+use Rattle.btr_text.specs.declared.script.Line.TheVariants.{Create, Insert, Delete, Feed, Flush, Discard, Retire, Ask, Streams}
 use Rattle.btr_text.specs.Distiller.{distiller_form, refresh_form}
+use Rattle.btr_text.specs.Cell.{cell_form}
 use Rattle.btr_text.specs.Word.{unsigned_of, power_of, toward_of, id_of, at_of}
 
 -- ---- commits and feeds
@@ -55,6 +56,11 @@ flush_form _ = None
 abbrev pub discard_form : List (List ℕ) → Option Line
 discard_form (id ∷ []) = option_map (λ i. Discard i) (id_of id)
 discard_form _ = None
+
+-- `retire ID FIRST`.
+abbrev pub retire_form : List (List ℕ) → Option Line
+retire_form (id ∷ first ∷ []) = option_and_then (λ i. option_map (λ n. Retire i n) (unsigned_of first)) (id_of id)
+retire_form _ = None
 
 -- ---- questions about one stream, after their name and the id
 
@@ -131,6 +137,8 @@ line_of (name ∷ ws) =
     else if bytes_eq name (codes "flush") then flush_form ws
     else if bytes_eq name (codes "discard") then discard_form ws
     else if bytes_eq name (codes "distiller") then distiller_form ws
+    else if bytes_eq name (codes "cell") then cell_form ws
     else if bytes_eq name (codes "refresh") then refresh_form ws
+    else if bytes_eq name (codes "retire") then retire_form ws
     else if bytes_eq name (codes "streams") then streams_form ws
     else ask_form name ws

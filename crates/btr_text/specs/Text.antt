@@ -23,12 +23,17 @@ use Rattle.btr_text.specs.declared.reply.Reason.TheVariants as reasons
 abbrev pub line_text : List (List ℕ) → List ℕ
 line_text words = join_with_byte SPACE words ++ LINE_FEED ∷ []
 
+-- The id of a stream, hyphenated and in lower case.
+abbrev pub id_text : ℕ → List ℕ
+id_text id = hyphenated_text lower (to_be_bytes w128 id)
+
 -- The words of a refusal, after `no`.
 abbrev pub reason_words : Reason → List (List ℕ)
 reason_words reasons.Line = codes "line" ∷ []
 reason_words reasons.Stream = codes "stream" ∷ []
 reason_words reasons.Range = codes "range" ∷ []
 reason_words (reasons.Version asked latest) = codes "version" ∷ decimal asked ∷ decimal latest ∷ []
+reason_words (reasons.Retired asked first) = codes "retired" ∷ decimal asked ∷ decimal first ∷ []
 reason_words reasons.Exists = codes "exists" ∷ []
 reason_words reasons.Output = codes "output" ∷ []
 reason_words reasons.Plain = codes "plain" ∷ []
@@ -38,6 +43,8 @@ reason_words (reasons.Many count) = codes "many" ∷ decimal count ∷ []
 reason_words reasons.Streams = codes "streams" ∷ decimal MAX_STREAMS ∷ []
 reason_words reasons.Versions = codes "versions" ∷ decimal MAX_VERSIONS ∷ []
 reason_words reasons.Spec = codes "spec" ∷ []
+reason_words (reasons.First first present latest) = codes "first" ∷ decimal first ∷ decimal present ∷ decimal latest ∷ []
+reason_words (reasons.Held id version) = codes "held" ∷ id_text id ∷ decimal version ∷ []
 reason_words (reasons.Crowded start) = codes "crowded" ∷ signed_decimal start ∷ []
 reason_words (reasons.Points count) = codes "points" ∷ decimal count ∷ []
 reason_words reasons.Memory = codes "memory" ∷ []
@@ -58,10 +65,6 @@ ends_words (Some e) = signed_decimal e.0 ∷ signed_decimal e.1 ∷ []
 -- The words of an aggregate: the number of points, their sum, then the least and the greatest value.
 abbrev pub agg_words : AggValue → List (List ℕ)
 agg_words a = decimal a.count ∷ signed_decimal a.total ∷ ends_words a.ends
-
--- The id of a stream, hyphenated and in lower case.
-abbrev pub id_text : ℕ → List ℕ
-id_text id = hyphenated_text lower (to_be_bytes w128 id)
 
 -- The row of a point.
 abbrev pub point_row : Point → List ℕ

@@ -1,10 +1,11 @@
 ghost use Rattle.std.specs.Prelude.{◌≡◌, IfOk, option_map};
 ghost use Rattle.btr_text.specs.Word.{words_of};
 ghost use Rattle.btr_text.specs.Form.{point_of, points_of, added_form, create_form, insert_form, delete_form};
-ghost use Rattle.btr_text.specs.Form.{feed_form, flush_form, discard_form};
+ghost use Rattle.btr_text.specs.Form.{feed_form, flush_form, discard_form, retire_form};
 ghost use Rattle.btr_text.specs.Form.{range_form, nearest_form, aligned_form, windows_form, changes_form, info_form};
 ghost use Rattle.btr_text.specs.Form.{query_form, ask_form, streams_form, line_of};
 
+use crate::cell_form::read_cell;
 use crate::distiller_form::{read_distiller, read_refresh};
 use crate::script::Line;
 use crate::word::{next_word, read_at, read_id, read_power, read_toward, read_unsigned};
@@ -33,8 +34,12 @@ pub fn read_form(alloc: Global, words: &[u8]) -> Result<Option<Line>, AllocError
         Ok(read_discard(rest))
     } else if name == b"distiller".as_slice() {
         Ok(read_distiller(rest))
+    } else if name == b"cell".as_slice() {
+        Ok(read_cell(rest))
     } else if name == b"refresh".as_slice() {
         Ok(read_refresh(rest))
+    } else if name == b"retire".as_slice() {
+        Ok(read_retire(rest))
     } else if name == b"streams".as_slice() {
         Ok(read_streams(rest))
     } else {
@@ -110,6 +115,21 @@ fn read_discard(words: &[u8]) -> Option<Line>
         return None;
     }
     Some(Line::Discard { id: read_id(id)? })
+}
+
+/// Reads `retire ID FIRST`, after its name.
+fn read_retire(words: &[u8]) -> Option<Line>
+    ensures { result ≡ retire_form (words_of words.now) }
+{
+    let (id, rest) = next_word(words)?;
+    let (first, rest) = next_word(rest)?;
+    if let Some(_) = next_word(rest) {
+        return None;
+    }
+    Some(Line::Retire {
+        id: read_id(id)?,
+        first: read_unsigned(first)?,
+    })
 }
 
 /// Reads `streams`, after its name.

@@ -17,7 +17,16 @@ pub enum Reason {
     Range,
 
     /// The stream has no such version yet.
-    Version { asked: u64, latest: u64 },
+    Version {
+        asked: u64,
+        latest: u64,
+    },
+
+    /// The version is retired: it is before this first one of the stream that can be asked.
+    Retired {
+        asked: u64,
+        first: u64,
+    },
 
     /// A stream with this id exists.
     Exists,
@@ -29,13 +38,17 @@ pub enum Reason {
     Plain,
 
     /// A point is outside the domain. This is the least such time, in nanoseconds.
-    Domain { time: i64 },
+    Domain {
+        time: i64,
+    },
 
     /// There is nothing to commit.
     Empty,
 
     /// There are too many points or ranges. This is the greater of the two numbers.
-    Many { count: u64 },
+    Many {
+        count: u64,
+    },
 
     /// The store has as many streams as it may have.
     Streams,
@@ -46,32 +59,57 @@ pub enum Reason {
     /// An output cannot have this spec.
     Spec,
 
+    /// The versions before this first one cannot be retired: they are retired already, or the stream has no such version yet. The stream's
+    /// first version that can be asked, and its latest.
+    First {
+        first: u64,
+        present: u64,
+        latest: u64,
+    },
+
+    /// A version that would be retired is the one that an output has read last. The id of the output, and the version.
+    Held {
+        id: u128,
+        version: u64,
+    },
+
     /// A bottom span would hold too many points. This is the start of the first such span, in nanoseconds.
-    Crowded { start: i64 },
+    Crowded {
+        start: i64,
+    },
 
     /// The version would hold too many points. This is their number.
-    Points { count: u64 },
+    Points {
+        count: u64,
+    },
 
     /// The program is out of memory.
     Memory,
 
     /// The device is full. These are the blocks of 4096 bytes that the entry needs, and the blocks that are left.
-    Full { need: u64, left: u64 },
+    Full {
+        need: u64,
+        left: u64,
+    },
 
     /// The device failed.
     Device,
 
     /// The store takes no more commits, since the device failed after this number of entries.
-    Stopped { entries: u64 },
+    Stopped {
+        entries: u64,
+    },
 
     /// The output has been brought up to date by another commit since, and this is its version now.
-    Superseded { version: u64 },
+    Superseded {
+        version: u64,
+    },
 }
 
 impl Reason {
-    /// Returns the reason of a line whose entry was rejected.
-    pub fn of_rejection(rejection: Rejection) -> Reason
-        ensures { result ≡ reason_of_rejection rejection }
+    /// Returns the reason of a line whose entry was rejected. If the rejection names an output, `id` is its id; else it is not looked at.
+    pub fn of_rejection(rejection: Rejection, id: u128) -> Reason
+        ensures { result ≡ reason_of_rejection id rejection }
     {
         match rejection {
             Rejection::NoStream => Reason::Stream,
@@ -83,6 +121,16 @@ impl Reason {
             Rejection::StreamLimit => Reason::Streams,
             Rejection::VersionLimit => Reason::Versions,
             Rejection::BadSpec => Reason::Spec,
+            Rejection::BadFirst {
+                first,
+                present,
+                latest,
+            } => Reason::First {
+                first,
+                present,
+                latest,
+            },
+            Rejection::Held { version, .. } => Reason::Held { id, version },
             Rejection::Crowded { start } => Reason::Crowded { start },
             Rejection::TooManyPoints { count } => Reason::Points { count },
         }
@@ -95,6 +143,7 @@ impl Reason {
         match refusal {
             Refusal::NoStream => Reason::Stream,
             Refusal::NoVersion { asked, latest } => Reason::Version { asked, latest },
+            Refusal::Retired { asked, first } => Reason::Retired { asked, first },
             Refusal::BadRange => Reason::Range,
         }
     }

@@ -43,6 +43,8 @@ pub enum Line {
 
     /// `distiller ID KERNEL LEAD GRAIN ID [ID]`: a new output, the points that the kernel computes from its one or two inputs.
     /// A kernel is `affine A B D`, `sum`, `mean`, `least`, `greatest`, `count`, `delta`, `minus`, `angle` or `hold`.
+    /// Or `cell ID WHICH P GRAIN ID`: a new output by [`Kernel::Cell`], with a lead of 0 and one input. WHICH is `sum`, `mean`,
+    /// `least`, `greatest` or `count`.
     Distiller {
         id: u128,
         kernel: Kernel,
@@ -55,6 +57,12 @@ pub enum Line {
     /// `refresh ID`: one commit that brings an output up to date with its inputs, or nothing if it is.
     Refresh {
         id: u128,
+    },
+
+    /// `retire ID FIRST`: the versions of the stream before this one cannot be asked any more.
+    Retire {
+        id: u128,
+        first: u64,
     },
 
     /// `range`, `nearest`, `aligned`, `windows`, `changes` or `info`, then ID and the words of the question: a question

@@ -1,22 +1,23 @@
 ghost use Rattle.std.specs.Prelude.{◌≡◌, [], ◌∷◌, ◌++◌, length, take, map, flat_map, codes, decimal, OnOk, OnErr};
 ghost use Rattle.std.specs.List.{join_with_byte};
-ghost use Rattle.btr_text.specs.Text.{text, line_text, ok_text, held_text, reason_words};
+ghost use Rattle.btr_text.specs.Text.{text, line_text, ok_text, held_text, id_text, reason_words};
 
 use crate::reply::{LineReply, Reason};
-use crate::row::{append_rows, row_count};
+use crate::row::{append_rows, id_text, row_count};
 use crate::word::{LINE_FEED, SPACE};
 use btr_base::{MAX_STREAMS, MAX_VERSIONS};
 use itoa::{Buffer, Integer};
 use std::alloc::AllocError;
+use uuid::Uuid;
 
 /// Appends the text of a reply to `out`. It takes time linear in the text, and the memory that `out` needs to grow.
 /// An `Err` means out of memory, and leaves `out` as it was.
 ///
-/// A reply is `ok VERSION ROWS` and its rows, `held COUNT`, or `no WORD` with numbers. A row is `TIME VALUE` for a point, `START COUNT
-/// SUM LEAST GREATEST` for a window, `FROM TO` for a changed range, and `ID LATEST KIND` for a stream. All points of a version
-/// have the row `KIND COUNT SUM [LEAST GREATEST]`, and those of a version that was computed from others a second row
-/// `reads VERSION [VERSION]`, the versions of the inputs. A kind is `plain` or `output`. Each line ends with a line feed, and one
-/// space separates two words. Numbers are plain decimal. An id is hyphenated and in lower case (RFC 9562).
+/// A reply is `ok VERSION ROWS` and its rows, `held COUNT`, or `no WORD` with numbers, or with an id and a number. A row is `TIME VALUE`
+/// for a point, `START COUNT SUM LEAST GREATEST` for a window, `FROM TO` for a changed range, and `ID LATEST KIND` for a stream. All points
+/// of a version have the row `KIND COUNT SUM [LEAST GREATEST]`, and those of a version that was computed from others a second row
+/// `reads VERSION [VERSION]`, the versions of the inputs. A kind is `plain` or `output`. Each line ends with a line feed, and one space
+/// separates two words. Numbers are plain decimal. An id is hyphenated and in lower case (RFC 9562).
 pub fn write_reply(reply: &LineReply, out: &mut Vec<u8>) -> Result<(), AllocError>
     ensures ok { OnOk result (out.new.items ≡ out.old.items ++ text reply.now) }
     ensures err { OnErr result (out.new.items ≡ out.old.items) }
@@ -82,6 +83,7 @@ pub fn append_reason(out: &mut Vec<u8>, reason: Reason) -> Result<(), AllocError
         Reason::Stream => append_refusal(out, b"stream"),
         Reason::Range => append_refusal(out, b"range"),
         Reason::Version { asked, latest } => append_refusal2(out, b"version", asked, latest),
+        Reason::Retired { asked, first } => append_refusal2(out, b"retired", asked, first),
         Reason::Exists => append_refusal(out, b"exists"),
         Reason::Output => append_refusal(out, b"output"),
         Reason::Plain => append_refusal(out, b"plain"),
@@ -91,6 +93,12 @@ pub fn append_reason(out: &mut Vec<u8>, reason: Reason) -> Result<(), AllocError
         Reason::Streams => append_refusal1(out, b"streams", MAX_STREAMS),
         Reason::Versions => append_refusal1(out, b"versions", MAX_VERSIONS),
         Reason::Spec => append_refusal(out, b"spec"),
+        Reason::First {
+            first,
+            present,
+            latest,
+        } => append_first(out, first, present, latest),
+        Reason::Held { id, version } => append_holder(out, id, version),
         Reason::Crowded { start } => append_refusal1(out, b"crowded", start),
         Reason::Points { count } => append_refusal1(out, b"points", count),
         Reason::Memory => append_refusal(out, b"memory"),
@@ -132,6 +140,47 @@ fn append_refusal2(out: &mut Vec<u8>, word: &[u8], a: u64, b: u64) -> Result<(),
             word,
             first.format(a).as_bytes(),
             second.format(b).as_bytes(),
+        ],
+    )
+}
+
+/// Appends the refusal of a retirement whose first version is not allowed. An `Err` may leave a part of it.
+fn append_first(out: &mut Vec<u8>, first: u64, present: u64, latest: u64) -> Result<(), AllocError>
+    ensures ok { OnOk result (out.new.items
+        ≡ out.old.items ++ line_text (codes "no" ∷ codes "first" ∷ decimal first ∷ decimal present ∷ decimal latest ∷ [])) }
+    ensures err { OnErr result (take (length out.old.items) out.new.items ≡ out.old.items) }
+{
+    let mut a = Buffer::new();
+    let mut b = Buffer::new();
+    let mut c = Buffer::new();
+    append_line(
+        out,
+        b"no",
+        &[
+            b"first",
+            a.format(first).as_bytes(),
+            b.format(present).as_bytes(),
+            c.format(latest).as_bytes(),
+        ],
+    )
+}
+
+/// Appends the refusal of a retirement of the version that an output has read last: the id of the output, and the version. An `Err`
+/// may leave a part of it.
+fn append_holder(out: &mut Vec<u8>, id: u128, version: u64) -> Result<(), AllocError>
+    ensures ok { OnOk result (out.new.items
+        ≡ out.old.items ++ line_text (codes "no" ∷ codes "held" ∷ id_text id ∷ decimal version ∷ [])) }
+    ensures err { OnErr result (take (length out.old.items) out.new.items ≡ out.old.items) }
+{
+    let mut buffer = Uuid::encode_buffer();
+    let mut text = Buffer::new();
+    append_line(
+        out,
+        b"no",
+        &[
+            b"held",
+            id_text(id, &mut buffer).as_bytes(),
+            text.format(version).as_bytes(),
         ],
     )
 }

@@ -65,6 +65,8 @@ benign_rejection h e (rejections.TooMany count) = inr (inl refl)
 benign_rejection h e rejections.StreamLimit = inr (inl refl)
 benign_rejection h e rejections.VersionLimit = inr (inl refl)
 benign_rejection h e rejections.BadSpec = inr (inl refl)
+benign_rejection h e (rejections.BadFirst first present last) = inr (inl refl)
+benign_rejection h e (rejections.Held output version) = inr (inl refl)
 benign_rejection h e (rejections.Crowded start) = inr (inl refl)
 benign_rejection h e (rejections.TooManyPoints count) = inr (inl refl)
 
@@ -76,6 +78,7 @@ benign_answer : (a : Answer) → IsBenign (status_of_reply (reply_of_answer a))
 benign_answer (Found version rows) = inl refl
 benign_answer (IsRefused refusals.NoStream) = inr (inl refl)
 benign_answer (IsRefused (refusals.NoVersion asked latest)) = inr (inl refl)
+benign_answer (IsRefused (refusals.Retired asked first)) = inr (inl refl)
 benign_answer (IsRefused refusals.BadRange) = inr (inl refl)
 
 benign_on_stream : (h : List Entry) (found : Option ℕ) (asked : ℕ → Meaning) → ((stream : ℕ) → IsBenign (status_of_reply (model_reply h (asked stream)))) → IsBenign (status_of_reply (model_reply h (on_stream found asked)))
@@ -157,6 +160,8 @@ benign_model batch h w (Some (lines.Discard id)) = benign_on_stream h (stream_of
 benign_model batch h w (Some (lines.Distiller id kernel lead grain first second)) = benign_define h id kernel lead grain first second
 benign_model batch h w (Some (lines.Refresh id)) =
     benign_on_stream h (stream_of h id) (λ stream. refresh h stream (spec_of h stream)) (λ stream. benign_refresh h stream (spec_of h stream))
+benign_model batch h w (Some (lines.Retire id first)) =
+    benign_on_stream h (stream_of h id) (λ stream. Commits (entries.Retire stream first)) (λ stream. benign_commit h (entries.Retire stream first) (rejection h (entries.Retire stream first)))
 benign_model batch h w (Some (lines.Ask id query)) = benign_ask h id query
 benign_model batch h w (Some lines.Streams) = inl refl
 
@@ -288,6 +293,7 @@ benign_question h (Some (lines.Flush id)) = inr (inl refl)
 benign_question h (Some (lines.Discard id)) = inr (inl refl)
 benign_question h (Some (lines.Distiller id kernel lead grain first second)) = inr (inl refl)
 benign_question h (Some (lines.Refresh id)) = inr (inl refl)
+benign_question h (Some (lines.Retire id first)) = inr (inl refl)
 benign_question h (Some (lines.Ask id query)) = benign_ask h id query
 benign_question h (Some lines.Streams) = inl refl
 

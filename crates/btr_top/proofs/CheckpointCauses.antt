@@ -9,12 +9,13 @@ use Rattle.btr_disk.proofs.ByteLemmas.{Same-is}
 use Rattle.btr_disk.proofs.MomentLemmas.{composes, weakens, left_now}
 use Rattle.btr_log.specs.Extents.{left}
 use Rattle.btr_log.specs.Head.{content_blocks}
+use Rattle.btr_super.specs.declared.superblock.Super.{Super}
 use Rattle.btr_hist.specs.declared.entry.Entry.{Entry}
 use Rattle.btr_roll.specs.Roll.{RollStreamValue, roll_bytes}
 use Rattle.btr_engine.specs.declared.engine.Engine.{Engine}
 use Rattle.btr_engine.specs.declared.step.StepFault.TheVariants as faults
 use Rattle.btr_engine.specs.Holds.{HoldsHistory, HoldsHistoryTo}
-use Rattle.btr_engine.specs.Engine.{device, board_of, tail_of, blocks_of, room_of, IsAtRest, EngineLeaves, KeepsOpening}
+use Rattle.btr_engine.specs.Engine.{device, super_of, board_of, tail_of, blocks_of, room_of, IsAtRest, EngineLeaves, KeepsOpening}
 use Rattle.btr_engine.specs.Mark as mark
 use Rattle.btr_engine.specs.Mark.{need_of_board, IsNamed, IsCheckpointed}
 use Rattle.btr_streams.proofs.RollingLemmas.{rolled-is}
@@ -24,7 +25,7 @@ use Rattle.btr_top.specs.declared.ending.Ending.{Ending}
 use Rattle.btr_top.specs.declared.ending.Ending.TheVariants.{Usage, NoSource, TooLong, OutOfMemory, NoDevice, NoStore, Damaged, Occupied, TooSmall, Formatted, Checkpointed, Stands, Full, Replied}
 use Rattle.btr_top.specs.Command.{IsKept, OpeningCause}
 use Rattle.btr_top.specs.Checkpoint.{need_of_checkpoint, Lasts, AddsCheckpoint, CheckpointEnds}
-use Rattle.btr_top.proofs.OneStore.{AreOne, one_store}
+use Rattle.btr_top.proofs.OneStore.{AreOne, one_store, one_super}
 
 -- A fault after others is one since then.
 rose_since : (old mid new : ℕ) → old ≤ mid → Rose mid new → Rose old new
@@ -74,10 +75,18 @@ module _ {D : Type 0} (disk : Ghosts D) (counts_now : CountsNow disk) (old : D) 
         one_store (disk.size old) (disk.contents old) blocks tail h holds (disk.size (device engine)) (disk.contents (device engine)) (sym opened.kept.counts.same_size)
         (sym (Same-is (disk.contents old) (disk.contents (device engine)) (opened.kept.unwritten reported).same)) (blocks_of engine) (tail_of engine) h rests.holds
 
-    need_is : need_of_board (board_of engine) ≡ need_of_checkpoint h holds.leads.roots
+    -- The engine has the superblock of the store.
+    same_super : holds.super ≡ super_of engine
+    same_super =
+        one_super (disk.size old) (disk.contents old) blocks tail h holds (disk.size (device engine)) (disk.contents (device engine)) (sym opened.kept.counts.same_size)
+        (sym (Same-is (disk.contents old) (disk.contents (device engine)) (opened.kept.unwritten reported).same)) (blocks_of engine) (tail_of engine) h rests.holds
+        ∙ rests.under
+
+    need_is : need_of_board (super_of engine).format (board_of engine) ≡ need_of_checkpoint holds.super.format h holds.leads.roots
     need_is =
-        ap (λ (roll : List RollStreamValue). content_blocks (length (roll_bytes roll)) + 1) (rolled-is h rests.holds.leads.roots (board_of engine) (has-streams h (board_of engine) rests.of) rests.roots)
-        ∙ ap (λ (roots : List ℕ). need_of_checkpoint h roots) (sym same_store.same_roots)
+        ap (λ (roll : List RollStreamValue). content_blocks (length (roll_bytes (super_of engine).format roll)) + 1) (rolled-is h rests.holds.leads.roots (board_of engine) (has-streams h (board_of engine) rests.of) rests.roots)
+        ∙ ap (λ (roots : List ℕ). need_of_checkpoint (super_of engine).format h roots) (sym same_store.same_roots)
+        ∙ ap (λ (s : Super). need_of_checkpoint s.format h holds.leads.roots) (sym same_super)
 
     room_is : room_of engine ≡ left blocks tail
     room_is =
@@ -105,15 +114,15 @@ module _ {D : Type 0} (disk : Ghosts D) (counts_now : CountsNow disk) (old : D) 
           now = left_now calls images start end Held (disk.images_now end) (counts_now reported end) each;
         }
 
-    adds : (new : Engine D disk) (entries : ℕ) → IsCheckpointed engine new entries → KeepsOpening engine new → IsAtRest h new → ((c : Image) → disk.images_now (device new) c → IsNamed (disk.size (device new)) c (blocks_of new) (tail_of new) h) → LeavesHistory new → AddsCheckpoint disk entries old (device new) h holds.leads.roots blocks tail
+    adds : (new : Engine D disk) (entries : ℕ) → IsCheckpointed engine new entries → KeepsOpening engine new → IsAtRest h new → ((c : Image) → disk.images_now (device new) c → IsNamed (disk.size (device new)) c (blocks_of new) (tail_of new) h) → LeavesHistory new → AddsCheckpoint disk entries old (device new) h (need_of_checkpoint holds.super.format h holds.leads.roots) blocks tail
     adds new entries is kept after named leaves =
-        let need : ℕ = need_of_checkpoint h holds.leads.roots in
+        let need : ℕ = need_of_checkpoint holds.super.format h holds.leads.roots in
         let tails : tail_of new ≡ tail + need =
-        is.tail ∙ ap (λ (t : ℕ). t + need_of_board (board_of engine)) (sym same_store.same_tail) ∙ ap (λ (n : ℕ). tail + n) need_is in
+        is.tail ∙ ap (λ (t : ℕ). t + need_of_board (super_of engine).format (board_of engine)) (sym same_store.same_tail) ∙ ap (λ (n : ℕ). tail + n) need_is in
         let image : Image = disk.contents (device new) in
         record {
           counted = is.entries ∙ rests.of.entries;
-          fits = subst (λ (n : ℕ). n ≤ left blocks tail) need_is (subst (λ (r : ℕ). need_of_board (board_of engine) ≤ r) room_is is.fits);
+          fits = subst (λ (n : ℕ). n ≤ left blocks tail) need_is (subst (λ (r : ℕ). need_of_board (super_of engine).format (board_of engine) ≤ r) room_is is.fits);
           lasts = lasts_through new leaves;
           safely = record { holds = record { blocks = blocks_of new; tail = tail_of new; holds = after.holds }; only = after.only };
           named =

@@ -386,6 +386,10 @@ module _ (batch rounds : ℕ) (script : List ScriptLine) (start : StoreState) (l
     by_line (Some (lines.Refresh id)) at_place m means answers same =
         plain_serves lane place old pending (Some (lines.Refresh id)) reply own new a after since at_place waits
         (refresh_for id) m means answers same
+    by_line (Some (lines.Retire id first)) at_place m means answers same =
+        let line : Option Line = Some (lines.Retire id first) in
+        plain_serves lane place old pending line reply own new a after since at_place waits
+        (λ e asked p starts lands. asked_for line e (asked_only batch a v line e asked) p starts) m means answers same
     by_line (Some (lines.Ask id query)) at_place m means answers same =
         let line : Option Line = Some (lines.Ask id query) in
         plain_serves lane place old pending line reply own new a after since at_place waits

@@ -27,7 +27,7 @@ use Rattle.btr_text.specs.declared.reply.LineReply.{LineReply}
 use Rattle.btr_text.specs.declared.reply.LineReply.TheVariants.{Done, No}
 use Rattle.btr_text.specs.declared.reply.Reason.{Reason}
 use Rattle.btr_live.specs.Lanes.{reply_of_step, reply_of_landing, Offers}
-use Rattle.btr_live.specs.Reasons.{reason_of_step, reason_of_landing}
+use Rattle.btr_live.specs.Reasons.{holder, reason_of_step, reason_of_landing}
 use Rattle.btr_store.specs.Completes.{IsBenign}
 use Rattle.btr_store.specs.Replies.{status_of_reply}
 use Rattle.btr_top.specs.Room.{LandsFor}
@@ -100,15 +100,15 @@ module _ (start : StoreState) (log : LogState) (running : start.stopped ≡ fals
 
   -- ---- commits
 
-  committed_turn : (a p : List Entry) (e : Entry) (result : Result Receipt StepFault) (reply : LineReply) (own : List ℕ) (next : List Entry) → StartsWith p a → StartsWith log.history p → Lands p e → reply ≡ reply_of_step result → Committed start log p e result own next → Turned a e reply own next
+  committed_turn : (a p : List Entry) (e : Entry) (result : Result Receipt StepFault) (reply : LineReply) (own : List ℕ) (next : List Entry) → StartsWith p a → StartsWith log.history p → Lands p e → reply ≡ reply_of_step p result → Committed start log p e result own next → Turned a e reply own next
   committed_turn a p e (Ok receipt) reply own next after there lands replied is = added a p e reply own next after receipt.version replied lands is.2
   committed_turn a p e (Err (steps.Stopped entries)) reply own next after there lands replied is = absurd (not_stopped is.0.stopped)
   committed_turn a p e (Err (steps.Rejected why)) reply own next after there lands replied is =
-      refused a p e reply own next after (reason_of_step (steps.Rejected why)) replied there (inl (along reply _ replied (benign_rejection p e why))) is.1
+      refused a p e reply own next after (reason_of_step (holder p why) (steps.Rejected why)) replied there (inl (along reply _ replied (benign_rejection p e why))) is.1
   committed_turn a p e (Err steps.Want) reply own next after there lands replied is =
-      refused a p e reply own next after (reason_of_step steps.Want) replied there (inl (along reply _ replied (inr (inr refl)))) is.1
+      refused a p e reply own next after (reason_of_step 0 steps.Want) replied there (inl (along reply _ replied (inr (inr refl)))) is.1
   committed_turn a p e (Err (steps.DeviceFull need left)) reply own next after there lands replied is =
-      refused a p e reply own next after (reason_of_step (steps.DeviceFull need left)) replied there (inr record { accepted = is.0; lands = lands; need = need; left = left; full = is.1 }) is.2
+      refused a p e reply own next after (reason_of_step 0 (steps.DeviceFull need left)) replied there (inr record { accepted = is.0; lands = lands; need = need; left = left; full = is.1 }) is.2
   committed_turn a p e (Err steps.DeviceFault) reply own next after there lands replied is = absurd (not_failed e is.1.failed)
 
   -- ---- landings
@@ -166,3 +166,5 @@ module _ (start : StoreState) (log : LogState) (running : start.stopped ≡ fals
       let planned : IsNextPlan a plan.stream plan = subst (λ (s : ℕ). IsNextPlan a s plan) (sym is.1.same_stream) is.1 in
       subst (λ (e : Entry). Turned a e reply own next) is.2
       (landed_turn a is.4.0 plan is.3 reply own next since is.4.1 is.4.2 planned is.5 is.4.3)
+  offered_turn saw_failure a (entries.Retire stream first) reply own next since is =
+      committed_turn a is.1.0 (entries.Retire stream first) is.0 reply own next is.1.1 is.1.2 tt is.2 is.1.3

@@ -29,14 +29,19 @@ module _ (size : ℕ) (image : Image) (blocks tail : ℕ) (h : List Entry) (x : 
       let limit : blocks ≤ 2 ^ 64 = omega (arith, x.same_blocks, x.chosen.stored.spelled.keeps.blocks_to) in
       (omega (arith, long, x.inside, limit), omega (arith, x.inside, limit))
 
-  -- Another device with the same blocks and bytes holds the same.
-  pub one_store : (other : ℕ) (read : Image) → size ≡ other → image ≡ read → (others end : ℕ) (k : List Entry) (y : HoldsHistoryTo other read others end k) → AreOne blocks tail h x.leads.roots others end k y.leads.roots
-  one_store other read sizes images others end k y =
+  -- Another device with the same blocks and bytes has the same superblock.
+  pub one_super : (other : ℕ) (read : Image) → size ≡ other → image ≡ read → (others end : ℕ) (k : List Entry) (y : HoldsHistoryTo other read others end k) → x.super ≡ y.super
+  one_super other read sizes images others end k y =
       let chosen : IsChosen size image y.super =
       subst (λ (i : Image). IsChosen size i y.super) (sym images) (subst (λ (n : ℕ). IsChosen n read y.super) (sym sizes) y.chosen) in
+      one_chosen size image x.super y.super x.chosen chosen
+
+  -- It holds the same.
+  pub one_store : (other : ℕ) (read : Image) → size ≡ other → image ≡ read → (others end : ℕ) (k : List Entry) (y : HoldsHistoryTo other read others end k) → AreOne blocks tail h x.leads.roots others end k y.leads.roots
+  one_store other read sizes images others end k y =
       let extents : Extents image first_gate y.bodies end = subst (λ (i : Image). Extents i first_gate y.bodies end) (sym images) y.extents in
       let closed : IsClosed image end = subst (λ (i : Image). IsClosed i end) (sym images) y.closed in
-      let supers : x.super ≡ y.super = one_chosen size image x.super y.super x.chosen chosen in
+      let supers : x.super ≡ y.super = one_super other read sizes images others end k y in
       let logs = Extents-one image first_gate x.bodies y.bodies tail end x.extents x.closed extents closed in
       let before : Prefix = prefix_to tail h x.leads.roots x.leads.pages in
       let after : Prefix = prefix_to end k y.leads.roots y.leads.pages in

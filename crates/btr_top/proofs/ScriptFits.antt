@@ -24,7 +24,7 @@ use Rattle.btr_hist.proofs.HistoryLemmas.{follows-last, follows-prefix}
 use Rattle.btr_hist.proofs.RejectionLemmas.{first_none, rest_none}
 use Rattle.btr_entry.proofs.NumberLemmas.{wide32}
 use Rattle.btr_entry.proofs.SpecLemmas.{length-kernel, length-numbers, length-spec}
-use Rattle.btr_entry.proofs.SpellingLemmas.{length-create, length-commit, length-define}
+use Rattle.btr_entry.proofs.SpellingLemmas.{length-create, length-retirement, length-commit, length-define}
 use Rattle.btr_log.specs.Head.{content_blocks}
 use Rattle.btr_engine.specs.Body as blocks
 use Rattle.btr_engine.specs.Body.{most_nodes, most_need_of}
@@ -58,6 +58,10 @@ least_create id = let same : most_need_of (entries.Create id) ≡ 2 = ap (λ l. 
 least_define : (id : ℕ) (s : Spec) → AtMost 2 (entries.Define id s)
 least_define id s =
     omega (arith, length-define id s, length-spec s, length-kernel s.kernel, length-numbers w32 (2 ^ 32) wide32 s.first s.second)
+
+least_retire : (stream first : ℕ) → AtMost 2 (entries.Retire stream first)
+least_retire stream first =
+    let same : most_need_of (entries.Retire stream first) ≡ 2 = ap (λ l. content_blocks l + 1) (sym (length-retirement stream first)) in omega (arith, same)
 
 least_insert : (stream : ℕ) (added : List Point) → AtMost (blocks_of_points (length added)) (entries.Commit stream [] added)
 least_insert stream added = let same = need_of_commit stream [] added in omega (arith, same)
@@ -99,6 +103,9 @@ module _ (batch : ℕ) (low p : List Entry) (e : Entry) where
       (λ h. on_found (AtMost 2) (stream_of h first) (λ f. on_second h second (λ s. Commits (defined f s))) (λ f.
       on_other (AtMost 2) h second (λ s. Commits (defined f s)) (λ s. least_define id (record { kernel = kernel; lead = lead; grain = grain; first = f; second = s }))))
   line_least (Some (lines.Refresh id)) plain is = absurd plain
+  line_least (Some (lines.Retire id first)) plain is =
+      asked_least (Some (lines.Retire id first)) 2 is
+      (λ h. on_found (AtMost 2) (stream_of h id) (λ stream. Commits (entries.Retire stream first)) (λ stream. least_retire stream first))
   line_least (Some (lines.Ask id query)) plain is =
       asked_least (Some (lines.Ask id query)) 0 is (λ h. on_found (AtMost 0) (stream_of h id) (λ stream. Asks (of_stream query stream)) (λ stream. tt))
   line_least (Some lines.Streams) plain is = asked_least (Some lines.Streams) 0 is (λ h. tt)

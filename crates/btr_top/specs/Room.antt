@@ -170,6 +170,7 @@ blocks_of_points count = content_blocks (21 + 16 * count) + most_nodes count 0 +
 abbrev pub most_blocks : Option Line → ℕ
 most_blocks (Some (lines.Create id)) = 2
 most_blocks (Some (lines.Distiller id kernel lead grain first second)) = 2
+most_blocks (Some (lines.Retire id first)) = 2
 most_blocks (Some (lines.Insert id added)) = blocks_of_points (length added)
 most_blocks (Some (lines.Delete id from to)) = 2 + most_nodes 0 1
 most_blocks (Some (lines.Feed id added)) = blocks_of_points (length added)

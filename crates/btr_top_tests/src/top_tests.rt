@@ -1,5 +1,6 @@
 //! Tests of whole runs on devices in memory.
 mod bulk;
+mod cells;
 mod checkpoints;
 mod checks;
 mod crashes;
@@ -7,6 +8,7 @@ mod device;
 mod fixture;
 mod lanes;
 mod outputs;
+mod retirements;
 mod stops;
 mod streams;
 mod transcripts;

@@ -193,6 +193,33 @@ const ENDS: Spec = Spec {
     second: None,
 };
 
+/// The sums of windows of 16 ns.
+const CELLS: Spec = Spec {
+    kernel: Kernel::Cell { which: 1, p: 4 },
+    lead: 0,
+    grain: 0,
+    first: 0,
+    second: None,
+};
+
+/// The counts of windows of 4 ns, of the stream at the ends of the domain.
+const END_CELLS: Spec = Spec {
+    kernel: Kernel::Cell { which: 5, p: 2 },
+    lead: 0,
+    grain: 0,
+    first: 2,
+    second: None,
+};
+
+/// The greatest values of windows of 1 ns, looked for in slots of 16 ns.
+const FINE_CELLS: Spec = Spec {
+    kernel: Kernel::Cell { which: 4, p: 0 },
+    lead: 0,
+    grain: 4,
+    first: 0,
+    second: None,
+};
+
 /// A spec, the versions that were read before, those that are read, and the cut and the points of the plan.
 struct PlanOf(Spec, Versions, Versions, Pairs, Pairs);
 
@@ -271,6 +298,31 @@ const PLANNED: &[PlanOf] = &[
         (2, None),
         &[(FIRST, FIRST + 11), (END - 1, END)],
         &[(FIRST, 1), (FIRST + 3, 2), (END - 1, 2)],
+    ),
+    // aligned windows: each that a change meets, whole
+    PlanOf(
+        CELLS,
+        (0, None),
+        (1, None),
+        &[(0, 32)],
+        &[(0, 30), (16, 30)],
+    ),
+    PlanOf(CELLS, (1, None), (2, None), &[(0, 16)], &[(0, 31)]),
+    PlanOf(CELLS, (1, None), (3, None), &[(0, 16)], &[(0, 11)]),
+    PlanOf(
+        END_CELLS,
+        (1, None),
+        (2, None),
+        &[(FIRST, FIRST + 4), (END - 4, END)],
+        &[(FIRST, 2), (END - 4, 2)],
+    ),
+    // windows that are narrower than the slots
+    PlanOf(
+        FINE_CELLS,
+        (1, None),
+        (2, None),
+        &[(0, 16)],
+        &[(0, 10), (5, 1), (10, 20)],
     ),
 ];
 

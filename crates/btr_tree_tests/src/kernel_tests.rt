@@ -147,6 +147,7 @@ fn plain_value(spec: &Spec, t: i64, first: &[Point], second: &[Point]) -> Option
                 .wrapping_sub(180_000)
         }
         Kernel::Hold => x.wrapping_sub(last_in_window(second, t, spec.lead, true)?),
+        Kernel::Cell { .. } => return None,
     };
     i64::try_from(value).ok()
 }
@@ -192,7 +193,7 @@ fn some_points(alloc: Global, seed: u64, from: i64, count: u64) -> Result<Vec<Po
     Ok(Bag::from_points(points).into_points())
 }
 
-/// Each kernel once.
+/// Each kernel of anchors once.
 const KERNELS: [Kernel; 10] = [
     Kernel::Affine { a: -3, b: 1, d: 2 },
     Kernel::Sum,
@@ -393,6 +394,14 @@ const CASES: &[Case] = &[
         &[(5, LEAST), (5, LEAST), (5, -1)],
         &[],
         &[(5, -6148914691236517206)],
+    ),
+    // a kernel of aligned windows has no value at an anchor
+    Case(
+        Kernel::Cell { which: 5, p: 0 },
+        0,
+        &[(5, 1), (6, 2)],
+        &[],
+        &[],
     ),
     // a sum that is no i64 gives no point
     Case(Kernel::Sum, 0, &[(5, MOST), (5, MOST)], &[], &[]),

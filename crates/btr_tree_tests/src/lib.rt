@@ -2,6 +2,8 @@
 #![tactic(auto)]
 
 #[cfg(test)]
+mod cell_tests;
+#[cfg(test)]
 mod diff_tests;
 #[cfg(test)]
 mod distil_tests;

@@ -371,12 +371,19 @@ fn wrong_pages_are_refused(rt: HostRuntime) -> Result<(), Fail> {
 
 // ---- pages by hand
 
+/// The points of a leaf.
+const HELD: [Point; 3] = [
+    Point { time: 0, value: 5 },
+    Point { time: 3, value: 7 },
+    Point { time: 4, value: -2 },
+];
+
 /// The page of a leaf with three points.
 fn leaf() -> NodePage {
     let mut points = [Point { time: 0, value: 0 }; LEAF_POINTS];
-    points[0] = Point { time: 0, value: 5 };
-    points[1] = Point { time: 3, value: 7 };
-    points[2] = Point { time: 4, value: -2 };
+    for (i, point) in HELD.iter().enumerate() {
+        points[i] = *point;
+    }
     NodePage::Leaf {
         start: FIRST,
         height: 10,

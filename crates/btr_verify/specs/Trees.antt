@@ -5,8 +5,7 @@ use Rattle.btr_base.specs.declared.limits.TheConstants.{FIRST}
 use Rattle.btr_base.specs.declared.point.Point.{Point}
 use Rattle.btr_disk.specs.declared.disk.Disk.{Ghosts}
 use Rattle.btr_disk.specs.Bytes.{Image, Has}
-use Rattle.btr_disk.specs.Causes.{Rose, KeepsCounts}
-use Rattle.btr_disk.specs.Moments.{WroteNothing}
+use Rattle.btr_disk.specs.Causes.{Rose}
 use Rattle.btr_tree.specs.History.{Past, bag}
 use Rattle.btr_tree.specs.Leads.{Leads}
 use Rattle.btr_tree.specs.Nodes.{points_of, above_root}
@@ -101,11 +100,6 @@ IsVerified pages h made found = MatchOption found (AllLead pages h made) (IsFirs
 -- ---- the device
 
 module _ {D : Type 0} (disk : Ghosts D) where
-  -- The calls between two states of a device wrote nothing.
-  pub record ReadsDevice (old new : D) : Type 0 where
-    pub counts : KeepsCounts disk.size disk.calls disk.faults old new
-    pub nothing : disk.is_observable → WroteNothing disk.calls disk.contents disk.images_now disk.images_since old new
-
   -- Why nothing was found out between two states of a device: it failed, or there was no memory.
   abbrev pub VerifyCause : D → D → VerifyFault → Type 0
   VerifyCause old new Fault = Rose (disk.faults old) (disk.faults new)

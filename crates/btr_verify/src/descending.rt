@@ -1,6 +1,7 @@
 //! The way from a root that does not lead to its version's tree to the first wrong node.
 ghost use Rattle.std.specs.Prelude.{◌<◌, IfErr, IfOk, IfSome};
-ghost use Rattle.btr_verify.specs.Trees.{ReadsDevice, VerifyCause};
+ghost use Rattle.btr_log.specs.Reads.{OnlyReads};
+ghost use Rattle.btr_verify.specs.Trees.{VerifyCause};
 ghost use Rattle.btr_verify.specs.Judging.{CanReadTo, IsNamedFrom, IsNextFrom};
 
 use crate::judging::{Mark, first_not_right, is_wrong_below};
@@ -19,7 +20,7 @@ pub(crate) fn descend<D: Disk>(
 ) -> Result<u64, VerifyFault>
     requires below { block < tail }
     requires can { CanReadTo ⟦<D as Disk>⟧ tail piece.old disk.old }
-    ensures reads { ReadsDevice ⟦<D as Disk>⟧ disk.old disk.new }
+    ensures reads { OnlyReads ⟦<D as Disk>⟧ disk.old disk.new }
     ensures named { D.is_observable → IfOk result (IsNamedFrom (D.contents disk.old) tail marks.now block) }
     ensures cause { IfErr result (VerifyCause ⟦<D as Disk>⟧ disk.old disk.new) }
 {
@@ -42,7 +43,7 @@ fn wrong_child<D: Disk>(
 ) -> Result<Option<u64>, VerifyFault>
     requires below { block < tail }
     requires can { CanReadTo ⟦<D as Disk>⟧ tail piece.old disk.old }
-    ensures reads { ReadsDevice ⟦<D as Disk>⟧ disk.old disk.new }
+    ensures reads { OnlyReads ⟦<D as Disk>⟧ disk.old disk.new }
     ensures can { CanReadTo ⟦<D as Disk>⟧ tail piece.new disk.new }
     ensures lower { IfOk result (λ o. IfSome o (λ child. child < block)) }
     ensures child { D.is_observable → IfOk result (IsNextFrom (D.contents disk.old) tail marks.now block) }

@@ -1,17 +1,15 @@
 //! The pages of a device, which are read in runs of blocks.
 ghost use Rattle.std.specs.Prelude.{◌≡◌, ◌<◌, IfErr, IfOk, IfSome, OnOk};
-ghost use Rattle.btr_log.specs.Piece.{HoldsBlocks, bytes_at};
+ghost use Rattle.btr_log.specs.Piece.{HoldsBlocks};
 ghost use Rattle.btr_node.specs.Page.{Fits, Keeps};
-ghost use Rattle.btr_verify.specs.Trees.{ReadsDevice, VerifyCause};
+ghost use Rattle.btr_log.specs.Reads.{OnlyReads};
+ghost use Rattle.btr_verify.specs.Trees.{VerifyCause};
 ghost use Rattle.btr_verify.specs.Judging.{CanReadTo, IsPageRead};
 
 use crate::verifying::VerifyFault;
 use btr_disk::Disk;
-use btr_log::{ExtentFault, Piece};
-use btr_node::{NodePage, PAGE, decode};
-
-/// The number of blocks of a run: 1 MiB.
-const AHEAD: u64 = 256;
+use btr_log::{ExtentFault, Piece, READ_AHEAD};
+use btr_node::{NodePage, decode};
 
 /// Reads the page in a block below the tail. `None` is that the block has no page. If the piece does not hold the block, it is read
 /// with those after it, up to the tail, and the piece holds nothing else then.
@@ -23,7 +21,7 @@ pub(crate) fn read_page<D: Disk>(
 ) -> Result<Option<NodePage>, VerifyFault>
     requires below { block < tail }
     requires can { CanReadTo ⟦<D as Disk>⟧ tail piece.old disk.old }
-    ensures reads { ReadsDevice ⟦<D as Disk>⟧ disk.old disk.new }
+    ensures reads { OnlyReads ⟦<D as Disk>⟧ disk.old disk.new }
     ensures can { CanReadTo ⟦<D as Disk>⟧ tail piece.new disk.new }
     ensures keeps { IfOk result (λ o. IfSome o (λ page. Keeps page)) }
     ensures fits { IfOk result (λ o. IfSome o (λ page. Fits page)) }
@@ -31,14 +29,14 @@ pub(crate) fn read_page<D: Disk>(
     ensures cause { IfErr result (VerifyCause ⟦<D as Disk>⟧ disk.old disk.new) }
 {
     hold(piece, disk, tail, block)?;
-    Ok(decode(&held(piece, block)))
+    Ok(decode(piece.held(block)))
 }
 
 /// Makes the piece hold a block below the tail.
 fn hold<D: Disk>(piece: &mut Piece, disk: &mut D, tail: u64, block: u64) -> Result<(), VerifyFault>
     requires below { block < tail }
     requires can { CanReadTo ⟦<D as Disk>⟧ tail piece.old disk.old }
-    ensures reads { ReadsDevice ⟦<D as Disk>⟧ disk.old disk.new }
+    ensures reads { OnlyReads ⟦<D as Disk>⟧ disk.old disk.new }
     ensures can { CanReadTo ⟦<D as Disk>⟧ tail piece.new disk.new }
     ensures held { OnOk result (HoldsBlocks piece.new block 1) }
     ensures cause { IfErr result (VerifyCause ⟦<D as Disk>⟧ disk.old disk.new) }
@@ -46,19 +44,9 @@ fn hold<D: Disk>(piece: &mut Piece, disk: &mut D, tail: u64, block: u64) -> Resu
     if piece.holds(block, 1) {
         return Ok(());
     }
-    match piece.read(disk, block, AHEAD.min(tail - block)) {
+    match piece.read(disk, block, READ_AHEAD.min(tail - block)) {
         Ok(()) => Ok(()),
         Err(ExtentFault::Want) => Err(VerifyFault::Want),
         Err(_) => Err(VerifyFault::Fault),
     }
-}
-
-/// The bytes of a block that a piece holds.
-fn held(piece: &Piece, block: u64) -> [u8; PAGE]
-    requires { HoldsBlocks piece.now block 1 }
-    ensures { result ≡ bytes_at piece.now block 1 }
-{
-    let mut bytes = [0; PAGE];
-    bytes.copy_from_slice(piece.blocks(block, 1));
-    bytes
 }

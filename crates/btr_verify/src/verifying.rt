@@ -3,7 +3,8 @@ ghost use Rattle.std.specs.Prelude.{◌^◌, ◌<◌, ◌≤◌, ℕ, List, IfEr
 ghost use Rattle.btr_pages.specs.Pages.{Pages};
 ghost use Rattle.btr_pages.specs.Known.{node_at};
 ghost use Rattle.btr_hist.specs.declared.entry.Entry.{Entry as EntrySpec};
-ghost use Rattle.btr_verify.specs.Trees.{AreToVerify, IsVerified, ReadsDevice, VerifyCause};
+ghost use Rattle.btr_log.specs.Reads.{OnlyReads};
+ghost use Rattle.btr_verify.specs.Trees.{AreToVerify, IsVerified, VerifyCause};
 
 use crate::descending::descend;
 use crate::marking::mark_blocks;
@@ -67,7 +68,7 @@ pub fn first_wrong_node<D: Disk>(
     requires below { (block : ℕ) → IsSome (node_at nodes.now block) → block < tail }
     requires inside { tail ≤ D.size disk.old }
     requires addressable { tail ≤ 2 ^ 32 }
-    ensures reads { ReadsDevice ⟦<D as Disk>⟧ disk.old disk.new }
+    ensures reads { OnlyReads ⟦<D as Disk>⟧ disk.old disk.new }
     ensures verified { D.is_observable → (pages : Pages) (h : List EntrySpec)
         → AreToVerify (D.contents disk.old) pages h nodes.now snapshot.now made.now → IfOk result (IsVerified pages h made.now) }
     ensures cause { IfErr result (VerifyCause ⟦<D as Disk>⟧ disk.old disk.new) }

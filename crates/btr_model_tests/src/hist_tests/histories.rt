@@ -23,6 +23,7 @@ pub(super) enum Put {
     Define(u128, Spec),
     Commit(u32, Pairs, Added),
     Distillate(u32, Pairs, Added, Reads),
+    Retire(u32, u64),
 }
 
 /// The entries of a history, in tables.
@@ -94,6 +95,10 @@ pub(super) fn entry_of(alloc: Global, put: &Put) -> Result<Entry, Fail> {
             cut: cut_of(alloc, pairs)?,
             added: added_of(alloc, added)?,
             reads: *reads,
+        }),
+        Put::Retire(stream, first) => Ok(Entry::Retire {
+            stream: *stream,
+            first: *first,
         }),
     }
 }

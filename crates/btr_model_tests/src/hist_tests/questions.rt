@@ -95,6 +95,7 @@ fn show_refusal(text: &mut String, refusal: Refusal) -> Result<(), AllocError> {
     match refusal {
         Refusal::NoStream => text.push_str("no stream"),
         Refusal::NoVersion { asked, latest } => write!(text, "no version {asked}, latest {latest}"),
+        Refusal::Retired { asked, first } => write!(text, "retired {asked}, first {first}"),
         Refusal::BadRange => text.push_str("bad range"),
     }
 }

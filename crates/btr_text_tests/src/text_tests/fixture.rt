@@ -51,6 +51,7 @@ pub(super) enum Says {
     /// The kernel, the lead, the grain and the inputs.
     Distiller(Kernel, u64, u8, u128, Option<u128>),
     Refresh,
+    Retire(u64),
     Ask(StreamQuery),
     Streams,
 }
@@ -93,6 +94,7 @@ fn is_said(line: &Line, want: &Says) -> bool {
         Line::Discard { id } => *id == ID && matches!(want, Says::Discard),
         Line::Distiller { id, .. } => *id == ID && is_defined(line, want),
         Line::Refresh { id } => *id == ID && matches!(want, Says::Refresh),
+        Line::Retire { id, first } => *id == ID && matches!(want, Says::Retire(n) if first == n),
         Line::Ask { id, query } => *id == ID
             && matches!(want, Says::Ask(want) if query.of(0) == want.of(0)),
         Line::Streams => matches!(want, Says::Streams),

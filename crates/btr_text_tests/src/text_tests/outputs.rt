@@ -119,6 +119,111 @@ fn bounds_of_a_distiller_are_read(rt: HostRuntime) -> Result<(), Fail> {
     all_hold(rt.alloc(), BOUNDS)
 }
 
+const CELLS: &[Said] = &[
+    Said(
+        "cell ID sum 2 1 ONE",
+        Says::Distiller(Kernel::Cell { which: 1, p: 2 }, 0, 1, 1, None),
+    ),
+    Said(
+        "cell ID mean 0 62 TWO",
+        Says::Distiller(Kernel::Cell { which: 2, p: 0 }, 0, 62, 2, None),
+    ),
+    Said(
+        "@0 cell ID least 62 0 ONE",
+        Says::Distiller(Kernel::Cell { which: 3, p: 62 }, 0, 0, 1, None),
+    ),
+    Said(
+        " @0  cell   ID  greatest  007 0010  ONE ",
+        Says::Distiller(Kernel::Cell { which: 4, p: 7 }, 0, 10, 1, None),
+    ),
+    Said(
+        "cell ID count 30 20 {00112233-4455-6677-8899-AABBCCDDEEFF}",
+        Says::Distiller(
+            Kernel::Cell { which: 5, p: 30 },
+            0,
+            20,
+            0x00112233445566778899aabbccddeeff,
+            None,
+        ),
+    ),
+    Said(
+        "cell urn:uuid:00000000-0000-0000-0000-000000000005 sum 5 4 TWO",
+        Says::Distiller(Kernel::Cell { which: 1, p: 5 }, 0, 4, 2, None),
+    ),
+    // These fit the form, although no output can have them: windows or slots that are too wide, the output itself.
+    Said(
+        "cell ID sum 63 0 ONE",
+        Says::Distiller(Kernel::Cell { which: 1, p: 63 }, 0, 0, 1, None),
+    ),
+    Said(
+        "cell ID mean 255 255 ONE",
+        Says::Distiller(Kernel::Cell { which: 2, p: 255 }, 0, 255, 1, None),
+    ),
+    Said(
+        "cell ID count 0 63 ID",
+        Says::Distiller(Kernel::Cell { which: 5, p: 0 }, 0, 63, 5, None),
+    ),
+];
+
+#[test]
+fn outputs_of_windows_are_read(rt: HostRuntime) -> Result<(), Fail> {
+    all_hold(rt.alloc(), CELLS)
+}
+
+#[test]
+fn an_output_of_windows_that_fits_no_form_has_none(rt: HostRuntime) -> Result<(), Fail> {
+    fit_no_form(
+        rt.alloc(),
+        "cell\n\
+         cell ID\n\
+         cell ID sum\n\
+         cell ID sum 2\n\
+         cell ID sum 2 1\n\
+         cell ID sum ONE\n\
+         cell ID sum 2 ONE\n\
+         cell ID 2 1 ONE\n\
+         cell sum 2 1 ONE\n\
+         cell x sum 2 1 ONE\n\
+         cell 5 sum 2 1 ONE\n\
+         cell ID sum 2 1 x\n\
+         cell ID sum 2 1 0\n\
+         cell ID sum 2 1 ONE TWO\n\
+         cell ID sum 2 1 ONE x\n\
+         cell ID sum 2 1 0 ONE\n\
+         cell ID sum 256 1 ONE\n\
+         cell ID sum 2 256 ONE\n\
+         cell ID sum 18446744073709551616 1 ONE\n\
+         cell ID sum 2 99999999999999999999999999 ONE\n\
+         cell ID sum -2 1 ONE\n\
+         cell ID sum 2 -1 ONE\n\
+         cell ID sum -0 1 ONE\n\
+         cell ID sum +2 1 ONE\n\
+         cell ID sum 2 +1 ONE\n\
+         cell ID sum 2.0 1 ONE\n\
+         cell ID sum latest 1 ONE\n\
+         cell ID 1 2 1 ONE\n\
+         cell ID 5 2 1 ONE\n\
+         cell ID Sum 2 1 ONE\n\
+         cell ID SUM 2 1 ONE\n\
+         cell ID sums 2 1 ONE\n\
+         cell ID su 2 1 ONE\n\
+         cell ID min 2 1 ONE\n\
+         cell ID max 2 1 ONE\n\
+         cell ID Count 2 1 ONE\n\
+         cell ID delta 2 1 ONE\n\
+         cell ID hold 2 1 ONE\n\
+         cell ID minus 2 1 ONE TWO\n\
+         cell ID affine 2 1 ONE\n\
+         cell ID affine 1 2 3 2 1 ONE\n\
+         cell ID range 2 1 ONE\n\
+         Cell ID sum 2 1 ONE\n\
+         CELL ID sum 2 1 ONE\n\
+         cells ID sum 2 1 ONE\n\
+         distiller ID cell 2 1 ONE\n\
+         distiller ID cell sum 2 1 ONE",
+    )
+}
+
 const REFRESHES: &[Said] = &[
     Said("refresh ID", Says::Refresh),
     Said("@0 refresh ID", Says::Refresh),
@@ -128,6 +233,40 @@ const REFRESHES: &[Said] = &[
 #[test]
 fn refreshes_are_read(rt: HostRuntime) -> Result<(), Fail> {
     all_hold(rt.alloc(), REFRESHES)
+}
+
+const RETIREMENTS: &[Said] = &[
+    Said("retire ID 2", Says::Retire(2)),
+    Said("@0 retire ID 0", Says::Retire(0)),
+    Said(
+        " retire  ID 18446744073709551615 ",
+        Says::Retire(18446744073709551615),
+    ),
+];
+
+#[test]
+fn retirements_are_read(rt: HostRuntime) -> Result<(), Fail> {
+    all_hold(rt.alloc(), RETIREMENTS)
+}
+
+#[test]
+fn a_retirement_that_fits_no_form_has_none(rt: HostRuntime) -> Result<(), Fail> {
+    fit_no_form(
+        rt.alloc(),
+        "retire\n\
+         retire ID\n\
+         retire 2\n\
+         retire x 2\n\
+         retire ID x\n\
+         retire ID latest\n\
+         retire ID -1\n\
+         retire ID +1\n\
+         retire ID 18446744073709551616\n\
+         retire ID 2 3\n\
+         retire ID ID 2\n\
+         Retire ID 2\n\
+         retires ID 2",
+    )
 }
 
 #[test]

@@ -28,6 +28,7 @@ const REFUSED: &[Refused] = &[
         },
         "no version 7 3\n",
     ),
+    Refused(Reason::Retired { asked: 1, first: 2 }, "no retired 1 2\n"),
     Refused(Reason::Exists, "no exists\n"),
     Refused(Reason::Output, "no output\n"),
     Refused(Reason::Plain, "no plain\n"),
@@ -42,6 +43,21 @@ const REFUSED: &[Refused] = &[
     Refused(Reason::Streams, "no streams 65536\n"),
     Refused(Reason::Versions, "no versions 4294967295\n"),
     Refused(Reason::Spec, "no spec\n"),
+    Refused(
+        Reason::First {
+            first: 4,
+            present: 2,
+            latest: 3,
+        },
+        "no first 4 2 3\n",
+    ),
+    Refused(
+        Reason::Held {
+            id: 0x33333333_3333_4333_8333_333333333333,
+            version: 1,
+        },
+        "no held 33333333-3333-4333-8333-333333333333 1\n",
+    ),
     Refused(Reason::Crowded { start: -4 }, "no crowded -4\n"),
     Refused(
         Reason::Points { count: 4294967297 },
@@ -69,7 +85,7 @@ struct Rejected(Rejection, Reason);
 
 impl Row for Rejected {
     fn holds(&self, _alloc: Global) -> Result<bool, Fail> {
-        Ok(Reason::of_rejection(self.0) == self.1)
+        Ok(Reason::of_rejection(self.0, 7) == self.1)
     }
 }
 
@@ -86,6 +102,25 @@ const REJECTED: &[Rejected] = &[
     Rejected(Rejection::StreamLimit, Reason::Streams),
     Rejected(Rejection::VersionLimit, Reason::Versions),
     Rejected(Rejection::BadSpec, Reason::Spec),
+    Rejected(
+        Rejection::BadFirst {
+            first: 4,
+            present: 2,
+            latest: 3,
+        },
+        Reason::First {
+            first: 4,
+            present: 2,
+            latest: 3,
+        },
+    ),
+    Rejected(
+        Rejection::Held {
+            output: 2,
+            version: 1,
+        },
+        Reason::Held { id: 7, version: 1 },
+    ),
     Rejected(
         Rejection::Crowded { start: -8 },
         Reason::Crowded { start: -8 },
@@ -113,7 +148,9 @@ fn each_refusal_has_its_reason(rt: HostRuntime) {
     };
     assert!(rt; Reason::of_refusal(Refusal::NoStream) == Reason::Stream);
     assert!(rt; Reason::of_refusal(version) == reason);
+    let retired = Refusal::Retired { asked: 1, first: 2 };
     assert!(rt; Reason::of_refusal(Refusal::BadRange) == Reason::Range);
+    assert!(rt; Reason::of_refusal(retired) == Reason::Retired { asked: 1, first: 2 });
 }
 
 /// A reply.

@@ -3,7 +3,8 @@ ghost use Rattle.std.specs.Prelude.{◌≡◌, ◌%◌, length, IfOk};
 
 use super::device::{has_bytes, turned, written};
 use super::fixture::{
-    STORE, device_of, empty_device, no_wrong, play, play_parts, run_on, run_words, store_of,
+    FOURTH_POINT, STORE, TWO_ENTRIES, device_of, empty_device, no_wrong, play, play_failing,
+    play_parts, run_on, run_words, store_of,
 };
 use btr_disk::MemDisk;
 use btr_io::{MemSink, MemSource};
@@ -11,24 +12,14 @@ use std::sync::Wait;
 use std::test::Fail;
 use std::thread::Threads;
 
-/// A stream of three points.
-const ENTRIES: &str = "\
-$ live
-> create U
-> insert U 0 5 3 7 4 -2
-< ok 0 0
-< ok 1 0
-= 0
-";
-
-/// A checkpoint of these entries.
+/// A checkpoint of the two entries.
 const CHECKPOINT: &str = "\
 $ checkpoint
 < checkpoint 2
 = 0
 ";
 
-/// The points.
+/// The points of the stream that they make.
 const QUESTIONS: &str = "\
 $ ask
 > range U 0 5 1
@@ -44,9 +35,9 @@ $ ask
 
 #[test]
 fn answers_are_the_same_after_each_checkpoint(rt: HostRuntime) -> Result<(), Fail> {
-    let once = [STORE, ENTRIES, CHECKPOINT, QUESTIONS];
+    let once = [STORE, TWO_ENTRIES, CHECKPOINT, QUESTIONS];
     play_parts(&rt, &once)?;
-    let twice = [STORE, ENTRIES, CHECKPOINT, CHECKPOINT, QUESTIONS];
+    let twice = [STORE, TWO_ENTRIES, CHECKPOINT, CHECKPOINT, QUESTIONS];
     play_parts(&rt, &twice)
 }
 
@@ -151,7 +142,7 @@ $ ask
 fn an_empty_store_has_a_checkpoint_and_no_store_has_none(rt: HostRuntime) -> Result<(), Fail> {
     play_parts(
         &rt,
-        &[NO_STORE, STORE, EMPTY, ENTRIES, CHECKPOINT, QUESTIONS],
+        &[NO_STORE, STORE, EMPTY, TWO_ENTRIES, CHECKPOINT, QUESTIONS],
     )
 }
 
@@ -169,7 +160,7 @@ $ checkpoint
 
 #[test]
 fn a_checkpoint_that_does_not_fit_is_refused(rt: HostRuntime) -> Result<(), Fail> {
-    play_parts(&rt, &[TEN_BLOCKS, ENTRIES, FULL, QUESTIONS])
+    play_parts(&rt, &[TEN_BLOCKS, TWO_ENTRIES, FULL, QUESTIONS])
 }
 
 const NO_USAGE: &str = "\
@@ -189,7 +180,7 @@ fn a_checkpoint_has_no_further_words(rt: HostRuntime) -> Result<(), Fail> {
     play(&rt, &[], NO_USAGE)
 }
 
-/// An output that is defined before a checkpoint, and computed before it and after it.
+/// An output that is defined before a checkpoint, and computed before it.
 const OUTPUT: &str = "\
 $ live
 > create V
@@ -204,18 +195,10 @@ $ live
 $ checkpoint
 < checkpoint 4
 = 0
-$ live
-> insert V 5 1
-> refresh W
-> range W 0 100 2
-< ok 2 0
-< ok 2 0
-< ok 2 4
-< 0 10
-< 5 11
-< 10 31
-< 20 50
-= 0
+";
+
+/// A checkpoint after a second version of the output, and what both versions are.
+const OF_OUTPUT: &str = "\
 $ checkpoint
 < checkpoint 6
 = 0
@@ -233,20 +216,11 @@ $ ask
 
 #[test]
 fn outputs_go_on_after_a_checkpoint(rt: HostRuntime) -> Result<(), Fail> {
-    play_parts(&rt, &[STORE, OUTPUT])
+    play_parts(&rt, &[STORE, OUTPUT, FOURTH_POINT, OF_OUTPUT])
 }
 
-/// Two checkpoints, of which one cannot be written.
+/// Two checkpoints of the two entries, of which one cannot be written.
 const FAILING: &str = "\
-$ format --blocks 64
-< formatted 64
-= 0
-$ live
-> create U
-> insert U 0 5 3 7 4 -2
-< ok 0 0
-< ok 1 0
-= 0
 $ checkpoint
 < no device
 = 5
@@ -274,7 +248,7 @@ const CALLS: &[u64] = &[19, 20, 21, 22, 23, 24, 25, 26, 27, 28, 29, 30];
 #[test]
 fn each_call_of_a_checkpoint_may_fail(rt: HostRuntime) -> Result<(), Fail> {
     for call in CALLS {
-        play(&rt, &[*call], FAILING)?;
+        play_failing(&rt, &[*call], &[STORE, TWO_ENTRIES, FAILING])?;
     }
     Ok(())
 }

@@ -4,8 +4,8 @@ ghost use Rattle.std.specs.Prelude.{◌≡◌, ◌%◌, length, IfOk};
 use super::checkpoints::marked;
 use super::device::{has_bytes, turned, written};
 use super::fixture::{
-    STORE, device_of, empty_device, no_wrong, play, play_parts, run_on, run_words, store_of,
-    with_piece,
+    STORE, TWO_ENTRIES, device_of, empty_device, no_wrong, play, play_failing, play_parts, run_on,
+    run_words, store_of, with_piece,
 };
 use btr_disk::MemDisk;
 use btr_io::{MemSink, MemSource};
@@ -93,17 +93,8 @@ fn a_check_has_no_further_words(rt: HostRuntime) -> Result<(), Fail> {
     play(&rt, &[], NO_USAGE)
 }
 
-/// A check that fails, and then one that does not.
+/// A check of the two entries that fails, and then one that does not.
 const FAILING: &str = "\
-$ format --blocks 64
-< formatted 64
-= 0
-$ live
-> create U
-> insert U 0 5 3 7 4 -2
-< ok 0 0
-< ok 1 0
-= 0
 $ check
 < no device
 = 5
@@ -119,7 +110,7 @@ const CALLS: &[u64] = &[19, 20, 21];
 #[test]
 fn each_call_of_a_check_may_fail(rt: HostRuntime) -> Result<(), Fail> {
     for call in CALLS {
-        play(&rt, &[*call], FAILING)?;
+        play_failing(&rt, &[*call], &[STORE, TWO_ENTRIES, FAILING])?;
     }
     Ok(())
 }

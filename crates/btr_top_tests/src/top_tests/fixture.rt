@@ -197,6 +197,32 @@ $ format --blocks 64
 = 0
 ";
 
+/// A part of a transcript: a stream of three points is made.
+pub(super) const TWO_ENTRIES: &str = "\
+$ live
+> create U
+> insert U 0 5 3 7 4 -2
+< ok 0 0
+< ok 1 0
+= 0
+";
+
+/// A part of a transcript: an output of the sums of three points follows an insert of a fourth one.
+pub(super) const FOURTH_POINT: &str = "\
+$ live
+> insert V 5 1
+> refresh W
+> range W 0 100 2
+< ok 2 0
+< ok 2 0
+< ok 2 4
+< 0 10
+< 5 11
+< 10 31
+< 20 50
+= 0
+";
+
 /// Plays a transcript of runs on one device of 64 blocks. A line `$ WORDS` begins a run, `> LINE` is a line of its
 /// input, `< LINE` a line that it must write, and `= N` the status with which it must end. The calls of the device that
 /// are listed fail. `U`, `V`, `W` and `X` are short for four ids.
@@ -219,8 +245,17 @@ pub(super) fn play_parts(
     rt: &(impl AllocGlobal + Threads + Wait + Sync),
     parts: &[&str],
 ) -> Result<(), Fail> {
+    play_failing(rt, &[], parts)
+}
+
+/// Plays a transcript that is given in parts. The calls of the device that are listed fail. A run may go on in the next part.
+pub(super) fn play_failing(
+    rt: &(impl AllocGlobal + Threads + Wait + Sync),
+    failing: &[u64],
+    parts: &[&str],
+) -> Result<(), Fail> {
     let transcript = parts.concat(rt.alloc())?;
-    play(rt, &[], transcript.as_str())
+    play(rt, failing, transcript.as_str())
 }
 
 /// Runs what the lines of a transcript say, and returns the device if the run gave what they want.

@@ -2,15 +2,12 @@
 //! that follows many changes of its input.
 ghost use Rattle.std.specs.Prelude.{◌≤◌};
 
-use super::fixture::{play, run_on, store_of};
+use super::fixture::{FOURTH_POINT, STORE, play, play_parts, run_on, store_of};
 use std::alloc::{AllocError, Global};
 use std::test::Fail;
 
-// a sum that follows an insert and a delete, over three runs
+// a sum of three points
 const SUM: &str = "\
-$ format --blocks 64
-< formatted 64
-= 0
 $ live
 > create V
 > insert V 0 10 10 20 20 30
@@ -26,18 +23,10 @@ $ live
 < 10 30
 < 20 50
 = 0
-$ live
-> insert V 5 1
-> refresh W
-> range W 0 100 2
-< ok 2 0
-< ok 2 0
-< ok 2 4
-< 0 10
-< 5 11
-< 10 31
-< 20 50
-= 0
+";
+
+// it follows a delete after an insert; and lines that ask about it or are refused
+const SUM_AFTER_DELETE: &str = "\
 $ live
 > delete V 0 1
 > refresh W
@@ -265,7 +254,7 @@ $ live
 
 #[test]
 fn outputs_follow_their_inputs(rt: HostRuntime) -> Result<(), Fail> {
-    play(&rt, &[], SUM)?;
+    play_parts(&rt, &[STORE, SUM, FOURTH_POINT, SUM_AFTER_DELETE])?;
     play(&rt, &[], DELTA)?;
     play(&rt, &[], ANGLE)?;
     play(&rt, &[], MEAN)?;

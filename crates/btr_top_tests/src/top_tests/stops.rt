@@ -24,8 +24,9 @@ const LINES: &[(&str, &str, Option<usize>)] = &[
 ];
 
 /// The device calls of the runs: of the first `live` three to open, and four for each of ten entries; of a checkpoint three to open, and
-/// nine; of the second `live` four to open, and four for its entry; of another checkpoint four to open, and eleven.
-const CALLS: u64 = 43 + 12 + 8 + 15;
+/// nine; of the second `live` four to open, and four for its entry; of another checkpoint four to open, and eleven; of the last `live`
+/// four to open, and eleven for the first retirement of the store.
+const CALLS: u64 = 43 + 12 + 8 + 15 + 15;
 
 /// The calls of the first run.
 const FIRST_CALLS: u64 = 43;
@@ -182,7 +183,7 @@ fn is_answered(text: &str, acknowledged: u64) -> bool {
     text == "no device\n" || is_kept(entries_in(text), acknowledged)
 }
 
-/// Runs a script, a checkpoint, another script, and another checkpoint.
+/// Runs a script, a checkpoint, another script, another checkpoint, and a script that retires a version.
 fn run_all<D: Disk + Send + Drop>(
     rt: &(impl AllocGlobal + Threads + Wait + Sync),
     script: &[u8],
@@ -191,17 +192,24 @@ fn run_all<D: Disk + Send + Drop>(
     let first = run_word(rt, "live", script, disk)?;
     let second = run_word(rt, "checkpoint", b"", first.disk)?;
     let third = run_word(rt, "live", b"insert W 40 1\nstreams\n", second.disk)?;
-    let last = run_word(rt, "checkpoint", b"", third.disk)?;
-    let statuses = [first.status, second.status, third.status, last.status];
+    let fourth = run_word(rt, "checkpoint", b"", third.disk)?;
+    let last = run_word(rt, "live", b"retire U 1\n", fourth.disk)?;
+    let statuses = [
+        first.status,
+        second.status,
+        third.status,
+        fourth.status,
+        last.status,
+    ];
     let failed = statuses.iter().filter(|status| **status == 5).count() as u64;
-    let acknowledged = acknowledged_in(first.text.as_str()).saturating_add(acknowledged_in(
+    let before = acknowledged_in(first.text.as_str()).saturating_add(acknowledged_in(
         third.text.as_str(),
     ));
     Ok(Reported {
         disk: last.disk,
-        acknowledged,
+        acknowledged: before.saturating_add(acknowledged_in(last.text.as_str())),
         failed,
-        is_answered: is_answered(third.text.as_str(), acknowledged),
+        is_answered: is_answered(third.text.as_str(), before),
         is_whole: last.status == 0,
         first: first.text,
     })
@@ -241,7 +249,7 @@ fn goes_on(
 }
 
 /// Whether each store that a stop may leave goes on.
-fn images_go_on(
+pub(super) fn images_go_on(
     rt: &(impl AllocGlobal + Threads + Wait + Sync),
     disk: &MemDisk,
     acknowledged: u64,
@@ -252,6 +260,23 @@ fn images_go_on(
         }
     }
     Ok(true)
+}
+
+/// Runs lines on a device that stops after this many calls. Returns whether the run did not fail, the number of entries that were
+/// acknowledged, and the device.
+pub(super) fn stopped_live(
+    rt: &(impl AllocGlobal + Threads + Wait + Sync),
+    script: &[u8],
+    calls: u64,
+) -> Result<(bool, u64, MemDisk), Fail> {
+    let ran = run_word(
+        rt,
+        "live",
+        script,
+        FuseDisk::new(store_of(rt, "64")?, calls),
+    )?;
+    let acknowledged = acknowledged_in(ran.text.as_str());
+    Ok((ran.status != 5, acknowledged, ran.disk.into_disk()))
 }
 
 /// Whether the first run says what it says if the device fails in this call, and the question of the third run is answered.
@@ -349,6 +374,6 @@ fn counted(rt: &(impl AllocGlobal + Threads + Wait + Sync)) -> Result<(u64, u64)
 
 #[test]
 fn the_runs_make_these_calls(rt: HostRuntime) -> Result<(), Fail> {
-    assert!(rt; counted(&rt)? == (FORMAT_CALLS + CALLS, 11));
+    assert!(rt; counted(&rt)? == (FORMAT_CALLS + CALLS, 12));
     Ok(())
 }

@@ -14,7 +14,7 @@ returns-clause-distillate c old new of =
     ap change c.planned.ensures ∙ plan-is s.spec old new _ _ (c.in_ok-cut.ensures old new of) added
 
 pub returns-clause-mapped : goal.returns-clause-mapped
-returns-clause-mapped c old new of =
+returns-clause-mapped c =
     let s = c.args.sight.now in
     let added = λ (old new : Inputs) (of : IsSightOf s old new). at-new_inputs (λ i. c.in_ok-added.added ≡ points_in (output_points s.spec i) c.in_ok-cut.cut) s old new of c.in_ok-added.ensures in
-    subst (λ p. IsMapped s p) (sym c.planned.ensures) (λ old new of. mapped-is s.spec new _ _ (added old new of)) old new of
+    subst (λ p. IsMapped s p) (sym c.planned.ensures) (λ none old new of. mapped-is s.spec new _ _ none (added old new of))

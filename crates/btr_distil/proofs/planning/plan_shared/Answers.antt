@@ -9,5 +9,5 @@ returns-clause-distillate g c old new of =
     ∙ plan-is c.args.sight.now.spec old new _ _ (c.in_ok-cut.ensures old new of) (c.in_ok-added.ensures old new of)
 
 pub returns-clause-mapped : goal.returns-clause-mapped
-returns-clause-mapped g c old new of =
-    subst (λ p. IsMapped c.args.sight.now p) (sym c.planned.ensures) (λ old new of. mapped-is c.args.sight.now.spec new _ _ (c.in_ok-added.ensures old new of)) old new of
+returns-clause-mapped g c =
+    subst (λ p. IsMapped c.args.sight.now p) (sym c.planned.ensures) (λ none old new of. mapped-is c.args.sight.now.spec new _ _ none (c.in_ok-added.ensures old new of))

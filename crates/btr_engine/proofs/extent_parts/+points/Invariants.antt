@@ -1,4 +1,3 @@
-use Rattle.std.proofs.Common.{ℕ}
 use Rattle.btr_engine.proofs.extent_parts.+points.Given as goal
 
 abbrev pub decreases-points_in : goal.decreases-points_in

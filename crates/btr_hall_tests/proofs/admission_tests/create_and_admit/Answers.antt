@@ -15,7 +15,7 @@ join-user-requires-send-F g c κs within =
 pub join-user-requires-send-A : goal.join-user-requires-send-A
 join-user-requires-send-A g c κs within =
     let device = c.type_bounds.send-D in
-    search (sendable, crosses, session_send) depth 30
+    search (sendable, crosses, session_send) depth 40 fits 30000
 
 pub returns-clause-share : goal.returns-clause-share
 returns-clause-share g c path =

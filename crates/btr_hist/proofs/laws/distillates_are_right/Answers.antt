@@ -2,4 +2,4 @@ use Rattle.btr_hist.proofs.DistilLemmas.{distillate-right}
 use Rattle.btr_hist.proofs.laws.distillates_are_right.Goals as goal
 
 pub returns : goal.returns
-returns c spec old new low h k = distillate-right spec old new (record { grain = low }) h k
+returns c spec old new low small h k = distillate-right spec old new (record { grain = low; windows = small }) h k

@@ -117,6 +117,17 @@ returns-in-Some-Refresh-clause-line g c =
     (λ h of a m starts means. plain_line batch a w (Some (lines.Refresh arm.id)) m c.refresh.result refl means)
     (c.refresh.ensures.serves batch w))
 
+pub returns-in-Some-Retire-clause-line : goal.returns-in-Some-Retire-clause-line
+returns-in-Some-Retire-clause-line g c =
+    let arm = c.in-Some-Retire in
+    let hall = c.args.hall.now in
+    let old = c.args.session.now in
+    let new = c.retire.new.session in
+    let w = waiting_of c.args.feeds.now in
+    let batch = c.args.feeds.now.batch in
+    subst (λ (l : Option Line). ServesIn hall old new (LineAsks batch w l c.retire.result w) c.retire.result) (sym (arm.is ∙ ap (λ (l : Line). Some l) arm.field-0-is))
+    (plain_serves hall old new batch w (Some (lines.Retire arm.id arm.first)) (λ a. on_stream (stream_of a arm.id) (λ s. Commits (entries.Retire s arm.first))) c.retire.result (λ a. refl) (λ a. refl) c.retire.ensures.serves)
+
 pub returns-in-Some-Ask-clause-line : goal.returns-in-Some-Ask-clause-line
 returns-in-Some-Ask-clause-line g c =
     let arm = c.in-Some-Ask in

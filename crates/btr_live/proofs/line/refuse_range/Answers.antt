@@ -4,6 +4,8 @@ use Rattle.std.proofs.Common.{◌∙◌, [], ◌∷◌, sym, refl}
 use Rattle.btr_hist.specs.declared.entry.Entry.TheVariants.{Commit}
 use Rattle.btr_hist.specs.declared.rejection.Rejection.TheVariants.{NotWritable}
 use Rattle.btr_engine.specs.declared.step.StepFault.TheVariants.{Stopped, Rejected, Want}
+use Rattle.btr_text.specs.declared.reply.LineReply.TheVariants.{No}
+use Rattle.btr_text.specs.declared.reply.Reason.TheVariants as reasons
 use Rattle.btr_hall.proofs.TraceLemmas.{engine_of_list}
 use Rattle.btr_hall.specs.Session.{opening_of, seen_of, engine_of}
 use Rattle.btr_jobs.specs.States.{log_seen}
@@ -33,7 +35,7 @@ pub returns-in-Some-clause-replies : goal.returns-in-Some-clause-replies
 returns-in-Some-clause-replies g c = λ range.
     let hall = c.args.hall.now in
     let new = c.stopped.new.self in
-    look_commits hall c.args.session.now new (Commit c.args.found.stream (range ∷ []) []) (Err (Stopped c.in-Some.entries)) refl c.stopped.ensures.looks
+    look_commits hall c.args.session.now new (Commit c.args.found.stream (range ∷ []) []) (Err (Stopped c.in-Some.entries)) (No (reasons.Stopped c.in-Some.entries)) refl (λ p. refl) c.stopped.ensures.looks
     (λ h of.
     let reported = reported_some (was_reported hall new) _ c.in-Some.entries (sym (c.stopped.ensures.entries h of) ∙ c.in-Some.is) in (
       record { stopped = sym (reported_failed h hall new) ∙ reported.0; last = refl; entries = reported.1 },
@@ -47,7 +49,7 @@ returns-in-Some-spec-clause-replies g c = λ range.
     let old = c.args.session.now in
     let new = c.stopped.new.self in
     let stream = c.args.found.stream in
-    look_commits hall old new (Commit stream (range ∷ []) []) (Err (Rejected NotWritable)) refl c.stopped.ensures.looks
+    look_commits hall old new (Commit stream (range ∷ []) []) (Err (Rejected NotWritable)) (No reasons.Output) refl (λ p. refl) c.stopped.ensures.looks
     (λ h of.
     let found = c.requires.found h of in
     let starts = history_goes_on h new old c.stopped.ensures.looks.grows in
@@ -66,7 +68,7 @@ returns-in-None-spec-clause-replies g c = λ range.
     let old = c.args.session.now in
     let new = c.stopped.new.self in
     let stream = c.args.found.stream in
-    look_commits hall old new (Commit stream (range ∷ []) []) (Err Want) refl c.stopped.ensures.looks
+    look_commits hall old new (Commit stream (range ∷ []) []) (Err Want) (No reasons.Memory) refl (λ p. refl) c.stopped.ensures.looks
     (λ h of.
     let found = c.requires.found h of in
     let starts = history_goes_on h new old c.stopped.ensures.looks.grows in

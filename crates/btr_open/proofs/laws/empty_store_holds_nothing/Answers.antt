@@ -14,6 +14,7 @@ returns c = λ size blocks image is. record {
   bodies = [];
   extents = refl;
   leads = record { roots = []; pages = no_pages; lead = refl };
+  formats = tt;
   starts = inl (refl, refl);
   closed = is.no_entry;
   inside = omega (arith, is.chosen.stored.spelled.keeps.blocks_from);

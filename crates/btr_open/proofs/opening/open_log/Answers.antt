@@ -1,10 +1,14 @@
 use Rattle.std.proofs.Common.{sym, subst}
 use Rattle.btr_log.specs.Log.{log_device}
+use Rattle.btr_engine.proofs.RaiseLemmas.{followable}
 use Rattle.btr_open.specs.Reading.{StoreCause}
 use Rattle.btr_open.proofs.RuleLemmas.{cause-plain}
 use Rattle.btr_open.proofs.WholeLemmas.{engine-read}
 use Rattle.btr_open.proofs.LogWalkLemmas.{walked-of}
 use Rattle.btr_open.proofs.opening.open_log.Goals as goal
+
+pub over-requires-clause-followable : goal.over-requires-clause-followable
+over-requires-clause-followable g c = followable (g.D.Disk.size c.args.disk) c.args.found c.requires.table
 
 pub returns-in-Ok-clause-read : goal.returns-in-Ok-clause-read
 returns-in-Ok-clause-read g c =

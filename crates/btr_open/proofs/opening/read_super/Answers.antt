@@ -5,7 +5,7 @@ use Rattle.btr_disk.proofs.ByteLemmas.{Same-is}
 use Rattle.btr_disk.proofs.MomentLemmas.{unwritten_synced}
 use Rattle.btr_super.specs.Choose.{IsChosen}
 use Rattle.btr_open.specs.Opening.{KeepsDisk, SyncsFirst}
-use Rattle.btr_open.specs.Reads.{OnlyReads}
+use Rattle.btr_log.specs.Reads.{OnlyReads}
 use Rattle.btr_open.proofs.Synced.{counts-trans, sync_done, reads_on}
 use Rattle.btr_open.proofs.OpenCauses.{choice_along, OpenCauseHolds-along}
 use Rattle.btr_open.proofs.opening.read_super.Given.{Over}

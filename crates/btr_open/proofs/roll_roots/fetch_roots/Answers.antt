@@ -3,7 +3,7 @@ use Rattle.std.proofs.Common.{refl, arith, sym, subst, get_or}
 use Rattle.std.proofs.lemmas.List.{take_more}
 use Rattle.std.proofs.lemmas.Option.{slice_get-get_or}
 use Rattle.std.proofs.lemmas.Result.{err_from_is_err_and}
-use Rattle.btr_open.proofs.OnlyReading.{no-calls}
+use Rattle.btr_log.proofs.OnlyReading.{no-calls}
 use Rattle.btr_open.proofs.StartRoots.{IsFetchedSo, grown-none, fetched-none, own-so, fetched-on, cause-so}
 use Rattle.btr_open.proofs.roll_roots.fetch_roots.Goals as goal
 

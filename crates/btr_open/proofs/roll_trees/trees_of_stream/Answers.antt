@@ -20,7 +20,7 @@ returns-in_default-clause-cause c =
     let here : slice_get versions k ≡ Some v = slice_get-get_or versions k v (omega (arith, c.loop-k-test.true)) ∙ ap Some (sym c.index.ensures) in
     let at : slice_get s.versions k ≡ Some v = ap (λ (x : RollStreamValue). slice_get x.versions k) (sym c.stream.view_is) ∙ here in
     let wrong = if-none c.in_ok-tree-2.field-0 (IsWrongRootOf nodes c.args.limit c.args.number (k + 1) v.root) c.in_default.not-Some c.in_ok-tree-2.ensures.wrong in
-    names-wrong nodes c.args.limit c.args.streams.now c.args.number k s v c.wrong_root_of.result there at wrong c.wrong_root_of.ensures
+    names-wrong nodes c.args.limit c.args.format c.args.streams.now c.args.number k s v c.wrong_root_of.result there at wrong c.wrong_root_of.ensures
 
 pub loop-k-preserved : goal.loop-k-preserved
 loop-k-preserved c =

@@ -7,4 +7,4 @@ use Rattle.btr_roll.proofs.lengths.streams_length.Given as goal
 -- The bytes so far are those of the earlier streams.
 abbrev pub invariant-loop-stream : goal.invariant-loop-stream
 invariant-loop-stream l =
-    (l.bytes ≡ length (flat_map stream_bytes (take l.stream-index l.streams))) × (l.bytes ≤ (76 + 33 * MAX_VERSIONS) * l.stream-index)
+    (l.bytes ≡ length (flat_map (stream_bytes l.format) (take l.stream-index l.streams))) × (l.bytes ≤ (84 + 33 * MAX_VERSIONS) * l.stream-index)

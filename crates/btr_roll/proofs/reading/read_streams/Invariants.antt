@@ -6,8 +6,8 @@ use Rattle.btr_roll.proofs.reading.read_streams.Given as goal
 abbrev pub invariant-loop-alloc : goal.invariant-loop-alloc
 invariant-loop-alloc l = record {
   few : length l.streams.items ≤ l.count;
-  each : AllByRecursion StreamFits l.streams.items;
-  parts : l.bytes ≡ flat_map stream_bytes l.streams.items ++ l.rest;
+  each : AllByRecursion (StreamFits l.format) l.streams.items;
+  parts : l.bytes ≡ flat_map (stream_bytes l.format) l.streams.items ++ l.rest;
 }
 
 abbrev pub decreases-loop-alloc : goal.decreases-loop-alloc

@@ -16,4 +16,4 @@ returns c =
     let same = c.kept.view_is in
     let first = c.number_at.ensures ∙ ap (λ (s : Versions). get_or s.numbers 0 0) same in
     let all = versions-all c.args.kept.now c.loop-version.version c.loop-version.versions.items c.loop-version.invariant.0 past c.loop-version.invariant.1 in
-    λ i. record { id = (same i).id; entry = first i; spec = (same i).spec; versions = all i }
+    λ i. record { id = (same i).id; entry = first i; spec = (same i).spec; first = (same i).earliest; versions = all i }

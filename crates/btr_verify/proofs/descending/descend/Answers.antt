@@ -1,7 +1,7 @@
 use Rattle.std.specs.Prelude.{◌<◌, IfSome}
 use Rattle.std.proofs.Common.{subst}
 use Rattle.btr_verify.specs.Judging.{IsNextFrom}
-use Rattle.btr_verify.proofs.ReadLemmas.{reads-none}
+use Rattle.btr_log.proofs.OnlyReading.{no-calls}
 use Rattle.btr_verify.proofs.DownLemmas.{goes-nowhere, gone-end, gone-more}
 use Rattle.btr_verify.proofs.descending.descend.Goals as goal
 
@@ -10,7 +10,7 @@ loop-child-init g c =
     let disk = g.D.Disk in
     record {
       below = c.requires.below;
-      reads = reads-none disk c.args.disk.now (λ reported. g.met.D.Disk.only_now reported c.args.disk.now);
+      reads = no-calls c.args.disk.now (λ reported. g.met.D.Disk.only_now reported c.args.disk.now);
       can = c.requires.can;
       down = λ reported pages h page wrong. goes-nowhere pages h (disk.contents c.args.disk.now) c.args.tail c.args.marks.now c.args.block page wrong;
     }

@@ -14,9 +14,10 @@ use Rattle.btr_engine.specs.Place.{log_in, has_log}
 use Rattle.btr_engine.specs.Holds.{HoldsHistory}
 use Rattle.btr_engine.specs.Engine.{log_of, device, board_of, tail_of, room_of, super_of, IsAtRest}
 use Rattle.btr_engine.specs.Mark.{need_of_board, next_super, CountsMark, IsNamed}
+use Rattle.btr_engine.specs.Raise.{IsFollowable}
 use Rattle.btr_engine.proofs.Stepping.{log_at_rest}
 use Rattle.btr_engine.proofs.Durable.{opening_kept}
-use Rattle.btr_engine.proofs.Settling.{Goes, goes_fault}
+use Rattle.btr_engine.proofs.Settling.{Goes, goes_fault, next_followable}
 use Rattle.btr_engine.proofs.TravelLemmas.{taken_is}
 use Rattle.btr_engine.proofs.Marking.{FailsAppend, TakesAppend, needed, two_blocks, fits_unless_full, refused, fault_leaves, appending, replacing, followed, one_prefix, at_rest, named_in, durable_through, on_err, on_ok, counted-both, marking_keeps, stops, next-is}
 use Rattle.btr_engine.proofs.engine.Engine.mark.Given.{Over}
@@ -55,7 +56,7 @@ fails g c =
     })
 
 -- there was room
-fits : (g : Over) (c : In_default-append g) → need_of_board (board_of c.args.self.now) ≤ room_of c.args.self.now
+fits : (g : Over) (c : In_default-append g) → need_of_board (super_of c.args.self.now).format (board_of c.args.self.now) ≤ room_of c.args.self.now
 fits g c =
     fits_unless_full c.args.self.now (c.args.extent.now ++ []) (whole c.requires.bytes) (Ok tt) c.requires.runs (takes g c).appends.full (λ no. absurd (cc))
 
@@ -66,10 +67,10 @@ left_by_fault g c is_observable h rest =
     fault_leaves h c.args.self.now (c.args.extent.now ++ []) (whole c.requires.bytes) c.append.new.self c.in-Err.fault c.requires.runs f.appends.full f.cause (g.met.D.Disk.only_now is_observable (device c.args.self.now)) rest (f.appends.moments is_observable _ (log_at_rest h c.args.self.now rest))
 
 -- the superblock that was written
-is_next : (g : Over) (c : After-replace g) → c.next_super-next.result ≡ next_super (super_of c.args.self.now) (tail_of c.args.self.now) (log.log_tail c.append.new.self)
+is_next : (g : Over) (c : After-replace g) → c.next_super-next.result ≡ next_super (super_of c.args.self.now) (tail_of c.args.self.now) (log.log_tail c.append.new.self) (super_of c.args.self.now).format
 is_next g c =
     let a = (goal.at.After-replace g c).After-append in
-    next-is (super_of c.args.self.now) c.next_super-next.result c.tail-gate.result c.tail.result (tail_of c.args.self.now) (log.log_tail c.append.new.self) c.next_super-next.ensures (c.tail-gate.ensures ∙ ap log.log_tail (its_log g a)) c.tail.ensures
+    next-is (super_of c.args.self.now) c.next_super-next.result c.tail-gate.result c.tail.result (tail_of c.args.self.now) (log.log_tail c.append.new.self) (super_of c.args.self.now).format c.next_super-next.ensures (c.tail-gate.ensures ∙ ap log.log_tail (its_log g a)) c.tail.ensures
 
 -- the counts of the replacement
 counts : (g : Over) (c : After-replace g) → KeepsCounts g.D.Disk.size g.D.Disk.calls g.D.Disk.faults (log.log_device c.append.new.self) c.replace.new.device
@@ -81,7 +82,7 @@ module _ (g : Over) (c : After-replace g) where
   its_takes = takes g (goal.at.After-replace g c).In_default-append
 
   module _ (is_observable : g.D.Disk.is_observable) (h : List Entry) (rest : IsAtRest h c.args.self.now) where
-    room : need_of_board (board_of c.args.self.now) ≤ room_of c.args.self.now
+    room : need_of_board (super_of c.args.self.now).format (board_of c.args.self.now) ≤ room_of c.args.self.now
     room = fits g (goal.at.After-replace g c).In_default-append
 
     rests : log.IsLogAtRest c.append.new.self (rest.holds.bodies ++ body_in_run (c.args.extent.now ++ []) ∷ [])
@@ -127,8 +128,8 @@ invariant_of-self g c =
       began = go.began;
       called = go.called;
       failed = go.failed;
-      side = go.side;
-      seq = go.seq;
+      followable = go.followable;
+      behind = go.behind;
       large = go.large;
       same_blocks = go.same_blocks;
     }
@@ -192,16 +193,16 @@ invariant_of-self-2 g c =
     let old = c.args.self.now in
     let a = (goal.at.invariant_of-self-2 g c).After-replace in
     let w = its_takes g a in
-    let seq = ap (λ (s : Super). s.seq) (is_next g a) in
+    let two = two_blocks old (c.args.extent.now ++ []) (whole c.requires.bytes) in
     let go = subst (λ l. Goes old c.next_super-next.result l old.stopped (board_of old).entries) (sym (ap log_in c.put_back-2.ensures)) (record {
       marked = old.marked ∙ c.requires.runs ∙ sym w.appended.runs;
       counted = omega (arith, old.counted, w.appended.extents);
-      ends = omega (arith, old.ends, w.appended.extents, w.appended.tail, two_blocks old (c.args.extent.now ++ []) (whole c.requires.bytes));
+      ends = omega (arith, old.ends, w.appended.extents, w.appended.tail, two);
       began = old.began;
       called = omega (arith, old.called, w.appends.kept.device_kept.more_calls, c.replace.ensures.calls.later);
       failed = omega (arith, old.failed, w.appends.kept.faults);
-      side = omega (arith, ap (λ (s : Super). s.side) (is_next g a));
-      seq = omega (arith, old.seq, seq, w.appended.tail);
+      followable = subst IsFollowable (sym (is_next g a)) (next_followable (super_of old) (tail_of old) (log.log_tail c.append.new.self) old.followable (omega (arith, old.ends)) old.behind (omega (arith, w.appended.tail, two)));
+      behind = omega (arith, ap (λ (s : Super). s.tail) (is_next g a));
       large = omega (arith, old.large, w.appends.kept.blocks);
       same_blocks = ap (λ (s : Super). s.blocks) (is_next g a) ∙ old.same_blocks ∙ sym w.appends.kept.blocks;
     }) in
@@ -212,8 +213,8 @@ invariant_of-self-2 g c =
       began = go.began;
       called = go.called;
       failed = go.failed;
-      side = go.side;
-      seq = go.seq;
+      followable = go.followable;
+      behind = go.behind;
       large = go.large;
       same_blocks = go.same_blocks;
     }
@@ -242,7 +243,7 @@ returns g c =
         board = refl;
         fits = fits g (goal.at.returns g c).In_default-append;
         tail = tail_is ∙ w.appended.tail ∙ ap (λ n. tail_of old + n) (needed old (c.args.extent.now ++ []) (whole c.requires.bytes));
-        chosen = is_next g a ∙ ap (next_super (super_of old) (tail_of old)) (sym tail_is);
+        chosen = is_next g a ∙ ap (λ n. next_super (super_of old) (tail_of old) n (super_of old).format) (sym tail_is);
         called = subst (CountsMark (g.D.Disk.calls (device old))) (sym (ap (λ q. g.D.Disk.calls (log.log_device (log_in q))) back))
             (counted-both (g.D.Disk.calls (device old)) (g.D.Disk.calls (log.log_device c.append.new.self)) (g.D.Disk.calls c.replace.new.device) w.appended.calls (on_ok c.replace.result done c.replace.ensures.calls.all));
       };

@@ -42,6 +42,12 @@ settle-requires-2-clause-settles g c =
     let written = subst (λ r. OnOk r (IsWritten c.in-Some.log c.write-log.result.0 c.in-Ok.ready)) c.in_default-written.is c.write-log.ensures.written in
     ((c.args.entry.now, c.in-Ok.ensures.ready), subst (λ l. IsWritten l c.write-log.result.0 c.in-Ok.ready) is written)
 
+pub settle-requires-in-Err-written-clause-settles : goal.settle-requires-in-Err-written-clause-settles
+settle-requires-in-Err-written-clause-settles g c =
+    let is = its_log g (goal.at.settle-requires-in-Err-written-clause-settles g c).After-stage ∙ sym c.take_log.ensures.like.log in
+    let failed = subst (λ r. IfErr r (λ _. HasFailed c.in-Ok.ready.raise c.in-Some.log c.write-log.result.0)) c.in-Err-written.is c.write-log.ensures.failed in
+    (c.in-Ok.ready.raise, subst (λ l. HasFailed c.in-Ok.ready.raise l c.write-log.result.0) is failed)
+
 pub returns-in-Err : goal.returns-in-Err
 returns-in-Err g c =
     let old = c.args.self.now in
@@ -57,16 +63,16 @@ returns-in-Err g c =
       chosen = back.chosen ∙ like.chosen;
       synced = back.synced ∙ like.synced;
     }) in
-    refused_step (laws g) old c.settle.new.self e fault same c.requires.home (stopped_as out old like fault c.in-Err.ensures.stopped) (result_like out old like fault c.in-Err.ensures.refused)
+    refused_step (laws g) old c.settle.new.self e fault same c.requires.home (stopped_as out old like fault c.in-Err.ensures.stopped) (result_like out old like e fault c.in-Err.ensures.refused)
     (λ h of. cause_like out old like h e fault c.in-Err.ensures.refused (c.in-Err.ensures.cause h (of_like out old like h of)))
 
 pub returns-in-Err-written : goal.returns-in-Err-written
 returns-in-Err-written g c =
     let old = c.args.self.now in
     let a = (goal.at.returns-in-Err-written g c).After-write-log in
-    let failed = subst (λ r. IfErr r (λ _. HasFailed c.in-Some.log c.write-log.result.0)) c.in-Err-written.is c.write-log.ensures.failed in
+    let failed = subst (λ r. IfErr r (λ _. HasFailed c.in-Ok.ready.raise c.in-Some.log c.write-log.result.0)) c.in-Err-written.is c.write-log.ensures.failed in
     failed_step (laws g) old c.take_log.new.self c.settle-in-Err-written.new.self c.write-log.result.0 c.args.entry.now c.in-Ok.ready c.take_log.ensures.like (its_ready g a) (its_staged g a) (its_moments g a)
-    c.settle-in-Err-written.result (subst (λ l. HasFailed l c.write-log.result.0) (its_log g (goal.at.returns-in-Err-written g c).After-stage) failed) c.settle-in-Err-written.ensures
+    c.settle-in-Err-written.result (subst (λ l. HasFailed c.in-Ok.ready.raise l c.write-log.result.0) (its_log g (goal.at.returns-in-Err-written g c).After-stage) failed) c.settle-in-Err-written.ensures
 
 pub returns : goal.returns
 returns g c =

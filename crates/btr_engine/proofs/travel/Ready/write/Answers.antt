@@ -1,40 +1,35 @@
-use Rattle.std.specs.Prelude.{◌≡◌, ◌++◌}
-use Rattle.std.proofs.Common.{sym, ap, subst, arith}
-use Rattle.btr_log.specs.Append.{IsAppendRun}
-use Rattle.btr_engine.specs.Streamed.{streamed_bytes}
-use Rattle.btr_engine.specs.Travel.{run_of}
-use Rattle.btr_engine.proofs.PendingLemmas.{need_of_ready}
-use Rattle.btr_engine.proofs.Appending.{log_rests_now}
-use Rattle.btr_engine.proofs.TravelLemmas.{moments_of_write, holds_of_write}
+use Rattle.std.proofs.lemmas.Result.{on_ok_weaker, IfErr-weaker}
+use Rattle.btr_engine.proofs.TravelLemmas.{ready_raised, written_raised, failed_raised, holds_raised, moments_raised, raise_moments}
 use Rattle.btr_engine.proofs.travel.Ready.write.Goals as goal
 
-pub append-requires : goal.append-requires
-append-requires g c =
-    let r = c.args.self.now in
-    let ready = c.requires.ready.1 in
-    let is = ap (λ nodes. r.prefix ++ streamed_bytes r.is_streamed r.staged.receipt.stream nodes) c.deref.ensures.value in
-    record {
-      able = c.requires.able;
-      run = subst IsAppendRun (sym is) (need_of_ready c.requires.ready.0 r ready.some (omega (arith, ready.behind, c.args.log.tail_inside, c.args.log.addressable)) ready.made).1;
-    }
+pub append-requires-clause-ready : goal.append-requires-clause-ready
+append-requires-clause-ready g c =
+    (c.requires.ready.0, ready_raised c.args.log c.raise.new.log c.raise.new.log c.requires.ready.0 c.args.self.now c.raise.ensures.kept c.in_default.ensures.raised c.requires.ready.1)
 
 pub returns-in-Err-clause-moments : goal.returns-in-Err-clause-moments
-returns-in-Err-clause-moments g c e ready is_observable h b s staged now =
-    let r = c.args.self.now in
-    let is = ap (λ nodes. r.prefix ++ streamed_bytes r.is_streamed r.staged.receipt.stream nodes) c.deref.ensures.value in
-    moments_of_write h b s c.args.log e r ready staged now _ is c.append.new.self
-    (c.append.ensures.moments is_observable now.holds.bodies (log_rests_now h b s c.args.log now))
+returns-in-Err-clause-moments g c e ready =
+    raise_moments c.args.log c.raise.new.log e c.args.self.now c.raise.ensures.moments
+
+pub returns-clause-written : goal.returns-clause-written
+returns-clause-written g c =
+    on_ok_weaker c.append.result.1 (written_raised c.args.log c.raise.new.log c.append.result.0 c.requires.ready.0 c.args.self.now c.raise.ensures.kept c.in_default.ensures.raised) c.append.ensures.written
+
+pub returns-clause-failed : goal.returns-clause-failed
+returns-clause-failed g c =
+    IfErr-weaker c.append.result.1 _ _ (λ _ failed. failed_raised c.args.log c.raise.new.log c.append.result.0 c.requires.ready.0 c.args.self.now c.raise.ensures.kept c.in_default.ensures.raised failed) c.append.ensures.failed
 
 pub returns-clause-holds : goal.returns-clause-holds
-returns-clause-holds g c e ready is_observable h b s staged now =
+returns-clause-holds g c e ready =
     let r = c.args.self.now in
-    let is = ap (λ nodes. r.prefix ++ streamed_bytes r.is_streamed r.staged.receipt.stream nodes) c.deref.ensures.value in
-    holds_of_write h b s c.args.log e r ready staged now _ is c.append.new.self c.in_default.ensures.appended c.append.ensures.kept (c.in_default.ensures.appended.written is_observable)
-    (c.in_default.ensures.at_rest is_observable now.holds.bodies (log_rests_now h b s c.args.log now))
+    let mid = c.raise.new.log in
+    let raised = c.in_default.ensures.raised in
+    on_ok_weaker c.append.result.1 (holds_raised c.args.log mid c.append.result.0 e r c.raise.ensures.kept raised c.in_default.ensures.holds)
+    (c.append.ensures.holds e (ready_raised c.args.log mid mid e r c.raise.ensures.kept raised ready))
 
 pub returns-clause-moments : goal.returns-clause-moments
-returns-clause-moments g c e ready is_observable h b s staged now =
+returns-clause-moments g c e ready =
     let r = c.args.self.now in
-    let is = ap (λ nodes. r.prefix ++ streamed_bytes r.is_streamed r.staged.receipt.stream nodes) c.deref.ensures.value in
-    moments_of_write h b s c.args.log e r ready staged now _ is c.append.new.self
-    (c.append.ensures.moments is_observable now.holds.bodies (log_rests_now h b s c.args.log now))
+    let mid = c.raise.new.log in
+    let raised = c.in_default.ensures.raised in
+    moments_raised c.args.log mid c.append.result.0 e r c.raise.ensures.kept raised c.in_default.ensures.holds c.raise.ensures.moments
+    (c.append.ensures.moments e (ready_raised c.args.log mid mid e r c.raise.ensures.kept raised ready))

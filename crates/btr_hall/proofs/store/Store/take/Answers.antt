@@ -28,7 +28,7 @@ returns-in-Err-clause-refused g c =
       chosen = back.chosen ∙ like.chosen;
       synced = back.synced ∙ like.synced;
     }) in
-    let has = result_like out old like fault c.in-Err.ensures.refused in
+    let has = result_like out old like e fault c.in-Err.ensures.refused in
     let step = refused_step (laws g) old c.settle.new.self e fault same c.requires.home (stopped_as out old like fault c.in-Err.ensures.stopped) has
     (λ h of. cause_like out old like h e fault c.in-Err.ensures.refused (c.in-Err.ensures.cause h (of_like out old like h of))) in
     refused_adds s (record { engine = c.settle.new.self; opening = s.opening; halted = s.halted }) e fault step has refl refl

@@ -32,7 +32,7 @@ loop-i-preserved g c =
           let page = w.in-Some.page in
           let is : c.decode.result ≡ Some page = w.in-Some.is in
           let fits = subst (λ o. IfSome o (λ p. Fits p)) is c.decode.ensures.fits in
-          let spells = subst (λ b. Spells b page) c.block_at.ensures (subst (λ o. IfSome o (λ p. Spells c.block_at.result p)) is c.decode.ensures.found) in
+          let spells = subst (λ b. Spells b page) c.block_at.ensures (subst (λ o. IfSome o (λ p. Spells c.block_at.result.now p)) is c.decode.ensures.found) in
           let one = λ (other : NodePage) (other_fits : Fits other) (other_spells : Spells (block_of_bytes bytes n) other). page-one page other (sym is ∙ only other other_fits other_spells) in
           fetched-as disk c.args.disk.now now.disk w.fetch_children.new.disk c.args.self.now now.self w.fetch_children.new.self (IsNeededTo (n + 1) bytes root) c.args.nodes.now now.nodes w.fetch_children.new.nodes w.self-is w.disk-is w.nodes-is
           (fetched-more disk c.args.disk.now l.disk w.fetch_children.new.disk c.args.self.now l.self w.fetch_children.new.self (IsNeededTo n bytes root) (IsSlotChild (slots_of_page page)) (IsNeededTo (n + 1) bytes root) c.args.nodes.now l.nodes w.fetch_children.new.nodes l.invariant w.fetch_children.ensures.reads w.in_ok-fetch_children.ensures.grows w.in_ok-fetch_children.ensures.all (needed-before n bytes root) (needed-here n bytes root page fits spells) (needed-or n bytes root page one))

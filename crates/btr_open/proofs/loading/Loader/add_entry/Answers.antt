@@ -49,4 +49,4 @@ pub returns-clause-added : goal.returns-clause-added
 returns-clause-added c =
     let at = (goal.at.returns-clause-added c).After-wrong_root-wrong in
     let right : MayLeadRead (first at) (nodes at) c.args.self.now c.args.head.now.root c.args.entry.now = λ pages known. c.in_default.ensures.right pages known refl in
-    body-added c.args.gate (first at) (nodes at) c.args.body.now c.args.self.now c.args.head.now c.args.entry.now (is-allowed at) right c.add_blocks.new.self (c.in_ok-damaged.ensures.added (ap Ok c.in_default-damaged.is)) _ c.add_tree.new.self refl refl c.requires.next.may c.in_ok-add_tree.ensures c.requires.read c.in_ok-damaged.ensures.above
+    body-added c.args.gate (first at) (nodes at) c.args.body.now c.args.self.now c.args.head.now c.args.entry.now (is-allowed at) right c.add_blocks.new.self (c.in_ok-damaged.ensures.added (ap Ok c.in_default-damaged.is)) _ c.add_tree.new.self refl refl refl c.requires.next.may c.in_ok-add_tree.ensures c.requires.read c.in_ok-damaged.ensures.above

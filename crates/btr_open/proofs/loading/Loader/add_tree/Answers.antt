@@ -1,4 +1,4 @@
-use Rattle.std.proofs.Common.{refl, sym, ap, ◌∙◌, subst}
+use Rattle.std.proofs.Common.{refl, sym, ap, ◌∙◌, subst, arith}
 use Rattle.btr_streams.specs.Board.{Kept, IsBoardOf}
 use Rattle.btr_open.specs.Loading.{IsTreeOfRoot}
 use Rattle.btr_open.proofs.loading.Loader.add_tree.Goals.{In_ok-tree}
@@ -15,6 +15,7 @@ pub returns : goal.returns
 returns c =
     record {
       same = refl;
+      least = omega (arith, c.format_of.ensures.format);
       counted = ap (λ (b : Kept). b.entries) c.accept.ensures.next ∙ c.in_ok-staged.ensures.numbered.entries;
       tree = c.in_ok-tree.tree;
       is = tree-of (goal.at.returns c).In_ok-tree;

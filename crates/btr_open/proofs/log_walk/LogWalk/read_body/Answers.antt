@@ -57,8 +57,8 @@ pub add-requires-clause-read : goal.add-requires-clause-read
 add-requires-clause-read g c =
     let w = c.args.self.now in
     let old = w.loader in
-    let mid : Loader = record { board = old.board; nodes = c.fetch_needed.new.nodes; steps = c.fetch_needed.new.steps } in
-    fetched-read w.reader.limit w.place.gate (limit-low g.J.Judge w c.args.judge.now c.requires.walked) c.blocks-body.result.now c.args.head.now old mid refl c.in_ok-fetch_needed.ensures.grows c.requires.walked.into
+    let mid : Loader = record { board = old.board; nodes = c.fetch_needed.new.nodes; steps = c.fetch_needed.new.steps; least = old.least } in
+    fetched-read w.reader.limit w.place.gate (limit-low g.J.Judge w c.args.judge.now c.requires.walked) c.blocks-body.result.now c.args.head.now old mid refl refl c.in_ok-fetch_needed.ensures.grows c.requires.walked.into
 
 pub returns-clause-read : goal.returns-clause-read
 returns-clause-read g c =
@@ -68,7 +68,7 @@ returns-clause-read g c =
     let limit = w.reader.limit in
     let head = c.args.head.now in
     let body = c.blocks-body.result.now in
-    let mid : Loader = record { board = old.board; nodes = c.fetch_needed.new.nodes; steps = c.fetch_needed.new.steps } in
+    let mid : Loader = record { board = old.board; nodes = c.fetch_needed.new.nodes; steps = c.fetch_needed.new.steps; least = old.least } in
     let new = c.add.new.self in
     let before = c.args.judge.now in
     let after = c.add.new.judge in
@@ -83,9 +83,9 @@ returns-clause-read g c =
     let is_body : IsBody body head = rw c.blocks-body.ensures c.requires.holds.whole.is_body in
     let all = λ (reported : g.D.Disk.is_observable). subst (λ xs. FetchesAll image limit (IsNeeded xs head.root) old.nodes mid.nodes) c.node_blocks-nodes.ensures (fetched.all reported) in
     IfNone_then c.in_ok-add.field-0 (HasJudged g.J.Judge gate body mid new before after) (ReadsExtent g.J.Judge w new head before after) (λ judged. record {
-      through = rw (sym c.blocks-body.ensures) (entry-on limit gate low body head old mid refl fetched.grows g.J.Judge before after new judged c.requires.walked.into);
+      through = rw (sym c.blocks-body.ensures) (entry-on limit gate low body head old mid refl refl fetched.grows g.J.Judge before after new judged c.requires.walked.into);
       read = λ reported.
-          rw (sym c.blocks-body.ensures) (entry-body limit gate low body head old mid refl fetched.grows g.J.Judge before after new judged image (all reported).adds is_body few short c.requires.walked.into (all reported).part);
+          rw (sym c.blocks-body.ensures) (entry-body limit gate low body head old mid refl refl fetched.grows g.J.Judge before after new judged image (all reported).adds is_body few short c.requires.walked.into (all reported).part);
     }) c.in_ok-add.ensures.added
 
 pub returns-clause-damaged : goal.returns-clause-damaged
@@ -96,11 +96,11 @@ returns-clause-damaged g c =
     let limit = w.reader.limit in
     let head = c.args.head.now in
     let body = c.blocks-body.result.now in
-    let mid : Loader = record { board = old.board; nodes = c.fetch_needed.new.nodes; steps = c.fetch_needed.new.steps } in
+    let mid : Loader = record { board = old.board; nodes = c.fetch_needed.new.nodes; steps = c.fetch_needed.new.steps; least = old.least } in
     let fetched = c.in_ok-fetch_needed.ensures in
     let image = g.D.Disk.contents (disk_of w.log) in
     let before = c.args.judge.now in
     let low = limit-low g.J.Judge w before c.requires.walked in
     IfSome_then c.in_ok-add.field-0 {P = BreaksNext g.J.Judge gate body (node_blocks_of head body) head.root mid before} c.in_ok-add.ensures.damaged (λ block breaks reported.
     let all = subst (λ xs. FetchesAll image limit (IsNeeded xs head.root) old.nodes mid.nodes) c.node_blocks-nodes.ensures (fetched.all reported) in
-    rw (sym c.blocks-body.ensures) (entry-breaks limit gate low body head old mid refl fetched.grows g.J.Judge before image block all.adds all.fetched breaks))
+    rw (sym c.blocks-body.ensures) (entry-breaks limit gate low body head old mid refl refl fetched.grows g.J.Judge before image block all.adds all.fetched breaks))

@@ -1,5 +1,5 @@
-use Rattle.std.specs.Prelude.{◌+◌, ◌*◌, Some, IfSome, IfNone}
-use Rattle.std.proofs.Common.{refl, sym, subst, inr}
+use Rattle.std.specs.Prelude.{◌+◌, ◌*◌, ◌<◌, ◌≤◌, Some, IfSome, IfNone}
+use Rattle.std.proofs.Common.{refl, sym, subst, inr, arith}
 use Rattle.btr_disk.specs.Bytes.{Has}
 use Rattle.btr_disk.specs.Gate.{IsOpen}
 use Rattle.btr_log.specs.Log.{log_device as disk_of, log_blocks}
@@ -11,8 +11,8 @@ use Rattle.btr_open.specs.Place.{IsPlaceAfter}
 use Rattle.btr_open.specs.Reading.{IsDamagedStoreBy}
 use Rattle.btr_open.proofs.NextLemmas.{gate-damaged}
 use Rattle.btr_open.proofs.OpenCauses.{cause-found}
-use Rattle.btr_open.proofs.OnlyReading.{same-bytes}
-use Rattle.btr_open.proofs.LogWalkLemmas.{log-read, walk-with, walks-ahead, walks-trans, walks-moved, ahead-walked, extent-breaks, extent-walked}
+use Rattle.btr_log.proofs.OnlyReading.{same-bytes}
+use Rattle.btr_open.proofs.LogWalkLemmas.{log-read, walk-with, walks-ahead, walks-trans, walks-moved, ahead-walked, extent-above, extent-breaks, extent-walked}
 use Rattle.btr_open.proofs.log_walk.LogWalk.read_next.Given.{Over}
 use Rattle.btr_open.proofs.log_walk.LogWalk.read_next.Goals.{After-read_ahead, In-Some}
 use Rattle.btr_open.proofs.log_walk.LogWalk.read_next.Goals as goal
@@ -76,6 +76,13 @@ matches g c reported =
     subst (λ i. MatchesPiece i gate c.read_ahead.new.piece (Some c.in-Some.head)) (same-bytes (disk_of c.args.self.now.log) (disk_of c.read_ahead.new.self) (opened-ahead g c).reads.reads reported)
     (subst (MatchesPiece (g.D.Disk.contents (disk_of c.args.self.now.log)) gate c.read_ahead.new.piece) c.in-Some.is (c.in-Ok.ensures.found.matches reported))
 
+pub returns-then-head-self-clause-cause : goal.returns-then-head-self-clause-cause
+returns-then-head-self-clause-cause g c reported =
+    let at = (goal.at.returns-then-head-self-clause-cause g c).In-Some in
+    let w = c.args.self.now in
+    subst (λ i. IsDamagedStoreBy g.J.Judge.may i w.found (w.place.gate + 1)) (sym (same-bytes (disk_of w.log) (disk_of c.read_ahead.new.self) (opened-ahead g at).reads.reads reported))
+    (extent-above g.J.Judge (opened g at) c.args.judge.now (opened-walked g at) c.in-Some.head (holds g at) (matches g at) (omega (arith, c.if-head-self.true)) reported)
+
 pub read_body-requires-clause-walked : goal.read_body-requires-clause-walked
 read_body-requires-clause-walked g c = opened-walked g (goal.at.read_body-requires-clause-walked g c).In-Some
 
@@ -91,7 +98,12 @@ returns-in-Some-2-clause-cause g c reported =
     let block = c.in-Some-2.block in
     let breaks = subst (λ o. IfSome o (BreaksExtent g.J.Judge (opened g at) head j)) c.in-Some-2.is c.in_ok-block.ensures.damaged in
     subst (λ i. IsDamagedStoreBy g.J.Judge.may i w.found block) (sym (same-bytes (disk_of w.log) (disk_of c.read_ahead.new.self) (opened-ahead g at).reads.reads reported))
-    (extent-breaks g.J.Judge (opened g at) j (opened-walked g at) head (holds g at) (matches g at) block breaks reported)
+    (extent-breaks g.J.Judge (opened g at) j (opened-walked g at) head (holds g at) (matches g at) (omega (arith, c.if-head-self.false)) block breaks reported)
+
+pub returns-in-Some-2-clause-walks : goal.returns-in-Some-2-clause-walks
+returns-in-Some-2-clause-walks g c =
+    let at = (goal.at.returns-in-Some-2-clause-walks g c).In-Some in
+    walks-trans c.args.self.now (opened g at) c.read_body.new.self (opened-ahead g at) c.read_body.ensures.walks
 
 pub returns-in-None-clause-walks : goal.returns-in-None-clause-walks
 returns-in-None-clause-walks g c =
@@ -110,4 +122,4 @@ returns-in-None-clause-walked g c =
     let next = c.args.self.now.place.gate + head.n + 1 in
     let reads = subst (λ o. IfNone o (ReadsExtent g.J.Judge mid new.loader head j after)) c.in-None.is c.in_ok-block.ensures.read in
     let goes = subst (λ p. IsPlaceAfter p next c.after-self.result) c.read_body.ensures.place c.after-self.ensures in
-    extent-walked g.J.Judge mid j (opened-walked g at) head (holds g at) (matches g at) new.loader (walk-with new new.log new.reader new.piece new.loader c.after-self.result) after (walks-moved mid new c.after-self.result c.read_body.ensures.walks) refl goes reads
+    extent-walked g.J.Judge mid j (opened-walked g at) head (holds g at) (matches g at) (omega (arith, c.if-head-self.false)) new.loader (walk-with new new.log new.reader new.piece new.loader c.after-self.result) after (walks-moved mid new c.after-self.result c.read_body.ensures.walks) refl goes reads

@@ -19,9 +19,9 @@ returns-in-Ok c h of =
     let v = c.in-Ok.version in
     let asked = version_of h s c.args.asked.at in
     let there = c.in-Ok.ensures.there h of in
-    let all = c.root_agg.ensures (commits_to h s v) there.tree ∙ within_domain (tree.bag (commits_to h s v)) there.tree.times in
+    let all = c.root_agg.ensures (commits_to h s v) there.has.tree ∙ within_domain (tree.bag (commits_to h s v)) there.has.tree.times in
     let output : c.is_some.result ≡ is_output h s = c.is_some.ensures ∙ ap (is_some {T = Spec}) (c.spec.ensures h of) in
-    let read : c.reads.result ≡ read_by h s asked = c.reads.ensures h of ∙ ap (λ (n : ℕ). read_by h s n) there.same in
+    let read : c.reads.result ≡ read_by h s asked = c.reads.ensures h of ∙ ap (λ (n : ℕ). read_by h s n) there.has.same in
     let rows = ap (λ (t : Bool). Info t c.root_agg.result c.reads.result) output
     ∙ ap (λ (a : AggValue). Info (is_output h s) a c.reads.result) all
     ∙ ap (λ (r : Option Reads). Info (is_output h s) (agg_within FIRST END (tree.bag (commits_to h s v))) r) read in

@@ -18,7 +18,7 @@ returns c h of =
     let v = c.in-Ok.there.0 in
     let there = c.in-Ok.ensures.there h of in
     let time = ap (λ t. nearest c.args.toward t (tree.bag (commits_to h s v))) (to_z-of_z w64 c.args.time c.ranges.time) in
-    let point = c.nearest.ensures.point (commits_to h s v) there.tree ∙ time in
+    let point = c.nearest.ensures.point (commits_to h s v) there.has.tree ∙ time in
     let one = elim c.match-nearest.branch as (λ _. c.match-nearest.found.items ≡ list_of c.nearest.result) [
       | in-Some+in_ok-push w ↦ ap (λ f. f.items) w.found-is ∙ w.in_ok-push.ensures.items ∙ ap (λ ps. ps ++ w.in-Some.point ∷ []) c.new-found.ensures.items ∙ sym (ap list_of w.in-Some.is)
       | in_default w ↦ ap (λ f. f.items) w.found-is ∙ c.new-found.ensures.items ∙ sym (ap list_of w.in_default.is)

@@ -19,3 +19,7 @@ returns-in-Commit-clause-writes g c =
 pub returns-in-Distillate-clause-writes : goal.returns-in-Distillate-clause-writes
 returns-in-Distillate-clause-writes g c =
     subst (λ (e : Entry). IfOk c.stage_distillate.result (λ n. WritesOn c.args.self.now e c.args.first n.board n.nodes.items n.root)) (sym c.in-Distillate.is) c.stage_distillate.ensures.writes
+
+pub returns-in-Retire-clause-writes : goal.returns-in-Retire-clause-writes
+returns-in-Retire-clause-writes g c =
+    subst (λ (e : Entry). IfOk c.stage_retirement.result (λ n. WritesOn c.args.self.now e c.args.first n.board n.nodes.items n.root)) (sym c.in-Retire.is) c.stage_retirement.ensures.writes

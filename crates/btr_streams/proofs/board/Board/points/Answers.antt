@@ -18,5 +18,5 @@ returns c h of =
     let v = c.in-Ok.there.0 in
     let there = c.in-Ok.ensures.there h of in
     let range = asked_range c.args.from c.args.to (to_z-of_z w64 c.args.from c.ranges.from) (to_z-of_z w64 c.args.to c.ranges.to) c.in-Ok.there.2 c.in-Ok.ensures.range in
-    let rows = c.in_ok-found.ensures (commits_to h s v) there.tree ∙ ap (λ r. within r.from r.to (tree.bag (commits_to h s v))) range.is in
+    let rows = c.in_ok-found.ensures (commits_to h s v) there.has.tree ∙ ap (λ r. within r.from r.to (tree.bag (commits_to h s v))) range.is in
     found h s v (version_of h s c.args.asked.at) c.in-Ok.there.1.now there (is_range c.args.from c.args.to) (λ b. Points (within c.args.from c.args.to b)) (Points c.from_points.result) range.good (ap Points (c.from_points.ensures ∙ rows))

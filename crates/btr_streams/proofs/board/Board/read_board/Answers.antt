@@ -1,7 +1,7 @@
 use Rattle.std.specs.Prelude.{Some, None, IfOk}
 use Rattle.std.proofs.Common.{sym, subst}
 use Rattle.btr_hist.specs.declared.entry.Entry.{Entry}
-use Rattle.btr_streams.specs.Stage.{HasRoomFor, ReadsOn, AddsStream}
+use Rattle.btr_streams.specs.Stage.{HasRoomFor, ReadsOn, AddsStream, SetsEarliest}
 use Rattle.btr_streams.proofs.board.Board.read_board.Goals as goal
 
 pub with_stream-requires-clause-room : goal.with_stream-requires-clause-room
@@ -53,3 +53,18 @@ returns-in-Commit-clause-kept c =
 pub returns-in-Distillate-clause-kept : goal.returns-in-Distillate-clause-kept
 returns-in-Distillate-clause-kept c =
     subst (λ (e : Entry). IfOk c.read_version-in-Distillate.result (λ n. ReadsOn c.args.self.now e c.args.tree n.board n.nodes.items n.root)) (sym c.in-Distillate.is) c.read_version-in-Distillate.ensures.kept
+
+pub returns-in_ok-with_earliest-in-Retire-clause-kept : goal.returns-in_ok-with_earliest-in-Retire-clause-kept
+returns-in_ok-with_earliest-in-Retire-clause-kept c =
+    let made = c.without_nodes-in-Retire in
+    subst (λ (e : Entry). ReadsOn c.args.self.now e c.args.tree made.result.board made.result.nodes.items made.result.root) (sym c.in-Retire.is) (record {
+      sets = subst (SetsEarliest c.args.self.now c.in-Retire.stream c.in-Retire.first) (sym made.ensures.board) c.in_ok-with_earliest-in-Retire.ensures.sets;
+      none = made.ensures.nodes;
+      no_root = made.ensures.root;
+    })
+
+pub with_stream-requires-clause-inputs : goal.with_stream-requires-clause-inputs
+with_stream-requires-clause-inputs c = (subst (HasRoomFor c.args.self.now) c.in-Create.is c.requires.room).inputs
+
+pub with_stream-requires-in-Define-clause-inputs : goal.with_stream-requires-in-Define-clause-inputs
+with_stream-requires-in-Define-clause-inputs c = (subst (HasRoomFor c.args.self.now) c.in-Define.is c.requires.room).inputs

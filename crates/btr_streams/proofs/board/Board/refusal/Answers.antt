@@ -39,11 +39,11 @@ returns-in-Distillate-clause-of c h has =
 
 pub returns-in-Create-clause-room : goal.returns-in-Create-clause-room
 returns-in-Create-clause-room c none =
-    subst (HasRoomFor c.args.self.now) (sym c.in-Create.is) (record { few = c.create_rejection.ensures.room none; fresh = c.create_rejection.ensures.fresh none; good = tt })
+    subst (HasRoomFor c.args.self.now) (sym c.in-Create.is) (record { few = c.create_rejection.ensures.room none; fresh = c.create_rejection.ensures.fresh none; good = tt; inputs = tt })
 
 pub returns-in-Define-clause-room : goal.returns-in-Define-clause-room
 returns-in-Define-clause-room c none =
-    subst (HasRoomFor c.args.self.now) (sym c.in-Define.is) (record { few = c.define_rejection.ensures.room none; fresh = c.define_rejection.ensures.fresh none; good = c.define_rejection.ensures.good none })
+    subst (HasRoomFor c.args.self.now) (sym c.in-Define.is) (record { few = c.define_rejection.ensures.room none; fresh = c.define_rejection.ensures.fresh none; good = c.define_rejection.ensures.good none; inputs = c.define_rejection.ensures.inputs none })
 
 pub returns-in-Commit-clause-room : goal.returns-in-Commit-clause-room
 returns-in-Commit-clause-room c none =
@@ -52,3 +52,15 @@ returns-in-Commit-clause-room c none =
 pub returns-in-Distillate-clause-room : goal.returns-in-Distillate-clause-room
 returns-in-Distillate-clause-room c none =
     subst (HasRoomFor c.args.self.now) (sym c.in-Distillate.is) (c.distillate_refusal.ensures.room none)
+
+pub returns-in-Retire-clause-rolled : goal.returns-in-Retire-clause-rolled
+returns-in-Retire-clause-rolled c =
+    c.retire_refusal.ensures.rolled ∙ ap (refusal (outline_in (rolled c.args.self.now))) (sym c.in-Retire.is)
+
+pub returns-in-Retire-clause-of : goal.returns-in-Retire-clause-of
+returns-in-Retire-clause-of c h has =
+    refusal-of h c.args.self.now has c.args.entry.now c.retire_refusal.result (c.retire_refusal.ensures.rolled ∙ ap (refusal (outline_in (rolled c.args.self.now))) (sym c.in-Retire.is))
+
+pub returns-in-Retire-clause-room : goal.returns-in-Retire-clause-room
+returns-in-Retire-clause-room c none =
+    subst (HasRoomFor c.args.self.now) (sym c.in-Retire.is) (c.retire_refusal.ensures.room none)

@@ -1,4 +1,4 @@
-use Rattle.std.specs.Prelude.{◌≡◌, ◌<◌, false, List, length, slice_get, None, IfOk, IfErr, is_some}
+use Rattle.std.specs.Prelude.{◌≡◌, ◌<◌, false, List, length, slice_get, None, IfErr, is_some}
 use Rattle.std.proofs.Common.{sym, ap, ◌∙◌, subst}
 use Rattle.std.proofs.lemmas.Result.{on_ok_weaker, IfOk-weaker}
 use Rattle.btr_board.specs.Numbers.{number_of}

@@ -21,5 +21,5 @@ returns c h of =
     let there = c.in-Ok.ensures.there h of in
     let range = asked_range c.args.from c.args.to (to_z-of_z w64 c.args.from c.ranges.from) (to_z-of_z w64 c.args.to c.ranges.to) c.in-Ok.there.2 c.in-Ok.ensures.range in
     let good = and_from (is_range c.args.from c.args.to) (is_width c.args.width) range.good (width_good c.args.width (omega arith) (omega arith)) in
-    let rows = c.in_ok-found.ensures (commits_to h s v) there.tree ∙ ap (λ r. windows c.args.width r.from r.to (tree.bag (commits_to h s v))) range.is in
+    let rows = c.in_ok-found.ensures (commits_to h s v) there.has.tree ∙ ap (λ r. windows c.args.width r.from r.to (tree.bag (commits_to h s v))) range.is in
     found h s v (version_of h s c.args.asked.at) c.in-Ok.there.1.now there (is_range c.args.from c.args.to && is_width c.args.width) (λ b. Cells (windows c.args.width c.args.from c.args.to b)) (Cells c.from_cells.result) good (ap Cells (c.from_cells.ensures ∙ rows))

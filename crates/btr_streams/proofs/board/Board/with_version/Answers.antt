@@ -9,8 +9,8 @@ pub invariant_of-result : goal.invariant_of-result
 invariant_of-result c =
     let there : slice_get c.self.inside.streams c.args.place ≡ Some c.args.kept.now = ap (λ (b : Kept). slice_get b.streams c.args.place) c.self.view_is ∙ c.requires.there in
     let set = c.in_ok-streams.ensures ∙ ap (slice_set c.self.inside.streams c.args.place) c.in_ok-next.ensures in
-    formed-version c.self.inside.streams (number_of c.self.inside.numbers) c.self.invariant c.args.place c.args.kept.now c.args.tree c.args.read (c.self.inside.entries + 1) (number_of c.in_ok-numbers.numbers) c.in_ok-streams.streams there c.requires.room c.requires.grown c.requires.of_kind set
-    (λ id. ap (λ m. number_of m id) c.in_ok-numbers.ensures)
+    formed-version c.self.inside.streams (number_of c.self.inside.numbers) c.self.invariant c.args.place c.args.kept.now c.args.tree c.args.read (c.self.inside.entries + 1) (number_of c.in_ok-numbers.numbers) c.in_ok-streams.streams c.in_ok-readers.readers there c.requires.room c.requires.grown c.requires.of_kind set
+    (λ id. ap (λ m. number_of m id) c.in_ok-numbers.ensures) c.in_ok-readers.ensures
 
 pub returns-clause-next : goal.returns-clause-next
 returns-clause-next c h e of next =

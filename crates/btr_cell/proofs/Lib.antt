@@ -1,0 +1,2 @@
+pub mod CellPartLemmas
+mod WholeLemmas

@@ -1,0 +1,2 @@
+-- what the private functions promise
+pub mod Cells
