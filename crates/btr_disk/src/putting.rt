@@ -27,9 +27,9 @@ pub fn write_alone<B: Blocks>(source: &B, sink: &(dyn BlockSink + Sync)) -> bool
     sink.put_prefix() && put_part(source, 0, source.blocks(), sink)
 }
 
-/// Has the sink write its prefix and each block of the source, by at most `threads` threads at once, the calling one among them, or by the
-/// calling one alone if there is no block. It takes no memory but what starts the threads, and 128 KiB of the stack of each. Returns whether
-/// all of it was written, and false only if a call of the sink returned false.
+/// Has the sink write its prefix and each block of the source, by at most `threads` threads at once, the calling one among them, or
+/// by the calling one alone if there is no block. It takes no memory but what starts the threads, and 128 KiB of the stack of each.
+/// Returns whether all of it was written, and false only if a call of the sink returned false.
 pub fn write_by_threads<R: Threads + Sync, B: Blocks + Sync>(
     rt: &R,
     source: &B,

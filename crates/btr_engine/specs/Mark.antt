@@ -98,7 +98,11 @@ module _ {D : Type 0} {disk : Ghosts D} where
   CheckpointCause old new (Rejected why) = ⊥
   CheckpointCause old new Want = (is_stopped old ≡ false) × (new ≡ old)
   CheckpointCause old new (DeviceFull need left) =
-      (is_stopped old ≡ false) × (need ≡ need_of_board (super_of old).format (board_of old)) × (left ≡ room_of old) × (left < need) × (new ≡ old)
+      (is_stopped old ≡ false)
+      × (need ≡ need_of_board (super_of old).format (board_of old))
+      × (left ≡ room_of old)
+      × (left < need)
+      × (new ≡ old)
   CheckpointCause old new DeviceFault =
       (is_stopped old ≡ false) × (need_of_board (super_of old).format (board_of old) ≤ room_of old) × StopsByMark old new
 

@@ -29,7 +29,8 @@ pub(crate) fn create_streams<R: Threads + Wait + Sync, D: Disk>(
     requires alone { IsAlone session.old }
     ensures at { IsAt hall.now session.new }
     ensures alone { IsAlone session.new }
-    ensures does { Does hall.now session.old session.new (λ start log low own. SettlesStreams snapshot.now streams.old streams.new start log low own) }
+    ensures does { Does hall.now session.old session.new
+        (λ start log low own. SettlesStreams snapshot.now streams.old streams.new start log low own) }
 {
     for stream in streams.iter_mut() {
         create_stream(system, hall, session, snapshot, stream);

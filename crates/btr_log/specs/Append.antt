@@ -1,5 +1,6 @@
 -- What an append promises: which runs it takes, when each result comes, and what the log is then.
-use Rattle.std.specs.Prelude.{◌≡◌, ◌⊎◌, ℕ, ◌+◌, ◌-◌, ◌*◌, ◌<◌, ◌≤◌, false, true, List, [], ◌∷◌, ◌++◌, length, take, IsTrue, IsFalse, Result, Err}
+use Rattle.std.specs.Prelude.{◌≡◌, ◌⊎◌, ℕ, ◌+◌, ◌-◌, ◌*◌, ◌<◌, ◌≤◌, false, true, List, [], ◌∷◌, ◌++◌, length, take}
+use Rattle.std.specs.Prelude.{IsTrue, IsFalse, Result, Err}
 use Rattle.btr_disk.specs.declared.disk.Disk.{Ghosts}
 use Rattle.btr_disk.specs.Bytes.{Image}
 use Rattle.btr_disk.specs.Causes.{Rose, CountedTimes}

@@ -12,8 +12,8 @@ use btr_base::Point;
 /// Writes the page of a leaf with these fields and points, and unused places after them. It takes constant time and no memory.
 pub fn fill_leaf(to: &mut [u8; PAGE], header: &PageHeader, points: &[Point])
     requires few { length points.now ≤ 252 }
-    ensures { to.new
-        ≡ page_bytes (Leaf header.now.start header.now.height header.now.stream header.now.version header.now.count (places_with points.now)) }
+    ensures { to.new ≡ page_bytes
+        (Leaf header.now.start header.now.height header.now.stream header.now.version header.now.count (places_with points.now)) }
 {
     put(to, 0, &LEAF_MARK);
     put_header(to, header);

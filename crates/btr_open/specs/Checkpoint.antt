@@ -172,6 +172,7 @@ module _ {D : Type 0} (disk : Ghosts D) where
   -- Why the board of the streams of a checkpoint was not made.
   abbrev pub StartCause : Super → ℕ → List RollStreamValue → D → D → OpenCause → Type 0
   StartCause found format roll old new NotAStore = ⊥
-  StartCause found format roll old new (Damaged block) = disk.is_observable → HasWrongVersionRoot (disk.contents old) found format roll block
+  StartCause found format roll old new (Damaged block) =
+      disk.is_observable → HasWrongVersionRoot (disk.contents old) found format roll block
   StartCause found format roll old new Fault = Rose (disk.faults old) (disk.faults new)
   StartCause found format roll old new Want = Unit {0}

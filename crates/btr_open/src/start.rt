@@ -66,7 +66,8 @@ impl<D: Disk> LogWalk<D> {
         requires some { 0 < self.old.found.checkpoint }
         ensures walks { WalksOn self.old self.new }
         ensures loader { self.new.loader ≡ self.old.loader }
-        ensures read { IfOk result (λ c. IsRollRead D.is_observable (D.contents (disk_of self.old.log)) self.old.found c.entries c.format c.roll) }
+        ensures read { IfOk result
+            (λ c. IsRollRead D.is_observable (D.contents (disk_of self.old.log)) self.old.found c.entries c.format c.roll) }
         ensures cause { IfErr result (FirstCause ⟦<D as Disk>⟧ self.old.found (disk_of self.old.log) (disk_of self.new.log)) }
     {
         let found = self.found;
@@ -109,8 +110,8 @@ impl<D: Disk> LogWalk<D> {
         ensures grown { OnOk result (AreOfSome self.old.found.checkpoint self.new.loader.nodes) }
         ensures loaded { D.is_observable → OnOk result (IsLoaded (D.contents (disk_of self.old.log)) self.old.found.checkpoint
             checkpoint.now.roll checkpoint.now.entries self.new.loader) }
-        ensures cause { IfErr result
-            (StartCause ⟦<D as Disk>⟧ self.old.found checkpoint.now.format checkpoint.now.roll (disk_of self.old.log) (disk_of self.new.log)) }
+        ensures cause { IfErr result (StartCause ⟦<D as Disk>⟧ self.old.found checkpoint.now.format checkpoint.now.roll
+            (disk_of self.old.log) (disk_of self.new.log)) }
     {
         let limit = self.found.checkpoint;
         let roll = &checkpoint.roll;

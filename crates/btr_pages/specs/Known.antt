@@ -1,5 +1,6 @@
 -- Trees that were made of pages: which block each one is of, and what was read from there.
-use Rattle.std.specs.Prelude.{◌≡◌, ℕ, ◌<◌, ◌≤◌, nat_eq, List, [], ◌∷◌, Option, Some, None, IfSome, IsSome, IfOk, Result, slice_get, if◌then◌else◌}
+use Rattle.std.specs.Prelude.{◌≡◌, ℕ, ◌<◌, ◌≤◌, nat_eq, List, [], ◌∷◌, Option, Some, None, IfSome, IsSome}
+use Rattle.std.specs.Prelude.{IfOk, Result, slice_get, if◌then◌else◌}
 use Rattle.btr_base.specs.declared.limits.TheConstants.{FIRST}
 use Rattle.btr_tree.specs.Leads.{IsRead}
 use Rattle.btr_tree.specs.Root.{TreeValue, WasOpened, root_part, version_of}

@@ -43,7 +43,8 @@ impl Streams {
     /// Adds a row to its stream. A first row of a stream begins it. It takes time logarithmic in the number of streams. An
     /// `Err` means out of memory.
     pub fn add(&mut self, alloc: Global, number: u64, row: Row) -> Result<(), AllocError>
-        ensures { (rows : List (ℕ × RowSpec)) → self.old ≡ by_stream rows → OnOk result (self.new ≡ by_stream (rows ++ (number, row) ∷ [])) }
+        ensures { (rows : List (ℕ × RowSpec)) → self.old ≡ by_stream rows →
+            OnOk result (self.new ≡ by_stream (rows ++ (number, row) ∷ [])) }
     {
         let point = NumberedPoint {
             number,

@@ -13,7 +13,8 @@ ghost use Rattle.btr_store.specs.declared.status.Status.TheVariants.{Done, Devic
 ghost use Rattle.btr_store.specs.Streams.{Stays, id_in};
 ghost use Rattle.btr_store.specs.Transcript.{AddsLines, SaysLines};
 ghost use Rattle.btr_store.specs.Replies.{IsTranscript};
-ghost use Rattle.btr_store.specs.Live.{AreRoundLines, SaysLive, SaysSomeLive, log_status, refused_by, round_line, round_lines, round_status};
+ghost use Rattle.btr_store.specs.Live.{AreRoundLines, SaysLive, SaysSomeLive};
+ghost use Rattle.btr_store.specs.Live.{log_status, refused_by, round_line, round_lines, round_status};
 ghost use Rattle.btr_store.specs.LiveLines.{refused_line};
 
 use crate::replies::{add_reply, no_replies};

@@ -11,10 +11,12 @@ use Rattle.btr_hist.specs.declared.entry.Entry.TheVariants.{Create, Commit, Defi
 use Rattle.btr_hist.specs.declared.kernel.Spec.{Spec}
 use Rattle.btr_hist.specs.declared.kernel.Reads.{Reads}
 use Rattle.btr_hist.specs.declared.rejection.Rejection.{Rejection}
-use Rattle.btr_hist.specs.declared.rejection.Rejection.TheVariants.{NoStream, StreamExists, NotWritable, StreamLimit, VersionLimit, BadSpec, BadFirst}
+use Rattle.btr_hist.specs.declared.rejection.Rejection.TheVariants.{NoStream, StreamExists, NotWritable}
+use Rattle.btr_hist.specs.declared.rejection.Rejection.TheVariants.{StreamLimit, VersionLimit, BadSpec, BadFirst}
 use Rattle.btr_hist.specs.Kernel.{is_good}
 use Rattle.btr_hist.specs.History.{ids, spec_of, latest, read_by, nothing_read, earliest}
-use Rattle.btr_hist.specs.Legal.{first_some, when, next_bag, change_rejection, distillate_change_rejection, points_rejection, least_read, held_at}
+use Rattle.btr_hist.specs.Legal.{first_some, when, next_bag, least_read, held_at}
+use Rattle.btr_hist.specs.Legal.{change_rejection, distillate_change_rejection, points_rejection}
 use Rattle.btr_roll.specs.Roll.{RollStreamValue}
 use Rattle.btr_roll.specs.declared.roll.RollVersion.{RollVersion}
 

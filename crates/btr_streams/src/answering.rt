@@ -97,7 +97,8 @@ impl Board {
         time: i64,
         toward: Toward,
     ) -> Result<Answer, AllocError>
-        ensures { (h : List EntrySpec) → IsBoardOf h self.now → IfOk result (λ a. a ≡ answer h (ask.Nearest asked.stream time toward asked.at)) }
+        ensures { (h : List EntrySpec) → IsBoardOf h self.now →
+            IfOk result (λ a. a ≡ answer h (ask.Nearest asked.stream time toward asked.at)) }
     {
         let (version, tree) = match self.version_at(asked) {
             Ok(there) => there,
@@ -123,7 +124,8 @@ impl Board {
         to: i64,
         p: u8,
     ) -> Result<Answer, AllocError>
-        ensures { (h : List EntrySpec) → IsBoardOf h self.now → IfOk result (λ a. a ≡ answer h (ask.Aligned asked.stream from to p asked.at)) }
+        ensures { (h : List EntrySpec) → IsBoardOf h self.now →
+            IfOk result (λ a. a ≡ answer h (ask.Aligned asked.stream from to p asked.at)) }
     {
         let (version, tree, between) = match self.range_at(asked, from, to) {
             Ok(there) => there,
@@ -148,7 +150,8 @@ impl Board {
         to: i64,
         width: u64,
     ) -> Result<Answer, AllocError>
-        ensures { (h : List EntrySpec) → IsBoardOf h self.now → IfOk result (λ a. a ≡ answer h (ask.Windows asked.stream from to width asked.at)) }
+        ensures { (h : List EntrySpec) → IsBoardOf h self.now →
+            IfOk result (λ a. a ≡ answer h (ask.Windows asked.stream from to width asked.at)) }
     {
         let (version, tree, between) = match self.range_at(asked, from, to) {
             Ok(there) => there,

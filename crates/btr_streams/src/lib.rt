@@ -1,8 +1,8 @@
 //! The streams of a store in memory: each with the trees of all its versions, as the entries of a history make them.
 //!
-//! A [`Board`] has all streams. [`Board::stage`] tests an entry, in the order of the causes, and makes the next board, which shares with the
-//! one before all that the entry does not change. A [`Snapshot`] is a board at one moment, and answers questions. No call knows of a device:
-//! the crate btr_engine writes what an entry makes, and btr_open makes a board of what it has read.
+//! A [`Board`] has all streams. [`Board::stage`] tests an entry, in the order of the causes, and makes the next board, which shares
+//! with the one before all that the entry does not change. A [`Snapshot`] is a board at one moment, and answers questions. No call
+//! knows of a device: the crate btr_engine writes what an entry makes, and btr_open makes a board of what it has read.
 #![tactic(auto)]
 
 // a board, and its questions

@@ -121,7 +121,8 @@ pub record HasTreeVersion (pages : Pages) (h : List Entry) (made : Made) : Type 
 -- From the page in a block, the first wrong node is in the block that is named.
 abbrev pub IsFirstWrongFrom : Pages → List Entry → NodePage → ℕ → ℕ → Type 0
 IsFirstWrongFrom pages h page block named =
-    IsFirstWrong (nodes_in pages (header page).stream) (past_of h (header page).stream) (span_of_page page) (header page).version block named
+    IsFirstWrong (nodes_in pages (header page).stream) (past_of h (header page).stream)
+    (span_of_page page) (header page).version block named
 
 -- The block has the page, which is of a version of the history, and is not right. The blocks below the tail have marks.
 pub record IsPageNotRight (pages : Pages) (h : List Entry) (image : Image) (tail : ℕ) (marks : List Mark) (block : ℕ) (page : NodePage)
