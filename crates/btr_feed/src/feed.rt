@@ -1,5 +1,5 @@
 //! The feed, and what it answers.
-ghost use Rattle.std.specs.Prelude.{◌≡◌, ◌+◌, ◌≤◌, ◌==◌, [], ◌++◌, length, IfOk, OnOk, OnErr};
+ghost use Rattle.std.specs.Prelude.{◌≡◌, ◌+◌, ◌≤◌, ◌==◌, [], ◌++◌, length, None, IfOk, OnOk, OnErr};
 ghost use Rattle.btr_base.specs.Point.{AreInDomain};
 ghost use Rattle.btr_base.specs.declared.limits.TheConstants.{MAX_COMMIT_POINTS};
 ghost use Rattle.btr_feed.specs.Feed.{insert_fault, held, FailsBy};
@@ -78,24 +78,37 @@ impl Feed {
 
     /// Adds the points after those of the feed, and reports whether all that it then holds are due. After an `Err` the feed is
     /// as before. It takes time linear in the points that it adds, amortised over inserts, and memory for them.
-    #[tactic(auto, using(crate::proofs::TimesOutside::none_outside))]
     pub fn insert(&mut self, points: &[Point]) -> Result<Held, FeedFault>
         ensures fault { FailsBy (insert_fault self.old points.now) result }
         ensures points { OnOk result (self.new ≡ record self.old { points = self.old.points ++ points.now }) }
         ensures held { IfOk result (λ h. h ≡ held self.new) }
         ensures err { OnErr result (self.new ≡ self.old) }
     {
-        if let Some(time) = least_time_outside(points) {
-            return Err(FeedFault::OutOfDomain { time });
-        }
-        let count = self.points.len() + points.len();
-        if count > MAX_COMMIT_POINTS {
-            return Err(FeedFault::TooMany {
-                count: count as u64,
-            });
+        if let Some(fault) = self.fault(points) {
+            return Err(fault);
         }
         self.add(points)?;
         Ok(self.held())
+    }
+
+    /// Returns why an insert of these points is refused, or `None` if only memory can be missing. It takes one pass over the points,
+    /// and no memory.
+    #[tactic(auto, using(crate::proofs::TimesOutside::none_outside))]
+    pub fn fault(&self, points: &[Point]) -> Option<FeedFault>
+        ensures fault { result ≡ insert_fault self.now points.now }
+        ensures in_domain { result ≡ None → AreInDomain points.now }
+        ensures most { result ≡ None → length self.now.points + length points.now ≤ MAX_COMMIT_POINTS }
+    {
+        if let Some(time) = least_time_outside(points) {
+            return Some(FeedFault::OutOfDomain { time });
+        }
+        let count = self.points.len() + points.len();
+        if count > MAX_COMMIT_POINTS {
+            return Some(FeedFault::TooMany {
+                count: count as u64,
+            });
+        }
+        None
     }
 
     /// Adds points that the feed may hold. After an `Err`, which means out of memory, the feed is as before.
