@@ -7,11 +7,11 @@ use Rattle.std.proofs.Math.Seq.{drop-append_seam}
 use Rattle.btr_base.specs.declared.point.Point.{Point}
 use Rattle.btr_gate.specs.Prefixes.{StartsWith}
 use Rattle.btr_gate.proofs.PrefixLemmas.{starts_trans}
-use Rattle.btr_group.specs.declared.answers.Outcome.{Outcome}
-use Rattle.btr_group.specs.declared.item.GroupItem.{GroupItem}
-use Rattle.btr_group.specs.declared.item.GroupItem.TheVariants.{Offer, Lead, Settle}
-use Rattle.btr_group.specs.Book.{BatchValue, Book, all_points, open_points, put_offer, take_batch, lead_unless, lead, settled_by, after_item, book_from, new_book, book, Tiles}
-use Rattle.btr_group.specs.Offers.{IsOutBetween}
+use Rattle.btr_hall.specs.declared.group_answers.Outcome.{Outcome}
+use Rattle.btr_hall.specs.declared.group_item.GroupItem.{GroupItem}
+use Rattle.btr_hall.specs.declared.group_item.GroupItem.TheVariants.{Offer, Lead, Settle}
+use Rattle.btr_hall.specs.GroupBook.{BatchValue, Book, all_points, open_points, put_offer, take_batch, lead_unless, lead, settled_by, after_item, book_from, new_book, book, Tiles}
+use Rattle.btr_hall.specs.GroupCalls.{IsOutBetween}
 
 -- ---- options
 

@@ -2,15 +2,15 @@
 use Rattle.std.specs.Prelude.{◌≡◌, ℕ, ◌+◌, ◌<◌, ◌≤◌, Bool, true, false, ◌&&◌, nat_le, nat_lt, List, [], ◌∷◌, ◌++◌, length, map, Option, None, Some, option_to_list, if◌then◌else◌}
 use Rattle.std.proofs.Common.{zero, suc, refl, sym, ap, ◌∙◌, subst, arith, get_or}
 use Rattle.std.proofs.lemmas.Bool.Decides.{nat_tests}
-use Rattle.btr_group.specs.declared.answers.Outcome.{Outcome}
-use Rattle.btr_group.specs.declared.answers.Known.TheVariants.{NoTicket}
+use Rattle.btr_hall.specs.declared.group_answers.Outcome.{Outcome}
+use Rattle.btr_hall.specs.declared.group_answers.Known.TheVariants.{NoTicket}
 use Rattle.btr_group.specs.declared.group.SettledBatch.{SettledBatch}
 use Rattle.btr_group.specs.declared.group.GroupSetting.{GroupSetting}
 use Rattle.btr_disk.specs.declared.disk.Disk.{Ghosts}
-use Rattle.btr_group.specs.Book.{BatchValue, SettledValue, Book, tickets_given, Tiles}
+use Rattle.btr_hall.specs.GroupBook.{BatchValue, SettledValue, Book, tickets_given, Tiles}
 use Rattle.btr_group.specs.Known.{has_ticket, outcome_in, known_by, known_of}
 use Rattle.btr_group.specs.State.{note_of, StateValue, IsStateAt}
-use Rattle.btr_group.specs.Notes.{noted, known_in, NotesTile}
+use Rattle.btr_group.specs.Notes.{outcome_noted, known_in, NotesTile}
 
 -- ---- the notes of a book
 
@@ -21,7 +21,7 @@ tiles_front from (s ∷ settled) more to tiles =
     let rest = tiles_front (from + length s.batch.offers) settled more to tiles.2 in
     (rest.0, (tiles.0, tiles.1, rest.1))
 
-pub noted_same : (settled : List SettledValue) (ticket : ℕ) → noted (map note_of settled) ticket ≡ outcome_in settled ticket
+pub noted_same : (settled : List SettledValue) (ticket : ℕ) → outcome_noted (map note_of settled) ticket ≡ outcome_in settled ticket
 noted_same [] ticket = refl
 noted_same (s ∷ settled) ticket = ap (λ (o : Option Outcome). if has_ticket s.batch ticket then Some s.outcome else o) (noted_same settled ticket)
 
@@ -41,28 +41,28 @@ and_false true p q = refl
 and_false false p q = refl
 
 -- No note that begins after the ticket has it.
-pub none_later : (notes : List SettledBatch) (ticket : ℕ) → ((j : ℕ) (d : SettledBatch) → j < length notes → ticket < (get_or notes j d).first) → noted notes ticket ≡ None
+pub none_later : (notes : List SettledBatch) (ticket : ℕ) → ((j : ℕ) (d : SettledBatch) → j < length notes → ticket < (get_or notes j d).first) → outcome_noted notes ticket ≡ None
 none_later [] ticket later = refl
 none_later (note ∷ notes) ticket later =
     let above : ticket < note.first = later 0 note (omega arith) in
-    ap (λ (b : Bool). if b && nat_lt ticket (note.first + note.tickets) then Some note.outcome else noted notes ticket) (not_le note.first ticket above)
+    ap (λ (b : Bool). if b && nat_lt ticket (note.first + note.tickets) then Some note.outcome else outcome_noted notes ticket) (not_le note.first ticket above)
     ∙ none_later notes ticket (λ j d lt. later (suc j) d (omega (arith, lt)))
 
 -- If the note at a place is the last one that does not begin after the ticket, no other has the ticket.
 pub noted_at : (from : ℕ) (notes : List SettledBatch) (to ticket place : ℕ) → NotesTile from notes to → place < length notes
     → ((j : ℕ) (d : SettledBatch) → j ≤ place → (get_or notes j d).first ≤ ticket) → ((j : ℕ) (d : SettledBatch) → place < j → j < length notes → ticket < (get_or notes j d).first)
-    → (d : SettledBatch) → noted notes ticket ≡ (if nat_lt ticket ((get_or notes place d).first + (get_or notes place d).tickets) then Some (get_or notes place d).outcome else None)
+    → (d : SettledBatch) → outcome_noted notes ticket ≡ (if nat_lt ticket ((get_or notes place d).first + (get_or notes place d).tickets) then Some (get_or notes place d).outcome else None)
 noted_at from [] to ticket place tiles long low high d = absurd (omega (arith, long))
 noted_at from (note ∷ notes) to ticket zero tiles long low high d =
     let below : note.first ≤ ticket = low 0 d (omega arith) in
-    ap (λ (b : Bool). if b && nat_lt ticket (note.first + note.tickets) then Some note.outcome else noted notes ticket) (is_le note.first ticket below)
+    ap (λ (b : Bool). if b && nat_lt ticket (note.first + note.tickets) then Some note.outcome else outcome_noted notes ticket) (is_le note.first ticket below)
     ∙ ap (λ (o : Option Outcome). if nat_lt ticket (note.first + note.tickets) then Some note.outcome else o) (none_later notes ticket (λ j e lt. high (suc j) e (omega arith) (omega (arith, lt))))
 noted_at from (note ∷ []) to ticket (suc place) tiles long low high d = absurd (omega (arith, long))
 noted_at from (note ∷ next ∷ notes) to ticket (suc place) tiles long low high d =
     let begun : next.first ≤ ticket = low 1 d (omega arith) in
     let past : nat_lt ticket (note.first + note.tickets) ≡ false = not_lt ticket (note.first + note.tickets) (omega (arith, begun, tiles.0, tiles.2.0)) in
-    ap (λ (b : Bool). if nat_le note.first ticket && b then Some note.outcome else noted (next ∷ notes) ticket) past
-    ∙ and_false (nat_le note.first ticket) (Some note.outcome) (noted (next ∷ notes) ticket)
+    ap (λ (b : Bool). if nat_le note.first ticket && b then Some note.outcome else outcome_noted (next ∷ notes) ticket) past
+    ∙ and_false (nat_le note.first ticket) (Some note.outcome) (outcome_noted (next ∷ notes) ticket)
     ∙ noted_at (from + note.tickets) (next ∷ notes) to ticket place tiles.2 (omega (arith, long)) (λ j e le. low (suc j) e (omega (arith, le))) (λ j e lt long. high (suc j) e (omega (arith, lt)) (omega (arith, long))) d
 
 -- Notes that tile begin in rising order.

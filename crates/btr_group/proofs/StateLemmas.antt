@@ -9,19 +9,20 @@ use Rattle.btr_disk.specs.declared.disk.Disk.{Ghosts}
 use Rattle.btr_feed.specs.Feed.{FeedValue}
 use Rattle.btr_gate.specs.Views.{with_entry}
 use Rattle.btr_hall.specs.declared.session.Session.{Session}
-use Rattle.btr_group.specs.declared.answers.Outcome.{Outcome}
-use Rattle.btr_group.specs.declared.answers.OfferFault.{OfferFault}
-use Rattle.btr_group.specs.declared.item.GroupItem.{GroupItem}
-use Rattle.btr_group.specs.declared.item.GroupItem.TheVariants.{Offer, Lead, Settle}
+use Rattle.btr_hall.specs.declared.group_answers.Outcome.{Outcome}
+use Rattle.btr_hall.specs.declared.group_answers.OfferFault.{OfferFault}
+use Rattle.btr_hall.specs.declared.group_item.GroupItem.{GroupItem}
+use Rattle.btr_hall.specs.declared.group_item.GroupItem.TheVariants.{Offer, Lead, Settle}
 use Rattle.btr_group.specs.declared.group.GroupSetting.{GroupSetting}
 use Rattle.btr_group.specs.declared.group.SettledBatch.{SettledBatch}
 use Rattle.btr_group.specs.declared.led.Led.{Led}
 use Rattle.btr_group.specs.declared.led.Put.{Put}
 use Rattle.btr_group.specs.declared.led.Begun.{Begun}
 use Rattle.btr_group.specs.declared.led.Begun.TheVariants as begun
-use Rattle.btr_group.specs.Book.{BatchValue, SettledValue, Book, open_points, open_batch, put_offer, take_batch, settled_by, settle, after_item, book, led_batches, Tiles}
-use Rattle.btr_group.specs.Serves.{Serves}
-use Rattle.btr_group.specs.State.{note_of, feed_of, with_points, StateValue, with_offer, without_batch, with_lead, with_settled, IsStateAt}
+use Rattle.btr_hall.specs.GroupBook.{BatchValue, SettledValue, Book, open_points, open_batch, put_offer, take_batch, settled_by, settle, after_item, book, led_batches, Tiles}
+use Rattle.btr_group.specs.Serves.{CommitsEach}
+use Rattle.btr_hall.specs.GroupCalls.{feed_of_group}
+use Rattle.btr_group.specs.State.{note_of, with_added, StateValue, with_offer, without_batch, with_lead, with_settled, IsStateAt}
 use Rattle.btr_group.specs.Turns.{IsOfferItem, AfterOffer, TakesOffer, TakesFlush}
 use Rattle.btr_group.proofs.BookLemmas.{none_of, put_points, book_push, lead_home, settled_one, tiles_push}
 
@@ -37,8 +38,8 @@ module _ {D : Type 0} {disk : Ghosts D} where
   at_offer v n b x points filled at is =
       let here : v.filling.points ≡ open_points b = ap (λ (f : FeedValue). f.points) at.filling in
       let all : filled ≡ open_points b ++ points = is ∙ ap (λ ps. ps ++ points) here in
-      let feed : with_points v.filling points ≡ record { stream = x.stream; threshold = x.threshold; points = open_points b ++ points } = ap (λ (f : FeedValue). with_points f points) at.filling in
-      let end : feed_of x.stream x.threshold (put_offer b filled) ≡ record { stream = x.stream; threshold = x.threshold; points = open_points b ++ points } = ap (λ (ps : List Point). record { stream = x.stream; threshold = x.threshold; points = ps }) (put_points b filled points all ∙ all) in
+      let feed : with_added v.filling points ≡ record { stream = x.stream; threshold = x.threshold; points = open_points b ++ points } = ap (λ (f : FeedValue). with_added f points) at.filling in
+      let end : feed_of_group x.stream x.threshold (put_offer b filled) ≡ record { stream = x.stream; threshold = x.threshold; points = open_points b ++ points } = ap (λ (ps : List Point). record { stream = x.stream; threshold = x.threshold; points = ps }) (put_points b filled points all ∙ all) in
       record {
         setting = at.setting;
         items = ap (λ k. k + 1) at.items;
@@ -69,7 +70,7 @@ module _ {D : Type 0} {disk : Ghosts D} where
       }
 
   -- The session is at home again, and the batch that was out is settled.
-  at_settle : (v : StateValue D disk) (n : ℕ) (b : Book) (x : GroupSetting D disk) (batch : BatchValue) (outcome : Outcome) (session : Session D disk) (note : SettledBatch) → IsStateAt v n b x → b.out ≡ Some batch → note ≡ note_of (record { batch = batch; outcome = outcome }) → Serves x.stream x.session (b.settled ++ record { batch = batch; outcome = outcome } ∷ []) session → IsStateAt (with_settled v session note) (n + 1) (settle b outcome) x
+  at_settle : (v : StateValue D disk) (n : ℕ) (b : Book) (x : GroupSetting D disk) (batch : BatchValue) (outcome : Outcome) (session : Session D disk) (note : SettledBatch) → IsStateAt v n b x → b.out ≡ Some batch → note ≡ note_of (record { batch = batch; outcome = outcome }) → CommitsEach x.stream x.session (b.settled ++ record { batch = batch; outcome = outcome } ∷ []) session → IsStateAt (with_settled v session note) (n + 1) (settle b outcome) x
   at_settle v n b x batch outcome session note at out is served =
       let y : SettledValue = record { batch = batch; outcome = outcome } in
       let one = settled_one b batch outcome out in
@@ -86,7 +87,7 @@ module _ {D : Type 0} {disk : Ghosts D} where
         given = at.given;
         settled = ap (λ (l : List SettledBatch). l ++ note ∷ []) at.settled ∙ ap (λ (z : SettledBatch). map note_of b.settled ++ z ∷ []) is ∙ sym notes ∙ sym (ap (map note_of) all);
         lent = refl;
-        served = subst (λ (l : List SettledValue). Serves x.stream x.session l session) (sym all) served;
+        served = subst (λ (l : List SettledValue). CommitsEach x.stream x.session l session) (sym all) served;
         tiles = subst (λ (l : List BatchValue). Tiles 0 l b.first) tiles at.tiles;
       }
 
@@ -107,7 +108,7 @@ module _ {D : Type 0} {disk : Ghosts D} where
 
   -- ---- the turn of an offer
 
-  offered : (v : StateValue D disk) (l : List GroupItem) (x : GroupSetting D disk) (points : List Point) (led : Option (Led D disk)) (item : Option GroupItem) (w : StateValue D disk) → IsStateAt v (length l) (book l) x → IsOfferItem (with_points v.filling points) (is_some led) item → AfterOffer v points led w → IsStateAt w (length (with_entry l item)) (book (with_entry l item)) x
+  offered : (v : StateValue D disk) (l : List GroupItem) (x : GroupSetting D disk) (points : List Point) (led : Option (Led D disk)) (item : Option GroupItem) (w : StateValue D disk) → IsStateAt v (length l) (book l) x → IsOfferItem (with_added v.filling points) (is_some led) item → AfterOffer v points led w → IsStateAt w (length (with_entry l item)) (book (with_entry l item)) x
   offered v l x points None item w at made after =
       let b = book l in
       let filled = made.0.value.points in
@@ -174,6 +175,6 @@ module _ {D : Type 0} {disk : Ghosts D} where
 
   -- ---- the turn that settles
 
-  pub settle_state : (v : StateValue D disk) (l : List GroupItem) (x : GroupSetting D disk) (batch : BatchValue) (outcome : Outcome) (session : Session D disk) (note : SettledBatch) → IsStateAt v (length l) (book l) x → (book l).out ≡ Some batch → note ≡ note_of (record { batch = batch; outcome = outcome }) → Serves x.stream x.session ((book l).settled ++ record { batch = batch; outcome = outcome } ∷ []) session → IsStateAt (with_settled v session note) (length (l ++ Settle outcome ∷ [])) (book (l ++ Settle outcome ∷ [])) x
+  pub settle_state : (v : StateValue D disk) (l : List GroupItem) (x : GroupSetting D disk) (batch : BatchValue) (outcome : Outcome) (session : Session D disk) (note : SettledBatch) → IsStateAt v (length l) (book l) x → (book l).out ≡ Some batch → note ≡ note_of (record { batch = batch; outcome = outcome }) → CommitsEach x.stream x.session ((book l).settled ++ record { batch = batch; outcome = outcome } ∷ []) session → IsStateAt (with_settled v session note) (length (l ++ Settle outcome ∷ [])) (book (l ++ Settle outcome ∷ [])) x
   settle_state v l x batch outcome session note at out is served =
       at_push (with_settled v session note) l (Settle outcome) x (at_settle v (length l) (book l) x batch outcome session note at out is served)

@@ -13,10 +13,10 @@ use Rattle.btr_hall.specs.declared.session.Hall.{Hall}
 use Rattle.btr_hall.specs.declared.session.Session.{Session}
 use Rattle.btr_hall.specs.Session.{IsSessionOf, IsSame, opening_of, seen_of, mine_of}
 use Rattle.btr_hall.specs.Commit.{shown}
-use Rattle.btr_group.specs.declared.answers.Outcome.{Outcome}
-use Rattle.btr_group.specs.declared.answers.Outcome.TheVariants.{Stored, Refused}
+use Rattle.btr_hall.specs.declared.group_answers.Outcome.{Outcome}
+use Rattle.btr_hall.specs.declared.group_answers.Outcome.TheVariants.{Stored, Refused}
 use Rattle.btr_group.specs.declared.group.Closed.{Closed}
-use Rattle.btr_group.specs.Book.{BatchValue, SettledValue, Book, open_points, Tiles}
+use Rattle.btr_hall.specs.GroupBook.{BatchValue, SettledValue, Book, open_points, Tiles}
 use Rattle.btr_group.specs.Serves.{entry_of_batch}
 use Rattle.btr_group.specs.State.{note_of}
 
@@ -46,9 +46,9 @@ module _ {D : Type 0} {disk : Ghosts D} where
   MakesOne stream seen batch (Refused fault) own Others = Others own
 
   -- These are the numbers of what the batches made, in order.
-  abbrev pub IsMade : ℕ → List (Item D disk) → List SettledValue → List ℕ → Type 0
-  IsMade stream seen [] own = own ≡ []
-  IsMade stream seen (b ∷ bs) own = MakesOne stream seen b.batch b.outcome own (IsMade stream seen bs)
+  abbrev pub MakesEach : ℕ → List (Item D disk) → List SettledValue → List ℕ → Type 0
+  MakesEach stream seen [] own = own ≡ []
+  MakesEach stream seen (b ∷ bs) own = MakesOne stream seen b.batch b.outcome own (MakesEach stream seen bs)
 
   -- The second session is one of each hall of which the first is one, and its share and its start are those of the first.
   pub record ComesBack (s t : Session D disk) : Type 0 where
@@ -57,14 +57,14 @@ module _ {D : Type 0} {disk : Ghosts D} where
 
   -- The second session is the first one after the commits of these batches. The items that are its own since then are just those that the
   -- batches made, in order, and no two have one number.
-  pub record IsServed (stream : ℕ) (s : Session D disk) (settled : List SettledValue) (t : Session D disk) : Type 0 where
+  pub record HasCommittedEach (stream : ℕ) (s : Session D disk) (settled : List SettledValue) (t : Session D disk) : Type 0 where
     pub grows : StartsWith (seen_of t) (seen_of s)
     pub own : List ℕ
     pub mine : mine_of t ≡ mine_of s ++ own
     pub climbs : Climbs (length (seen_of s)) own (length (seen_of t))
-    pub made : IsMade stream (seen_of t) settled own
+    pub made : MakesEach stream (seen_of t) settled own
 
   -- This holds in the hall of the session, if it is one of an engine of a history.
-  abbrev pub IsServedInHalls : ℕ → Session D disk → List SettledValue → Session D disk → Type 0
-  IsServedInHalls stream s settled t =
-      (hall : Hall D disk) (h : List Entry) → IsSessionOf hall s → IsEngineOf h (opening_of hall) → IsServed stream s settled t
+  abbrev pub CommitsInHalls : ℕ → Session D disk → List SettledValue → Session D disk → Type 0
+  CommitsInHalls stream s settled t =
+      (hall : Hall D disk) (h : List Entry) → IsSessionOf hall s → IsEngineOf h (opening_of hall) → HasCommittedEach stream s settled t

@@ -1,9 +1,9 @@
 -- What is known of a ticket after a list.
 use Rattle.std.specs.Prelude.{ℕ, ◌+◌, Bool, ◌&&◌, nat_le, nat_lt, List, [], ◌∷◌, length, Option, None, Some, if◌then◌else◌}
-use Rattle.btr_group.specs.declared.answers.Outcome.{Outcome}
-use Rattle.btr_group.specs.declared.answers.Known.{Known}
-use Rattle.btr_group.specs.declared.answers.Known.TheVariants.{NoTicket, Unsettled, Settled}
-use Rattle.btr_group.specs.Book.{BatchValue, SettledValue, Book, tickets_given}
+use Rattle.btr_hall.specs.declared.group_answers.Outcome.{Outcome}
+use Rattle.btr_hall.specs.declared.group_answers.Known.{Known}
+use Rattle.btr_hall.specs.declared.group_answers.Known.TheVariants.{NoTicket, Unsettled, Settled}
+use Rattle.btr_hall.specs.GroupBook.{BatchValue, SettledValue, Book, tickets_given}
 
 -- The ticket is one of the batch.
 abbrev pub has_ticket : BatchValue → ℕ → Bool

@@ -1,6 +1,3 @@
--- the list of a group, and what it comes to
-pub mod Book
-pub mod Faults
 -- what the session of a group commits
 pub mod Serves
 -- of which list the state that a gate carries is
@@ -11,6 +8,15 @@ pub mod Seats
 pub mod Offers
 pub mod Known
 pub mod Close
+-- the groups of all streams of a hall, and seats of them
+pub mod Sets
+pub mod SetLaws
+-- lanes that share groups
+pub mod LaneSeats
+-- the close of all groups
+pub mod Closing
 -- what the private functions promise
 pub mod Turns
 pub mod Notes
+pub mod SetSteps
+pub mod LaneSteps

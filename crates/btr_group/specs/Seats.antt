@@ -6,22 +6,22 @@ use Rattle.btr_gate.specs.Shares.{covers, kept_half, other_half}
 use Rattle.btr_gate.specs.Numbers.{merged, times, given, Climbs}
 use Rattle.btr_gate.specs.Gates.{IsPassOf, view}
 use Rattle.btr_hall.specs.declared.session.Session.{Session}
-use Rattle.btr_group.specs.declared.item.GroupItem.{GroupItem}
+use Rattle.btr_hall.specs.declared.group_item.GroupItem.{GroupItem}
 use Rattle.btr_group.specs.declared.group.Group.{Group}
 use Rattle.btr_group.specs.declared.group.GroupSetting.{GroupSetting}
 use Rattle.btr_group.specs.declared.group.Seat.{Seat}
 
 module _ {D : Type 0} {disk : Ghosts D} where
   -- The session with which the group began.
-  abbrev pub start_of : Group D disk → Session D disk
-  start_of group = group.start.value
+  abbrev pub first_session : Group D disk → Session D disk
+  first_session group = group.start.value
 
   -- The session with which the group began, its stream, and the number of points at which a batch is led.
   abbrev pub setting_of : Group D disk → GroupSetting D disk
-  setting_of group = record { session = start_of group; stream = group.stream; threshold = group.threshold }
+  setting_of group = record { session = first_session group; stream = group.stream; threshold = group.threshold }
 
   -- The seat is one of this group.
-  pub record IsSeatOf (group : Group D disk) (s : Seat D disk) : Type 0 where
+  pub record IsGroupSeat (group : Group D disk) (s : Seat D disk) : Type 0 where
     pub own : IsPassOf group.gate s.pass
     pub set : (view s.pass).setting ≡ Some (setting_of group)
 
@@ -46,13 +46,13 @@ module _ {D : Type 0} {disk : Ghosts D} where
   HasWholeShare s = covers (share_by s) ≡ true
 
   -- The share of a seat, and the number of items when its group began, are as before.
-  pub record IsSameSeat (old new : Seat D disk) : Type 0 where
+  pub record IsSameGroupSeat (old new : Seat D disk) : Type 0 where
     pub share : share_by new ≡ share_by old
     pub start : items_at_start new ≡ items_at_start old
 
   -- A group that began with this session, for this stream, and its first seat: it has seen the empty list, and has the whole share.
   pub record BeginsGroup (session : Session D disk) (stream threshold : ℕ) (group : Group D disk) (s : Seat D disk) : Type 0 where
-    pub seat : IsSeatOf group s
+    pub seat : IsGroupSeat group s
     pub setting : setting_of group ≡ record { session = session; stream = stream; threshold = threshold }
     pub seen : seen_by s ≡ []
     pub own : own_items s ≡ []

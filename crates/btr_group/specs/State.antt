@@ -6,13 +6,14 @@ use Rattle.btr_base.specs.Bag.{sort}
 use Rattle.btr_disk.specs.declared.disk.Disk.{Ghosts}
 use Rattle.btr_feed.specs.Feed.{FeedValue}
 use Rattle.btr_hall.specs.declared.session.Session.{Session}
-use Rattle.btr_group.specs.declared.item.GroupItem.{GroupItem}
+use Rattle.btr_hall.specs.declared.group_item.GroupItem.{GroupItem}
 use Rattle.btr_group.specs.declared.group.GroupSetting.{GroupSetting}
 use Rattle.btr_group.specs.declared.group.SettledBatch.{SettledBatch}
 use Rattle.btr_group.specs.declared.state.GroupState.{GroupState}
 use Rattle.btr_group.specs.declared.led.Led.{Led}
-use Rattle.btr_group.specs.Book.{SettledValue, Book, all_points, tickets_given, open_points, led_batches, Tiles, book}
-use Rattle.btr_group.specs.Serves.{HasServed}
+use Rattle.btr_hall.specs.GroupBook.{SettledValue, Book, all_points, tickets_given, led_batches, Tiles, book}
+use Rattle.btr_hall.specs.GroupCalls.{feed_of_group}
+use Rattle.btr_group.specs.Serves.{HasCommitted}
 
 -- The note of a settled batch.
 abbrev pub note_of : SettledValue → SettledBatch
@@ -23,13 +24,9 @@ note_of s = record {
   outcome = s.outcome;
 }
 
--- The feed of a stream with this threshold, in which the open batch is.
-abbrev pub feed_of : ℕ → ℕ → Book → FeedValue
-feed_of stream threshold b = record { stream = stream; threshold = threshold; points = open_points b }
-
 -- A feed with more points.
-abbrev pub with_points : FeedValue → List Point → FeedValue
-with_points f points = record f { points = f.points ++ points }
+abbrev pub with_added : FeedValue → List Point → FeedValue
+with_added f points = record f { points = f.points ++ points }
 
 -- What a state has. The session with which the group began is for contracts alone.
 pub record StateValue (D : Type 0) (disk : Ghosts D) : Type 0 where
@@ -42,8 +39,8 @@ pub record StateValue (D : Type 0) (disk : Ghosts D) : Type 0 where
   pub items : ℕ
 
 module _ {D : Type 0} {disk : Ghosts D} where
-  abbrev pub value_of : GroupState D disk → StateValue D disk
-  value_of s = record {
+  abbrev pub state_value : GroupState D disk → StateValue D disk
+  state_value s = record {
     start = s.start.value;
     session = s.session;
     filling = s.filling;
@@ -57,7 +54,7 @@ module _ {D : Type 0} {disk : Ghosts D} where
 
   -- One more offer is in the open batch.
   abbrev pub with_offer : StateValue D disk → List Point → StateValue D disk
-  with_offer v points = record v { filling = with_points v.filling points; given = v.given + 1; items = v.items + 1 }
+  with_offer v points = record v { filling = with_added v.filling points; given = v.given + 1; items = v.items + 1 }
 
   -- The open batch and the session are out.
   abbrev pub without_batch : StateValue D disk → StateValue D disk
@@ -88,13 +85,13 @@ module _ {D : Type 0} {disk : Ghosts D} where
   pub record IsStateAt (v : StateValue D disk) (n : ℕ) (b : Book) (x : GroupSetting D disk) : Type 0 where
     pub setting : x ≡ record { session = v.start; stream = v.filling.stream; threshold = v.filling.threshold }
     pub items : v.items ≡ n
-    pub filling : v.filling ≡ feed_of x.stream x.threshold b
+    pub filling : v.filling ≡ feed_of_group x.stream x.threshold b
     pub first : v.first ≡ b.first
     pub given : v.given ≡ tickets_given b
     pub settled : v.settled ≡ map note_of b.settled
     pub lent : not (is_some v.session) ≡ is_some b.out
-    pub served : HasServed x.stream x.session b.settled v.session
+    pub served : HasCommitted x.stream x.session b.settled v.session
     pub tiles : Tiles 0 (led_batches b) b.first
 
   abbrev pub IsGroupAt : GroupState D disk → List GroupItem → GroupSetting D disk → Type 0
-  IsGroupAt s items x = IsStateAt (value_of s) (length items) (book items) x
+  IsGroupAt s items x = IsStateAt (state_value s) (length items) (book items) x

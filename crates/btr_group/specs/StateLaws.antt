@@ -3,10 +3,10 @@ use Rattle.std.specs.Prelude.{◌≡◌, ◌^◌, ◌<◌, not, List, length}
 use Rattle.std.specs.Option.{is_some}
 use Rattle.std.proofs.Common.{arith}
 use Rattle.btr_disk.specs.declared.disk.Disk.{Ghosts}
-use Rattle.btr_group.specs.declared.item.GroupItem.{GroupItem}
+use Rattle.btr_hall.specs.declared.group_item.GroupItem.{GroupItem}
 use Rattle.btr_group.specs.declared.group.GroupSetting.{GroupSetting}
 use Rattle.btr_group.specs.declared.state.GroupState.{GroupState}
-use Rattle.btr_group.specs.Book.{book}
+use Rattle.btr_hall.specs.GroupBook.{book}
 use Rattle.btr_group.specs.State.{IsGroupAt}
 
 module _ {D : Type 0} {disk : Ghosts D} where

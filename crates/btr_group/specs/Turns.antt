@@ -13,21 +13,21 @@ use Rattle.btr_gate.specs.declared.view.View.{View}
 use Rattle.btr_gate.specs.declared.view.Stage.TheVariants.{Idle}
 use Rattle.btr_gate.specs.Prefixes.{StartsWith}
 use Rattle.btr_gate.specs.Shares.{covers}
-use Rattle.btr_group.specs.declared.answers.Outcome.{Outcome}
-use Rattle.btr_group.specs.declared.answers.OfferFault.{OfferFault}
-use Rattle.btr_group.specs.declared.item.GroupItem.{GroupItem}
-use Rattle.btr_group.specs.declared.item.GroupItem.TheVariants.{Offer, Lead}
+use Rattle.btr_hall.specs.declared.group_answers.Outcome.{Outcome}
+use Rattle.btr_hall.specs.declared.group_answers.OfferFault.{OfferFault}
+use Rattle.btr_hall.specs.declared.group_item.GroupItem.{GroupItem}
+use Rattle.btr_hall.specs.declared.group_item.GroupItem.TheVariants.{Offer, Lead}
 use Rattle.btr_group.specs.declared.group.GroupSetting.{GroupSetting}
 use Rattle.btr_group.specs.declared.led.Led.{Led}
 use Rattle.btr_group.specs.declared.led.Put.{Put}
 use Rattle.btr_group.specs.declared.led.Begun.{Begun}
 use Rattle.btr_group.specs.declared.led.Begun.TheVariants as begun
-use Rattle.btr_group.specs.Book.{BatchValue, all_points, tickets_given, open_points, book}
-use Rattle.btr_group.specs.Faults.{offer_fault, IsOfferFault}
+use Rattle.btr_hall.specs.GroupBook.{BatchValue, all_points, tickets_given, open_points, book}
+use Rattle.btr_hall.specs.GroupFaults.{offer_fault, IsOfferFault}
 use Rattle.btr_group.specs.declared.group.SettledBatch.{SettledBatch}
-use Rattle.btr_group.specs.Serves.{result_of, Writes, Serves}
-use Rattle.btr_group.specs.State.{note_of, StateValue, with_points, with_offer, without_batch, with_lead, leads_in, IsLed}
-use Rattle.btr_group.specs.Offers.{SettlesAfter, fault_at, leads_at}
+use Rattle.btr_group.specs.Serves.{commit_result, MakesCommit, CommitsEach}
+use Rattle.btr_group.specs.State.{note_of, StateValue, with_added, with_offer, without_batch, with_lead, leads_in, IsLed}
+use Rattle.btr_hall.specs.GroupCalls.{SettlesAfter, fault_at, leads_at}
 
 -- The item of an offer, after which the open batch is in this feed.
 abbrev pub IsOfferItem : FeedValue → Bool → Option GroupItem → Type 0
@@ -46,7 +46,7 @@ module _ {D : Type 0} {disk : Ghosts D} where
     pub ticket : put.ticket ≡ v.given
     pub could : offer_fault v.filling v.given points ≡ None
     pub leads : is_some put.led ≡ leads_in v points
-    pub item_is : IsOfferItem (with_points v.filling points) (is_some put.led) item
+    pub item_is : IsOfferItem (with_added v.filling points) (is_some put.led) item
     pub after : AfterOffer v points put.led w
 
   -- What an offer makes of a state, and the item of the list that it made.
@@ -86,14 +86,14 @@ module _ {D : Type 0} {disk : Ghosts D} where
     pub first : led.first ≡ batch.first
     pub tickets : led.tickets ≡ length batch.offers
     pub points : led.points.items ≡ all_points batch.offers
-    pub served : Serves x.stream x.session (book v.seen).settled led.session
+    pub served : CommitsEach x.stream x.session (book v.seen).settled led.session
 
   -- The session made the commit of the batch, and this is its note.
   pub record CommitsLed (stream : ℕ) (led : Led D disk) (session : Session D disk) (note : SettledBatch) : Type 0 where
     pub first : note.first ≡ led.first
     pub tickets : note.tickets ≡ led.tickets
     pub points : note.points ≡ sort led.points.items
-    pub writes : Writes led.session (Commit stream [] (sort led.points.items)) (result_of note.outcome) session
+    pub writes : MakesCommit led.session (Commit stream [] (sort led.points.items)) (commit_result note.outcome) session
 
   -- The pass carries the session, which has committed the batch that is out at the end of what the pass has seen, and the note of it.
   pub record MaySettle (x : GroupSetting D disk) (v : View GroupItem (GroupSetting D disk)) (session : Session D disk) (note : SettledBatch)
@@ -104,7 +104,7 @@ module _ {D : Type 0} {disk : Ghosts D} where
     pub batch : BatchValue
     pub out : (book v.seen).out ≡ Some batch
     pub note_is : note ≡ note_of (record { batch = batch; outcome = note.outcome })
-    pub served : Serves x.stream x.session ((book v.seen).settled ++ record { batch = batch; outcome = note.outcome } ∷ []) session
+    pub served : CommitsEach x.stream x.session ((book v.seen).settled ++ record { batch = batch; outcome = note.outcome } ∷ []) session
 
   -- The pass brought the session back, and settled the batch that was out.
   pub record Carries (v w : View GroupItem (GroupSetting D disk)) (outcome : Outcome) : Type 0 where
@@ -129,8 +129,8 @@ module _ {D : Type 0} {disk : Ghosts D} where
   pub record PutsInTurn (x : GroupSetting D disk) (before : List GroupItem) (v w : View GroupItem (GroupSetting D disk))
       (points : List Point) (put : Put D disk) : Type 0 where
     pub ticket : put.ticket ≡ tickets_given (book before)
-    pub could : fault_at x (book before) points ≡ None
-    pub leads : is_some put.led ≡ leads_at x (book before) points
+    pub could : fault_at x.stream x.threshold (book before) points ≡ None
+    pub leads : is_some put.led ≡ leads_at x.threshold (book before) points
     pub filled : Snapshot FeedValue
     pub points_are : filled.value.points ≡ open_points (book before) ++ points
     pub seen : w.seen ≡ before ++ Offer filled (is_some put.led) ∷ []
@@ -141,7 +141,8 @@ module _ {D : Type 0} {disk : Ghosts D} where
   -- The turn of an offer.
   abbrev pub OffersInTurn : GroupSetting D disk → List GroupItem → View GroupItem (GroupSetting D disk)
       → View GroupItem (GroupSetting D disk) → List Point → Result (Put D disk) OfferFault → Type 0
-  OffersInTurn x before v w points (Err fault) = AddsNothing v w before × IsOfferFault (fault_at x (book before) points) fault
+  OffersInTurn x before v w points (Err fault) =
+      AddsNothing v w before × IsOfferFault (fault_at x.stream x.threshold (book before) points) fault
   OffersInTurn x before v w points (Ok put) = PutsInTurn x before v w points put
 
   pub record HasOffered (x : GroupSetting D disk) (v w : View GroupItem (GroupSetting D disk)) (points : List Point)

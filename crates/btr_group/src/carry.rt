@@ -6,20 +6,18 @@ ghost use Rattle.btr_base.specs.Bag.{sort};
 ghost use Rattle.btr_hist.specs.declared.entry.Entry.TheVariants.{Commit};
 ghost use Rattle.btr_gate.specs.Gates.{IsPassOf, view};
 ghost use Rattle.btr_hall.specs.Session.{IsSessionOf};
-ghost use Rattle.btr_group.specs.Seats.{start_of, setting_of};
-ghost use Rattle.btr_group.specs.Serves.{result_of, IsCommitIn};
+ghost use Rattle.btr_group.specs.Seats.{first_session, setting_of};
+ghost use Rattle.btr_group.specs.Serves.{commit_result, IsCommitIn};
 ghost use Rattle.btr_group.specs.Turns.{MayCarry, CommitsLed, MaySettle, Carries};
 
-use crate::answers::Outcome;
 use crate::group::{Group, GroupSetting, SettledBatch};
-use crate::item::GroupItem;
 use crate::led::Led;
 use crate::state::GroupState;
 use btr_base::{Bag, Ranges};
 use btr_disk::Disk;
 use btr_engine::{Receipt, StepFault};
 use btr_gate::Pass;
-use btr_hall::{Hall, Session};
+use btr_hall::{GroupItem, Hall, Outcome, Session};
 use btr_hist::Entry;
 use std::alloc::Global;
 use std::marker::Sync;
@@ -39,11 +37,11 @@ pub(crate) fn carry<R: Threads + Wait + Sync, D: Disk>(
     led: Led<D>,
 ) -> Outcome
     requires own { IsPassOf group.now.gate pass.old }
-    requires hall { IsSessionOf hall.now (start_of group.now) }
+    requires hall { IsSessionOf hall.now (first_session group.now) }
     requires may { MayCarry (setting_of group.now) (view pass.old) led }
     ensures own { IsPassOf group.now.gate pass.new }
     ensures carries { Carries (view pass.old) (view pass.new) result }
-    ensures commit { IsCommitIn hall.now (Commit group.now.stream [] (sort led.points.items)) (result_of result) }
+    ensures commit { IsCommitIn hall.now (Commit group.now.stream [] (sort led.points.items)) (commit_result result) }
 {
     let (session, batch) = commit_led(rt, alloc, hall, group.stream, led);
     settle_in(rt, group, pass, session, batch)
@@ -59,7 +57,7 @@ fn commit_led<R: Threads + Wait + Sync, D: Disk>(
 ) -> (Session<D>, SettledBatch)
     requires hall { IsSessionOf hall.now led.session }
     ensures commits { CommitsLed stream led result.0 result.1 }
-    ensures commit { IsCommitIn hall.now (Commit stream [] (sort led.points.items)) (result_of result.1.outcome) }
+    ensures commit { IsCommitIn hall.now (Commit stream [] (sort led.points.items)) (commit_result result.1.outcome) }
 {
     let Led {
         session,
@@ -117,7 +115,7 @@ fn points_of(alloc: Global, entry: Entry) -> Bag
 
 /// What is noted of the result of a commit.
 fn outcome_of(returned: Result<Receipt, StepFault>) -> Outcome
-    ensures { result_of result ≡ returned }
+    ensures { commit_result result ≡ returned }
 {
     match returned {
         Ok(receipt) => Outcome::Stored(receipt),

@@ -1,16 +1,15 @@
 //! The flushes of a seat.
 ghost use Rattle.btr_gate.specs.Gates.{IsPassOf, view};
 ghost use Rattle.btr_hall.specs.Session.{IsSessionOf};
-ghost use Rattle.btr_group.specs.Seats.{IsSeatOf, start_of, setting_of};
-ghost use Rattle.btr_group.specs.Offers.{Flushes};
+ghost use Rattle.btr_group.specs.Seats.{IsGroupSeat, first_session, setting_of};
+ghost use Rattle.btr_group.specs.Offers.{FlushesBatch};
 ghost use Rattle.btr_group.specs.Turns.{IsFreeView, HasFlushed};
 
-use crate::answers::Flushed;
 use crate::carry::{GroupPass, carry};
 use crate::group::{Group, Seat};
 use crate::led::Begun;
 use btr_disk::Disk;
-use btr_hall::Hall;
+use btr_hall::{Flushed, Hall};
 use std::alloc::{AllocError, Global};
 use std::marker::Sync;
 use std::sync::Wait;
@@ -29,10 +28,10 @@ impl<D: Disk> Seat<D> {
         hall: &Hall<D>,
         group: &Group<D>,
     ) -> Result<Flushed, AllocError>
-        requires seat { IsSeatOf group.now self.old }
-        requires hall { IsSessionOf hall.now (start_of group.now) }
-        ensures seat { IsSeatOf group.now self.new }
-        ensures flushes { Flushes hall.now group.now self.old self.new result }
+        requires seat { IsGroupSeat group.now self.old }
+        requires hall { IsSessionOf hall.now (first_session group.now) }
+        ensures seat { IsGroupSeat group.now self.new }
+        ensures flushes { FlushesBatch hall.now group.now self.old self.new result }
     {
         let begun = match flush_in(rt, group, &mut self.pass) {
             Ok(begun) => begun,

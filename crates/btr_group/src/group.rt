@@ -4,14 +4,12 @@ ghost use Rattle.btr_base.specs.declared.limits.TheConstants.{MAX_COMMIT_POINTS}
 ghost use Rattle.btr_gate.specs.declared.view.Stage.TheVariants.{Idle};
 ghost use Rattle.btr_gate.specs.Gates.{view};
 
-use crate::answers::Outcome;
-use crate::item::GroupItem;
 use crate::state::GroupState;
 use btr_base::{Bag, Point};
 use btr_disk::Disk;
 use btr_feed::Feed;
 use btr_gate::{Gate, Pass};
-use btr_hall::Session;
+use btr_hall::{GroupItem, Outcome, Session};
 use std::alloc::{AllocError, Global};
 use std::snapshot::Snapshot as State;
 
@@ -74,9 +72,10 @@ pub struct Seat<D: Disk> {
 
 impl<D: Disk> Group<D> {
     ghost use Rattle.std.specs.Prelude.{IfOk, IfErr};
-    ghost use Rattle.btr_group.specs.Seats.{IsSeatOf, HasWholeShare, BeginsGroup, HasEachItemOnce, start_of, seen_by};
-    ghost use Rattle.btr_group.specs.Book.{book};
-    ghost use Rattle.btr_group.specs.Close.{ClosesGroup, ComesBack, IsServedInHalls};
+    ghost use Rattle.btr_group.specs.Seats.{IsGroupSeat, HasWholeShare, BeginsGroup, HasEachItemOnce, first_session, seen_by};
+    ghost use Rattle.btr_hall.specs.GroupBook.{book};
+    ghost use Rattle.btr_group.specs.Serves.{CommitsEach};
+    ghost use Rattle.btr_group.specs.Close.{ClosesGroup, ComesBack, CommitsInHalls};
 
     /// Makes a group of a session for a stream, and its first seat. An offer leads a batch of at least `threshold` points, which is
     /// from 1 to 65,536. It takes a constant amount of memory. An `Err` means out of memory, and returns the session.
@@ -127,12 +126,13 @@ impl<D: Disk> Group<D> {
     /// The commits that the session made since the group began are the batches that are settled as stored, in order, each with the
     /// sorted points of its tickets. Each ticket is in one batch or among those left.
     pub fn close(self, seat: Seat<D>) -> Closed<D>
-        requires seat { IsSeatOf self seat }
+        requires seat { IsGroupSeat self seat }
         requires whole { HasWholeShare seat }
         ensures closes { ClosesGroup (book (seen_by seat)) result }
         ensures once { HasEachItemOnce seat }
-        ensures session { ComesBack (start_of self) result.session }
-        ensures served { IsServedInHalls self.stream (start_of self) (book (seen_by seat)).settled result.session }
+        ensures session { ComesBack (first_session self) result.session }
+        ensures served { CommitsInHalls self.stream (first_session self) (book (seen_by seat)).settled result.session }
+        ensures commits { CommitsEach self.stream (first_session self) (book (seen_by seat)).settled result.session }
     {
         let Group {
             gate,

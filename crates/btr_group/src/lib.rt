@@ -6,12 +6,11 @@
 //! next batch. A flush ([`Seat::flush`]) leads a batch that is smaller. [`Seat::outcome`] returns what became of a ticket.
 //!
 //! A group holds no turn of its gate while it commits, and a commit holds no turn of the group's gate.
+//!
+//! [`begin_groups`] makes the groups of all streams of a hall, and [`LaneGroups`] uses them by one seat in each.
 //! Group commit: DeWitt et al., 1984.
 #![tactic(auto)]
 
-// what calls return, and what is in the list of a group
-mod answers;
-mod item;
 // what the gate carries
 mod led;
 mod state;
@@ -23,8 +22,18 @@ mod flush;
 mod offer;
 mod outcome;
 mod share;
+// the groups of all streams of a hall
+mod lane_groups;
+mod sets;
+// lanes that share them
+mod lane_seats;
+// the close of all
+mod closing;
 
-pub use answers::{Flushed, Known, OfferFault, Offered, Outcome};
+pub use btr_hall::{Flushed, GroupItem, Known, OfferFault, Offered, Outcome};
+pub use closing::close_groups;
 pub use group::{Closed, Group, GroupSetting, Seat, SettledBatch};
-pub use item::GroupItem;
+pub use lane_groups::LaneGroups;
+pub use lane_seats::{begin_lanes, end_lanes};
+pub use sets::{begin_groups, meet_seats, split_seats};
 pub use state::GroupState;

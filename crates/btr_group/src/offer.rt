@@ -1,17 +1,16 @@
 //! The offers of a seat.
 ghost use Rattle.btr_gate.specs.Gates.{IsPassOf, view};
 ghost use Rattle.btr_hall.specs.Session.{IsSessionOf};
-ghost use Rattle.btr_group.specs.Seats.{IsSeatOf, start_of, setting_of};
-ghost use Rattle.btr_group.specs.Offers.{Offers};
+ghost use Rattle.btr_group.specs.Seats.{IsGroupSeat, first_session, setting_of};
+ghost use Rattle.btr_group.specs.Offers.{OffersPoints};
 ghost use Rattle.btr_group.specs.Turns.{IsFreeView, HasOffered};
 
-use crate::answers::{OfferFault, Offered};
 use crate::carry::{GroupPass, carry};
 use crate::group::{Group, Seat};
 use crate::led::Put;
 use btr_base::Point;
 use btr_disk::Disk;
-use btr_hall::Hall;
+use btr_hall::{Hall, OfferFault, Offered};
 use std::alloc::Global;
 use std::marker::Sync;
 use std::sync::Wait;
@@ -32,10 +31,10 @@ impl<D: Disk> Seat<D> {
         group: &Group<D>,
         points: &[Point],
     ) -> Result<Offered, OfferFault>
-        requires seat { IsSeatOf group.now self.old }
-        requires hall { IsSessionOf hall.now (start_of group.now) }
-        ensures seat { IsSeatOf group.now self.new }
-        ensures offers { Offers hall.now group.now self.old self.new points.now result }
+        requires seat { IsGroupSeat group.now self.old }
+        requires hall { IsSessionOf hall.now (first_session group.now) }
+        ensures seat { IsGroupSeat group.now self.new }
+        ensures offers { OffersPoints hall.now group.now self.old self.new points.now result }
     {
         let put = match offer_in(rt, group, &mut self.pass, points) {
             Ok(put) => put,

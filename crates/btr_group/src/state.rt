@@ -2,17 +2,15 @@
 ghost use Rattle.std.specs.Prelude.{◌≡◌, ℕ, ◌+◌, ◌*◌, ◌^◌, ◌<◌, ◌≤◌, false, not, vec_len, vec_capacity};
 ghost use Rattle.std.specs.Option.{is_some};
 ghost use Rattle.btr_gate.specs.Numbers.{one};
-ghost use Rattle.btr_group.specs.Faults.{said_of_feed};
+ghost use Rattle.btr_hall.specs.GroupFaults.{said_of_feed};
 
-use crate::answers::OfferFault;
 use crate::group::{GroupSetting, SettledBatch};
-use crate::item::GroupItem;
 use crate::led::{Begun, Led, Put};
 use btr_base::Point;
 use btr_disk::Disk;
 use btr_feed::{Feed, FeedFault};
 use btr_gate::Chronicle;
-use btr_hall::Session;
+use btr_hall::{GroupItem, OfferFault, Session};
 use std::alloc::AllocError;
 use std::snapshot::Snapshot as State;
 
@@ -49,7 +47,7 @@ pub struct GroupState<D: Disk> {
 impl<D: Disk> Chronicle<GroupItem, GroupSetting<D>> for GroupState<D> {
     ghost use Rattle.std.specs.Prelude.{false, not};
     ghost use Rattle.std.specs.Option.{is_some};
-    ghost use Rattle.btr_group.specs.Book.{book};
+    ghost use Rattle.btr_hall.specs.GroupBook.{book};
     ghost use Rattle.btr_group.specs.State.{IsGroupAt};
     ghost use Rattle.btr_group.specs.StateLaws.{group_bounded, group_lent};
 
@@ -73,8 +71,8 @@ impl<D: Disk> Chronicle<GroupItem, GroupSetting<D>> for GroupState<D> {
 
 impl<D: Disk> GroupState<D> {
     ghost use Rattle.std.specs.Prelude.{◌++◌, true, nat_le, length, IfOk, OnOk, OnErr};
-    ghost use Rattle.btr_group.specs.Faults.{offer_fault, OfferFails};
-    ghost use Rattle.btr_group.specs.State.{value_of, with_offer, without_batch, with_lead, with_settled, leads_in, IsLed};
+    ghost use Rattle.btr_hall.specs.GroupFaults.{offer_fault, OfferFails};
+    ghost use Rattle.btr_group.specs.State.{state_value, with_offer, without_batch, with_lead, with_settled, leads_in, IsLed};
     ghost use Rattle.btr_group.specs.Turns.{TakesOffer, TakesFlush};
 
     /// Puts points into the open batch, and takes it out with the session if it is then large enough and the session is at home.
@@ -83,7 +81,7 @@ impl<D: Disk> GroupState<D> {
         &mut self,
         points: &[Point],
     ) -> (Result<Put<D>, OfferFault>, Option<GroupItem>)
-        ensures { TakesOffer (value_of self.old) points.now result.0 result.1 (value_of self.new) }
+        ensures { TakesOffer (state_value self.old) points.now result.0 result.1 (state_value self.new) }
     {
         let ticket = self.given;
         let leads = match self.put(points) {
@@ -102,7 +100,7 @@ impl<D: Disk> GroupState<D> {
     /// Takes the open batch out with the session, if the session is at home and the batch is not empty. Returns the item of the
     /// list that it made.
     pub(crate) fn flush(&mut self) -> (Result<Begun<D>, AllocError>, Option<GroupItem>)
-        ensures { TakesFlush (value_of self.old) result.0 result.1 (value_of self.new) }
+        ensures { TakesFlush (state_value self.old) result.0 result.1 (state_value self.new) }
     {
         if self.session.is_none() {
             return (Ok(Begun::Busy), None);
@@ -121,7 +119,7 @@ impl<D: Disk> GroupState<D> {
     /// Brings the session back with its batch.
     pub(crate) fn settle(&mut self, session: Session<D>, batch: SettledBatch)
         requires { is_some self.old.session ≡ false }
-        ensures { value_of self.new ≡ with_settled (value_of self.old) session batch }
+        ensures { state_value self.new ≡ with_settled (state_value self.old) session batch }
     {
         self.settled.push_reserved(batch);
         self.items += 1;
@@ -132,9 +130,9 @@ impl<D: Disk> GroupState<D> {
     /// changed.
     fn put(&mut self, points: &[Point]) -> Result<bool, OfferFault>
         ensures fault { OfferFails (offer_fault self.old.filling self.old.given points.now) result }
-        ensures put { OnOk result (value_of self.new ≡ with_offer (value_of self.old) points.now) }
-        ensures err { OnErr result (value_of self.new ≡ value_of self.old) }
-        ensures leads { IfOk result (λ leads. leads ≡ leads_in (value_of self.old) points.now) }
+        ensures put { OnOk result (state_value self.new ≡ with_offer (state_value self.old) points.now) }
+        ensures err { OnErr result (state_value self.new ≡ state_value self.old) }
+        ensures leads { IfOk result (λ leads. leads ≡ leads_in (state_value self.old) points.now) }
         ensures room { OnOk result (vec_len self.new.settled < vec_capacity self.new.settled) }
     {
         if let Some(fault) = self.fault(points) {
@@ -170,8 +168,8 @@ impl<D: Disk> GroupState<D> {
         requires home { is_some self.old.session ≡ true }
         requires some { self.old.first < self.old.given }
         requires room { vec_len self.old.settled < vec_capacity self.old.settled }
-        ensures led { IsLed (value_of self.old) result }
-        ensures taken { value_of self.new ≡ without_batch (value_of self.old) }
+        ensures led { IsLed (state_value self.old) result }
+        ensures taken { state_value self.new ≡ without_batch (state_value self.old) }
     {
         let Some(session) = self.session.take() else {
             unreachable!()

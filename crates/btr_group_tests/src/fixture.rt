@@ -2,7 +2,7 @@
 ghost use Rattle.std.specs.Prelude.{◌≡◌, ◌≤◌, true, IfOk};
 ghost use Rattle.btr_engine.specs.Engine.{is_home};
 ghost use Rattle.btr_hall.specs.Session.{IsSessionOf, IsAlone};
-ghost use Rattle.btr_group.specs.Seats.{IsSeatOf, HasWholeShare, start_of, share_by};
+ghost use Rattle.btr_group.specs.Seats.{IsGroupSeat, HasWholeShare, first_session, share_by};
 
 use btr_base::Point;
 use btr_disk::{Capacity, MemDisk};
@@ -93,10 +93,10 @@ pub(crate) fn begun<R: Threads + Wait + Sync>(
     threshold: u32,
 ) -> Result<(Place, Buffer, Giver), Fail>
     requires { (1 ≤ threshold) × (threshold ≤ 65536) }
-    ensures own { IfOk result (λ r. IsSeatOf r.1 r.2) }
+    ensures own { IfOk result (λ r. IsGroupSeat r.1 r.2) }
     ensures whole { IfOk result (λ r. HasWholeShare r.2) }
-    ensures hall { IfOk result (λ r. IsSessionOf r.0 (start_of r.1)) }
-    ensures alone { IfOk result (λ r. IsAlone (start_of r.1)) }
+    ensures hall { IfOk result (λ r. IsSessionOf r.0 (first_session r.1)) }
+    ensures alone { IfOk result (λ r. IsAlone (first_session r.1)) }
 {
     let (hall, user) = with_stream(rt, alloc)?;
     match Group::begin(alloc, user, 0, threshold) {
@@ -126,9 +126,9 @@ pub(crate) fn offer<R: Threads + Wait + Sync>(
     seat: &mut Giver,
     points: &[Point],
 ) -> Put
-    requires own { IsSeatOf group.now seat.old }
-    requires hall { IsSessionOf hall.now (start_of group.now) }
-    ensures own { IsSeatOf group.now seat.new }
+    requires own { IsGroupSeat group.now seat.old }
+    requires hall { IsSessionOf hall.now (first_session group.now) }
+    ensures own { IsGroupSeat group.now seat.new }
     ensures share { share_by seat.new ≡ share_by seat.old }
 {
     seat.offer(rt, alloc, hall, group, points)
@@ -158,10 +158,10 @@ pub(crate) fn close(
     group: Buffer,
     seat: Giver,
 ) -> Result<Remains, AllocError>
-    requires own { IsSeatOf group seat }
+    requires own { IsGroupSeat group seat }
     requires whole { HasWholeShare seat }
-    requires hall { IsSessionOf hall (start_of group) }
-    requires alone { IsAlone (start_of group) }
+    requires hall { IsSessionOf hall (first_session group) }
+    requires alone { IsAlone (first_session group) }
 {
     let Closed {
         session,

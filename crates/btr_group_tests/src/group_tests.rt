@@ -2,7 +2,7 @@
 ghost use Rattle.std.specs.Prelude.{◌≡◌, ℕ, Bool};
 ghost use Rattle.btr_gate.specs.Shares.{on_path};
 ghost use Rattle.btr_hall.specs.Session.{IsSessionOf};
-ghost use Rattle.btr_group.specs.Seats.{IsSeatOf, start_of, share_by};
+ghost use Rattle.btr_group.specs.Seats.{IsGroupSeat, first_session, share_by};
 
 use crate::fixture::{Buffer, Giver, Place, Put, Remains, SECOND, begun, close, offer, points_of};
 use btr_base::Point;
@@ -45,9 +45,9 @@ fn given_by_two<R: Threads + Wait + Sync>(
     second: &mut Giver,
     points: &[Point],
 ) -> Given
-    requires own { IsSeatOf group.now first.old × IsSeatOf group.now second.old }
-    requires hall { IsSessionOf hall.now (start_of group.now) }
-    ensures own { IsSeatOf group.now first.new × IsSeatOf group.now second.new }
+    requires own { IsGroupSeat group.now first.old × IsGroupSeat group.now second.old }
+    requires hall { IsSessionOf hall.now (first_session group.now) }
+    ensures own { IsGroupSeat group.now first.new × IsGroupSeat group.now second.new }
     ensures share { (share_by first.new ≡ share_by first.old) × (share_by second.new ≡ share_by second.old) }
 {
     let (head, rest) = points.split_at(points.len().min(1));
@@ -70,9 +70,9 @@ fn given_by_split<R: Threads + Wait + Sync>(
     first: &mut Giver,
     points: &[Point],
 ) -> Given
-    requires own { IsSeatOf group.now first.old }
-    requires hall { IsSessionOf hall.now (start_of group.now) }
-    ensures own { IsSeatOf group.now first.new }
+    requires own { IsGroupSeat group.now first.old }
+    requires hall { IsSessionOf hall.now (first_session group.now) }
+    ensures own { IsGroupSeat group.now first.new }
     ensures share { (path : ℕ → Bool) → on_path path (share_by first.new) ≡ on_path path (share_by first.old) }
 {
     let mut second = first.split(group);

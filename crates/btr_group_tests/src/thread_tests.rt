@@ -3,7 +3,7 @@ ghost use Rattle.std.specs.Prelude.{◌≡◌, ℕ, Bool, IfOk};
 ghost use Rattle.std.specs.Thread.{IsSync};
 ghost use Rattle.btr_gate.specs.Shares.{on_path};
 ghost use Rattle.btr_hall.specs.Session.{IsSessionOf};
-ghost use Rattle.btr_group.specs.Seats.{IsSeatOf, start_of, share_by};
+ghost use Rattle.btr_group.specs.Seats.{IsGroupSeat, first_session, share_by};
 
 use crate::fixture::{Buffer, Giver, Place, Put, Remains, begun, close, offer};
 use btr_base::Point;
@@ -50,9 +50,9 @@ fn offer_often<R: Threads + Wait + Sync>(
     seat: Giver,
     first: u32,
 ) -> (Giver, Tickets)
-    requires own { IsSeatOf group.now seat }
-    requires hall { IsSessionOf hall.now (start_of group.now) }
-    ensures own { IsSeatOf group.now result.0 }
+    requires own { IsGroupSeat group.now seat }
+    requires hall { IsSessionOf hall.now (first_session group.now) }
+    ensures own { IsGroupSeat group.now result.0 }
     ensures share { share_by result.0 ≡ share_by seat }
 {
     let mut seat = seat;
@@ -91,9 +91,9 @@ fn offer_by_threads<R: Threads + Wait + Sync>(
     threads: u32,
 ) -> (Giver, Tickets)
     requires crossing { IsSync R.row }
-    requires own { IsSeatOf group.now seat }
-    requires hall { IsSessionOf hall.now (start_of group.now) }
-    ensures own { IsSeatOf group.now result.0 }
+    requires own { IsGroupSeat group.now seat }
+    requires hall { IsSessionOf hall.now (first_session group.now) }
+    ensures own { IsGroupSeat group.now result.0 }
     ensures share { (path : ℕ → Bool) → on_path path (share_by result.0) ≡ on_path path (share_by seat) }
 {
     if threads <= 1 {
@@ -107,13 +107,13 @@ fn offer_by_threads<R: Threads + Wait + Sync>(
     let ((mut seat, here), (other, there)) = join(
         rt,
         || -> (Giver, Tickets)
-            requires { IsSync R.row × IsSeatOf group.now seat × IsSessionOf hall.now (start_of group.now) }
-            ensures own { IsSeatOf group.entry.now result.0 }
+            requires { IsSync R.row × IsGroupSeat group.now seat × IsSessionOf hall.now (first_session group.now) }
+            ensures own { IsGroupSeat group.entry.now result.0 }
             ensures share { (path : ℕ → Bool) → on_path path (share_by result.0) ≡ on_path path (share_by seat) }
         { offer_by_threads(rt, alloc, hall, group, seat, first, half) },
         || -> (Giver, Tickets)
-            requires { IsSync R.row × IsSeatOf group.now other × IsSessionOf hall.now (start_of group.now) }
-            ensures own { IsSeatOf group.entry.now result.0 }
+            requires { IsSync R.row × IsGroupSeat group.now other × IsSessionOf hall.now (first_session group.now) }
+            ensures own { IsGroupSeat group.entry.now result.0 }
             ensures share { (path : ℕ → Bool) → on_path path (share_by result.0) ≡ on_path path (share_by other) }
         { offer_by_threads(rt, alloc, hall, group, other, middle, rest) },
     );

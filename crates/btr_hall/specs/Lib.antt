@@ -10,3 +10,7 @@ pub mod Landing
 -- what the private functions promise
 pub mod Superseded
 pub mod Travel
+-- shared buffers with group commit: their list, and what their calls do
+pub mod GroupBook
+pub mod GroupFaults
+pub mod GroupCalls

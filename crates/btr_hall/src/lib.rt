@@ -20,7 +20,14 @@ mod share;
 // how an entry is added
 mod lock;
 mod travel;
+// shared buffers, by stream
+mod group_answers;
+mod group_item;
+mod groups;
 
+pub use group_answers::{Flushed, Known, OfferFault, Offered, Outcome};
+pub use group_item::GroupItem;
+pub use groups::Groups;
 pub use item::Item;
 pub use land::LandFault;
 pub use look::FoundStream;

@@ -31,6 +31,8 @@ impl Job for Make {
         (result : Result ReceiptSpec StepFaultSpec) × (next : List EntrySpec)
         × CommittedAfter start log low (Create was.id) result own next × (now.id ≡ was.id) × (now.result ≡ Some result) };
 
+    ghost keeps = { λ was now. Unit {0} };
+
     fn run<R: Threads + Wait + Sync, D: Disk + Send>(
         &mut self,
         system: System<'_, R>,

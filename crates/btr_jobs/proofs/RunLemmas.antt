@@ -10,7 +10,7 @@ use Rattle.btr_hall.specs.declared.session.Hall.{Hall}
 use Rattle.btr_hall.specs.declared.session.Session.{Session}
 use Rattle.btr_hall.specs.Session.{Splits, Meets}
 use Rattle.btr_jobs.specs.States.{StoreState, LogState, GoesOn}
-use Rattle.btr_jobs.specs.Jobs.{Doing, AllDid, IsAt, Does}
+use Rattle.btr_jobs.specs.Jobs.{AllKeep, Doing, AllDid, IsAt, Does}
 use Rattle.btr_jobs.proofs.JobLemmas.{all_did_lasts, all_did_append, all_did_one}
 use Rattle.btr_jobs.proofs.DoesLemmas.{does_none, does_then, does_both}
 
@@ -69,3 +69,15 @@ module _ {J : Type 0} (did : Doing J) where
         (all_did_lasts did start late early low (λ w n o. lasts start late early low w n o on) before after a one)
         (all_did_lasts did start late other_early low (λ w n o. lasts start late other_early low w n o other_on) more_before more_after b two))
         first second
+
+-- ---- what jobs keep
+
+module _ {J : Type 0} (keeps : J → J → Type 0) where
+  pub keep_append : (before after more last : List J) → AllKeep keeps before after → AllKeep keeps more last → AllKeep keeps (before ++ more) (after ++ last)
+  keep_append [] [] more last keep then = then
+  keep_append [] (now ∷ after) more last keep then = absurd keep
+  keep_append (was ∷ before) [] more last keep then = absurd keep
+  keep_append (was ∷ before) (now ∷ after) more last keep then = (keep.0, keep_append before after more last keep.1 then)
+
+  pub keep_push : (before after : List J) (was now : J) → AllKeep keeps before after → keeps was now → AllKeep keeps (before ++ was ∷ []) (after ++ now ∷ [])
+  keep_push before after was now keep one = keep_append before after (was ∷ []) (now ∷ []) keep (one, tt)

@@ -18,6 +18,13 @@ use Rattle.btr_jobs.specs.States.{StoreState, LogState, GoesOn, log_seen, start_
 abbrev pub Doing : Type 0 → Type 1
 Doing J = StoreState → LogState → List Entry → J → J → List ℕ → Type 0
 
+-- The state of each job after the work goes with the one before it.
+abbrev pub AllKeep : {J : Type 0} → (J → J → Type 0) → List J → List J → Type 0
+AllKeep keeps [] [] = Unit {0}
+AllKeep keeps [] (now ∷ after) = ⊥
+AllKeep keeps (was ∷ before) [] = ⊥
+AllKeep keeps (was ∷ before) (now ∷ after) = keeps was now × AllKeep keeps before after
+
 -- Each job did its part, after all of `low` had been seen. `own` are the numbers of what they added, in some order.
 abbrev pub AllDid : {J : Type 0} → Doing J → StoreState → LogState → List Entry → List J → List J → List ℕ → Type 0
 AllDid did start log low [] [] own = (n : ℕ) → times n own ≡ 0

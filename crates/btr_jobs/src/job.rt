@@ -19,6 +19,9 @@ pub trait Job {
     // are the numbers of what it added.
     ghost did: { StoreState → LogState → List EntrySpec → Self → Self → List ℕ → Type 0 };
 
+    // How the state after the work goes with the one before it, at each hall, also at one that was not opened on a history.
+    ghost keeps: { Self → Self → Type 0 };
+
     /// Does the work, in turns of this session, on this thread. It may share what it has of its own with other threads.
     fn run<R: Threads + Wait + Sync, D: Disk + Send>(
         &mut self,
@@ -29,6 +32,7 @@ pub trait Job {
         requires crossing { IsSync R.row }
         requires at { IsAt hall.now session.old }
         ensures at { IsAt hall.now session.new }
+        ensures keeps { keeps self.old self.new }
         ensures does { Does hall.now session.old session.new (λ start log low own. did start log low self.old self.new own) };
 
     // It is true for ever.

@@ -1,7 +1,7 @@
 //! Many jobs, shared among workers.
 ghost use Rattle.std.specs.Prelude.{◌≡◌, ◌<◌, ◌≤◌, length};
 ghost use Rattle.std.specs.Thread.{IsSync, IsSend};
-ghost use Rattle.btr_jobs.specs.Jobs.{IsAt, Does, AllDid, DidInTurn};
+ghost use Rattle.btr_jobs.specs.Jobs.{IsAt, Does, AllKeep, AllDid, DidInTurn};
 
 use crate::job::Job;
 use crate::pace::Pace;
@@ -32,6 +32,7 @@ pub fn run_jobs<R: Threads + Wait + Sync, D: Disk + Send, J: Job + Send, P: Pace
     requires at { IsAt hall.now session.old }
     ensures at { IsAt hall.now session.new }
     ensures jobs { length jobs.new ≡ length jobs.old }
+    ensures keep { AllKeep J.keeps jobs.old jobs.new }
     ensures does { Does hall.now session.old session.new (λ start log low own. AllDid J.did start log low jobs.old jobs.new own) }
     ensures in_turn { workers ≤ 1 → Does hall.now session.old session.new
         (λ start log low own. DidInTurn J.did start log low jobs.old jobs.new own) }
@@ -65,6 +66,7 @@ fn share_out<R: Threads + Wait + Sync, D: Disk + Send, J: Job + Send, P: Pace + 
     ensures hall { worker.new.hall ≡ worker.old.hall }
     ensures at { IsAt worker.old.hall.now worker.new.session }
     ensures jobs { length jobs.new ≡ length jobs.old }
+    ensures keep { AllKeep J.keeps jobs.old jobs.new }
     ensures does { Does worker.old.hall.now worker.old.session worker.new.session
         (λ start log low own. AllDid J.did start log low jobs.old jobs.new own) }
     ensures in_turn { workers ≤ 1 → Does worker.old.hall.now worker.old.session worker.new.session
@@ -118,6 +120,8 @@ fn both_halves<R: Threads + Wait + Sync, D: Disk + Send, J: Job + Send, P: Pace 
     ensures halls { (worker.new.hall ≡ worker.old.hall) × (other.new.hall ≡ other.old.hall) }
     ensures worker { IsAt worker.old.hall.now worker.new.session }
     ensures other { IsAt other.old.hall.now other.new.session }
+    ensures low_keep { AllKeep J.keeps low.old low.new }
+    ensures high_keep { AllKeep J.keeps high.old high.new }
     ensures low { Does worker.old.hall.now worker.old.session worker.new.session
         (λ start log seen own. AllDid J.did start log seen low.old low.new own) }
     ensures high { Does other.old.hall.now other.old.session other.new.session
@@ -127,6 +131,7 @@ fn both_halves<R: Threads + Wait + Sync, D: Disk + Send, J: Job + Send, P: Pace 
         requires { IsSync R.row × IsSend D.row × IsSend J.row × IsSync P.row × IsAt worker.now.hall.now worker.now.session }
         ensures hall { worker.exit.now.hall ≡ worker.entry.now.hall }
         ensures at { IsAt worker.entry.now.hall.now worker.exit.now.session }
+        ensures keep { AllKeep J.keeps low.entry.now low.exit.now }
         ensures does { Does worker.entry.now.hall.now worker.entry.now.session worker.exit.now.session
             (λ start log seen own. AllDid J.did start log seen low.entry.now low.exit.now own) }
     { share_out(rt, alloc, pace, here, first, worker, low) };
@@ -134,6 +139,7 @@ fn both_halves<R: Threads + Wait + Sync, D: Disk + Send, J: Job + Send, P: Pace 
         requires { IsSync R.row × IsSend D.row × IsSend J.row × IsSync P.row × IsAt other.now.hall.now other.now.session }
         ensures hall { other.exit.now.hall ≡ other.entry.now.hall }
         ensures at { IsAt other.entry.now.hall.now other.exit.now.session }
+        ensures keep { AllKeep J.keeps high.entry.now high.exit.now }
         ensures does { Does other.entry.now.hall.now other.entry.now.session other.exit.now.session
             (λ start log seen own. AllDid J.did start log seen high.entry.now high.exit.now own) }
     { share_out(rt, alloc, pace, there, next, other, high) };
@@ -166,6 +172,7 @@ fn run_in_turn<R: Threads + Wait + Sync, D: Disk + Send, J: Job + Send, P: Pace 
     requires at { IsAt hall.now session.old }
     ensures at { IsAt hall.now session.new }
     ensures jobs { length jobs.new ≡ length jobs.old }
+    ensures keep { AllKeep J.keeps jobs.old jobs.new }
     ensures in_turn { Does hall.now session.old session.new
         (λ start log low own. DidInTurn J.did start log low jobs.old jobs.new own) }
 {

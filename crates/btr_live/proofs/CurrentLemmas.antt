@@ -1,5 +1,5 @@
 -- After a last round each output that it did not refuse is up to date, if the script ran alone and no device failed.
-use Rattle.std.specs.Prelude.{◌≡◌, ℕ, zero, suc, ◌+◌, ◌<◌, ◌≤◌, true, List, [], ◌∷◌, length, slice_index_or, Option, Some, None}
+use Rattle.std.specs.Prelude.{◌≡◌, ℕ, zero, suc, ◌+◌, ◌<◌, ◌≤◌, true, List, [], ◌∷◌, length, slice_index_or, Option, Some, None, Result, Ok}
 use Rattle.std.specs.Option.{is_some}
 use Rattle.std.proofs.Common.{refl, sym, ap, ◌∙◌, subst, arith, inl, inr}
 use Rattle.std.proofs.lemmas.Bool.{cases_lt, or_right}
@@ -7,15 +7,20 @@ use Rattle.btr_hist.specs.declared.entry.Entry.{Entry}
 use Rattle.btr_text.specs.declared.script.ScriptLine.{ScriptLine}
 use Rattle.btr_gate.specs.Numbers.{one, total, times, given}
 use Rattle.btr_gate.proofs.NumberLemmas.{given_inside, given_below, given_above}
+use Rattle.btr_gate.specs.Prefixes.{StartsWith}
 use Rattle.btr_gate.proofs.PrefixLemmas.{starts_length}
 use Rattle.btr_jobs.specs.States.{StoreState, LogState, GoesOn}
 use Rattle.btr_work.specs.Report.{Refreshes}
-use Rattle.btr_work.specs.Laws.{AreAllSince}
+use Rattle.std.specs.List.{AllByRecursion}
+use Rattle.std.specs.declared.alloc.AllocError.{AllocError}
+use Rattle.btr_hist.specs.Legal.{Follows}
+use Rattle.btr_work.specs.declared.report.RefreshLine.{RefreshLine}
+use Rattle.btr_work.specs.Laws.{AreAllSince, IsCurrentIn}
 use Rattle.btr_work.proofs.CurrentLemmas.{refreshed-current}
 use Rattle.btr_live.specs.declared.live.LiveReport.{LiveReport}
 use Rattle.btr_live.specs.OneHistory.{of_lane, lanes_of, lane_lines, RunsLanes, times_all}
 use Rattle.btr_live.specs.Live.{LastRound, LastIsCurrent}
-use Rattle.btr_live.specs.Lanes.{begun}
+use Rattle.btr_live.specs.Lanes.{begun, in_own_feeds}
 use Rattle.btr_live.proofs.LandingLemmas.{Landings, refreshes_lands, rounds_land}
 use Rattle.btr_live.proofs.NumberBounds.{lines_inside, landing_within}
 
@@ -39,14 +44,14 @@ earlier_sound start late early on sound = by early.failed refl
         let failed : late.failed ≡ Some e = ap (λ (c : LogState). c.failed) same ∙ is in
         absurd (cc)
 
-module _ (batch rounds : ℕ) (start : StoreState) (middle : LogState) (sound : middle.failed ≡ None) (low : List Entry) (script : List ScriptLine) (report : LiveReport) (mine beside : List (List ℕ)) (runs : RunsLanes batch rounds start middle low script report.replies.items mine beside) where
+module _ (batch rounds : ℕ) (start : StoreState) (middle : LogState) (sound : middle.failed ≡ None) (low : List Entry) (script : List ScriptLine) (report : LiveReport) (mine beside : List (List ℕ)) (runs : RunsLanes (in_own_feeds batch) rounds start middle low script report.replies.items mine beside) where
   -- What lanes and rounds added is in the history in the end of the lanes.
   all_inside : (n : ℕ) → 1 ≤ times_all n mine beside → n ≤ length middle.history
   all_inside n some =
       elim (cases_lt 0 (total (times n) mine)) [
         | inl by_lane ↦
             in_lists (n ≤ length middle.history) n mine
-            (λ k here. lines_inside start middle sound n batch (begun low) (lane_lines k script) (of_lane k (lanes_of script) report.replies.items) (slice_index_or mine k []) (runs.lasts k) (runs.lanes k) here)
+            (λ k here. lines_inside start middle sound n batch (begun low) (lane_lines k script) (of_lane k (lanes_of script) report.replies.items) (slice_index_or mine k []) (runs.lanes k).0 (runs.lanes k).1 here)
             by_lane
         | inr none ↦
             in_lists (n ≤ length middle.history) n beside
@@ -83,16 +88,22 @@ module _ (start : StoreState) (log middle : LogState) (first : List Entry) (low_
       zero_if zero none = refl
       zero_if (suc k) none = none (omega arith)
 
+-- The outputs that a last round did not refuse are up to date, if all else was added before it and nothing failed.
+pub round_current : (start : StoreState) (log middle : LogState) (first : List Entry) (own lastly : List ℕ) (rest : ℕ → ℕ) (report : Option (Result (List RefreshLine) AllocError)) (last : List RefreshLine) → GoesOn start log middle → StartsWith middle.history first → AreAllSince first log own → ((n : ℕ) → times n own ≡ rest n + times n lastly) → (middle.failed ≡ None → (n : ℕ) → 1 ≤ rest n → n ≤ length middle.history) → LastRound start log middle.history true report lastly → Follows log.history → log.failed ≡ None → report ≡ Some (Ok last) → AllByRecursion (λ line. IsCurrentIn log.history line.output line.result) last
+round_current start log middle first own lastly rest report last on after all numbers inside round follows sound is =
+    let middle_sound = earlier_sound start log middle on sound in
+    let refreshes : Refreshes start log middle.history last lastly = subst (λ r. LastRound start log middle.history true r lastly) is round in
+    let lands : Landings start log middle.history lastly = refreshes_lands start log middle.history last lastly refreshes in
+    let since : AreAllSince middle.history log lastly =
+    last_all start log middle first (starts_length middle.history first after) (starts_length log.history middle.history on.begins) sound
+    (λ n. times n own) (λ n. times n lastly) rest
+    all numbers
+    (inside middle_sound)
+    (λ n some. (landing_within start log sound n middle.history (lands n some)).above) in
+    refreshed-current start log middle.history last lastly refreshes follows since
+
 pub last_current : LastIsCurrent
 last_current batch start log script report own last runs all follows sound is =
-    let middle = runs.middle in
-    let middle_sound = earlier_sound start log middle runs.goes_on sound in
-    let refreshes : Refreshes start log middle.history last runs.lastly = subst (λ r. LastRound start log middle.history true r runs.lastly) is runs.last in
-    let lands : Landings start log middle.history runs.lastly = refreshes_lands start log middle.history last runs.lastly refreshes in
-    let since : AreAllSince middle.history log runs.lastly =
-    last_all start log middle start.history (starts_length middle.history start.history runs.after) (starts_length log.history middle.history runs.goes_on.begins) sound
-    (λ n. times n own) (λ n. times n runs.lastly) (λ n. times_all n runs.mine runs.beside)
-    all runs.numbers
-    (λ n some. all_inside batch (length script) start middle middle_sound start.history script report runs.mine runs.beside runs.lanes n some)
-    (λ n some. (landing_within start log sound n middle.history (lands n some)).above) in
-    refreshed-current start log middle.history last runs.lastly refreshes follows since
+    round_current start log runs.middle start.history own runs.lastly (λ n. times_all n runs.mine runs.beside) report.last last runs.goes_on runs.after all runs.numbers
+    (λ middle_sound n some. all_inside batch (length script) start runs.middle middle_sound start.history script report runs.mine runs.beside runs.lanes n some)
+    runs.last follows sound is

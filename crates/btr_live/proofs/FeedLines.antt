@@ -30,6 +30,7 @@ use Rattle.btr_live.proofs.WaitingLemmas.{at_stream, with_points-own, with_point
 left_over-sort : (points : List Point) (reply : LineReply) → left_over (sort points) reply ≡ left_over points reply
 left_over-sort points (replies.Done version) = refl
 left_over-sort points (replies.Held count) = sort-sort points
+left_over-sort points (replies.Ticket ticket) = sort-sort points
 left_over-sort points (replies.Found version rows) = sort-sort points
 left_over-sort points (replies.No reason) = sort-sort points
 

@@ -1,6 +1,6 @@
 -- Lemmas on lanes: one line more, and lanes and rounds that ran beside each other.
-use Rattle.std.specs.Prelude.{◌≡◌, ℕ, suc, Bool, true, false, ◌||◌, List, [], ◌∷◌, ◌++◌, length, Option}
-use Rattle.std.proofs.Common.{refl, sym, ap, ◌∙◌, subst}
+use Rattle.std.specs.Prelude.{◌≡◌, ℕ, Bool, true, false, ◌||◌, List, [], ◌∷◌, ◌++◌, length, Option}
+use Rattle.std.proofs.Common.{refl, sym, ap, ◌∙◌, subst, arith}
 use Rattle.std.proofs.lemmas.List.{append-nil, append_assoc}
 use Rattle.btr_hist.specs.declared.entry.Entry.{Entry}
 use Rattle.btr_text.specs.declared.script.Line.{Line}
@@ -9,25 +9,25 @@ use Rattle.btr_gate.proofs.PrefixLemmas.{starts_refl, starts_trans}
 use Rattle.btr_jobs.specs.States.{StoreState, LogState, GoesOn}
 use Rattle.btr_live.specs.Feeds.{Waiting, none_waiting, fed}
 use Rattle.btr_live.specs.Replies.{waiting_after, Means}
-use Rattle.btr_live.specs.Lanes.{LaneState, begun, tells_failure, RunsLine, RunsLines}
+use Rattle.btr_live.specs.Lanes.{LaneState, begun, tells_failure, RunsLine, RunsEach}
 use Rattle.btr_live.specs.LaneLaws.{lines_last}
 use Rattle.btr_live.specs.Serving.{LineAsks, Serves}
-use Rattle.btr_live.specs.Running.{RunsLane, RunsTo}
+use Rattle.btr_live.specs.Running.{RunsTo}
 use Rattle.btr_live.proofs.ReportedLemmas.{has_failed, answers_tell, answers_reported}
 
-either : (a b : Bool) (P : Type 0) → (a ≡ true → P) → (b ≡ true → P) → (a || b) ≡ true → P
+pub either : (a b : Bool) (P : Type 0) → (a ≡ true → P) → (b ≡ true → P) → (a || b) ≡ true → P
 either true b P first second is = first refl
 either false b P first second is = second is
 
 -- ---- one line more
 
-lines_push : (batch : ℕ) (start : StoreState) (log : LogState) (old : LaneState) (lines : List (Option Line)) (replies : List LineReply) (own : List ℕ) (mid : LaneState) (line : Option Line) (reply : LineReply) (more : List ℕ) (new : LaneState) → RunsLines batch start log old lines replies own mid → RunsLine batch start log mid line reply more new → RunsLines batch start log old (lines ++ line ∷ []) (replies ++ reply ∷ []) (own ++ more) new
-lines_push batch start log old [] [] own mid line reply more new is ran =
-    (more, [], new, ap (λ l. l ++ more) is.0 ∙ sym (append-nil more), subst (λ s. RunsLine batch start log s line reply more new) is.1 ran, (refl, refl))
-lines_push batch start log old [] (r ∷ rs) own mid line reply more new is ran = absurd is
-lines_push batch start log old (l ∷ ls) [] own mid line reply more new is ran = absurd is
-lines_push batch start log old (l ∷ ls) (r ∷ rs) own mid line reply more new is ran =
-    (is.0, is.1 ++ more, is.2, ap (λ k. k ++ more) is.3 ∙ append_assoc is.0 is.1 more, is.4, lines_push batch start log is.2 ls rs is.1 mid line reply more new is.5 ran)
+pub each_push : {S : Type 0} (Step : S → Option Line → LineReply → List ℕ → S → Type 0) (old : S) (lines : List (Option Line)) (replies : List LineReply) (own : List ℕ) (mid : S) (line : Option Line) (reply : LineReply) (more : List ℕ) (new : S) → RunsEach Step old lines replies own mid → Step mid line reply more new → RunsEach Step old (lines ++ line ∷ []) (replies ++ reply ∷ []) (own ++ more) new
+each_push Step old [] [] own mid line reply more new is ran =
+    (more, [], new, ap (λ l. l ++ more) is.0 ∙ sym (append-nil more), subst (λ s. Step s line reply more new) is.1 ran, (refl, refl))
+each_push Step old [] (r ∷ rs) own mid line reply more new is ran = absurd is
+each_push Step old (l ∷ ls) [] own mid line reply more new is ran = absurd is
+each_push Step old (l ∷ ls) (r ∷ rs) own mid line reply more new is ran =
+    (is.0, is.1 ++ more, is.2, ap (λ k. k ++ more) is.3 ∙ append_assoc is.0 is.1 more, is.4, each_push Step is.2 ls rs is.1 mid line reply more new is.5 ran)
 
 module _ (batch : ℕ) (start : StoreState) (late early : LogState) (low : List Entry) (lines : List (Option Line)) (replies : List LineReply) (line : Option Line) (reply : LineReply) (w after : Waiting) (a b : List ℕ) (saw_failure : Bool) (on : GoesOn start late early) (same : saw_failure ≡ has_failed start early) (first : RunsTo batch start early low lines replies a w) (second : Serves start late saw_failure early.history (LineAsks batch w line reply after) reply b) where
   -- The lane after one line more.
@@ -57,21 +57,11 @@ module _ (batch : ℕ) (start : StoreState) (late early : LogState) (low : List 
   pub runs_push : RunsTo batch start late low (lines ++ line ∷ []) (replies ++ reply ∷ []) (a ++ b) after
   runs_push = record {
     last = state_after;
-    runs = lines_push batch start late (begun low) lines replies a first.last line reply b state_after (lines_last start late early on batch (begun low) lines replies a first.last first.runs) one_more;
+    runs = each_push (RunsLine batch start late) (begun low) lines replies a first.last line reply b state_after (lines_last start late early on batch (begun low) lines replies a first.last first.runs) one_more;
     waits = refl;
     ends = second.replies.ends;
     failed = either first.last.saw_failure (tells_failure second.asked reply) (has_failed start late ≡ true) (λ t. reported_before (first.failed t)) reported_now;
   }
-
--- There is a reply to each line.
-lines_each : (batch : ℕ) (start : StoreState) (log : LogState) (old : LaneState) (lines : List (Option Line)) (replies : List LineReply) (own : List ℕ) (new : LaneState) → RunsLines batch start log old lines replies own new → length replies ≡ length lines
-lines_each batch start log old [] [] own new is = refl
-lines_each batch start log old [] (r ∷ rs) own new is = absurd is
-lines_each batch start log old (l ∷ ls) [] own new is = absurd is
-lines_each batch start log old (l ∷ ls) (r ∷ rs) own new is = ap suc (lines_each batch start log is.2 ls rs is.1 new is.5)
-
-pub lane_each : (batch : ℕ) (start : StoreState) (log : LogState) (low : List Entry) (lines : List (Option Line)) (replies : List LineReply) (own : List ℕ) → RunsLane batch start log low lines replies own → length replies ≡ length lines
-lane_each batch start log low lines replies own is = lines_each batch start log (begun low) lines replies own is.0 is.1
 
 -- No line ran yet.
 pub runs_none : (batch : ℕ) (start : StoreState) (log : LogState) → RunsTo batch start log log.history [] [] [] none_waiting
@@ -83,6 +73,10 @@ runs_none batch start log = record {
   failed = λ is. absurd (cc);
 }
 
-pub split-push : (done old new lines : List (Option Line)) (line : Option Line) → done ++ old ≡ lines → old ≡ line ∷ new → (done ++ line ∷ []) ++ new ≡ lines
-split-push done old new lines line split taken =
-    append_assoc done (line ∷ []) new ∙ ap (λ (x : List (Option Line)). done ++ x) (sym taken) ∙ split
+pub split-push : {A : Type 0} (done old new all : List A) (x : A) → done ++ old ≡ all → old ≡ x ∷ new → (done ++ x ∷ []) ++ new ≡ all
+split-push done old new all x split taken = append_assoc done (x ∷ []) new ∙ ap (λ l. done ++ l) (sym taken) ∙ split
+
+-- Nothing is left.
+pub none_left : {A : Type 0} (done rest all : List A) → done ++ rest ≡ all → length rest ≡ 0 → done ≡ all
+none_left done [] all split none = sym (append-nil done) ∙ split
+none_left done (x ∷ rest) all split none = absurd (omega (arith, none))

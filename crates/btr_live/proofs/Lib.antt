@@ -16,6 +16,7 @@ mod LaneLemmas
 -- rounds
 mod RoundLemmas
 pub mod LandingLemmas
+mod SharedLemmas
 -- all parts together
 mod PartLemmas
 -- replies in the order of the script
@@ -25,7 +26,7 @@ pub mod HistoryLemmas
 pub mod CloseLemmas
 -- the last round
 mod NumberBounds
-mod CurrentLemmas
+pub mod CurrentLemmas
 -- a script by the model
 pub mod ScriptLemmas
 pub mod Legality

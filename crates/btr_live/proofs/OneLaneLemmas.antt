@@ -15,10 +15,6 @@ use Rattle.btr_base.specs.Range.{RangeValue}
 use Rattle.btr_text.specs.declared.script.Line.{Line}
 use Rattle.btr_text.specs.declared.script.ScriptLine.{ScriptLine}
 use Rattle.btr_text.specs.declared.reply.LineReply.{LineReply}
-use Rattle.btr_text.specs.declared.reply.LineReply.TheVariants.{No}
-use Rattle.btr_text.specs.declared.reply.Reason.TheVariants as reasons
-use Rattle.btr_streams.specs.declared.board.Receipt.{Receipt}
-use Rattle.btr_engine.specs.declared.step.StepFault.{StepFault}
 use Rattle.btr_gate.specs.Numbers.{one, total, times, given}
 use Rattle.btr_gate.specs.Prefixes.{StartsWith}
 use Rattle.btr_gate.proofs.NumberLemmas.{given_inside, times_append}
@@ -26,13 +22,13 @@ use Rattle.btr_gate.proofs.PrefixLemmas.{starts_refl, starts_trans, starts_lengt
 use Rattle.btr_work.specs.declared.report.RefreshLine.{RefreshLine}
 use Rattle.btr_work.specs.Laws.{AreAllSince}
 use Rattle.btr_jobs.specs.States.{StoreState, LogState}
-use Rattle.btr_jobs.specs.Turns.{IsIdle, Committed, CommittedAfter}
+use Rattle.btr_jobs.specs.Turns.{IsIdle, Committed}
 use Rattle.btr_plan.specs.Next.{IsNextPlan}
 use Rattle.btr_live.specs.declared.live.LiveReport.{LiveReport}
 use Rattle.btr_live.specs.Feeds.{none_waiting, fed}
 use Rattle.btr_live.specs.Meaning.{Meaning, Commits, Asks, Holds, Current, Refuses}
 use Rattle.btr_live.specs.Replies.{waiting_after, Means}
-use Rattle.btr_live.specs.Lanes.{reply_of_step, OffersEntry, Offers, Answers, LaneState, tells_failure, RunsLine, RunsLines}
+use Rattle.btr_live.specs.Lanes.{OffersEntry, Offers, Answers, LaneState, tells_failure, RunsLine, RunsLines, in_own_feeds}
 use Rattle.btr_live.specs.Lanes.{begun as lane_begun}
 use Rattle.btr_live.specs.LaneLaws.{lines_last}
 use Rattle.btr_live.specs.OneHistory.{of_lane, lanes_of, lane_lines}
@@ -337,12 +333,12 @@ begun_same start runs =
     let same : room start start.history ≡ start.left = omega arith in
     ap₂ (λ left stopped. state_with start left stopped) same (sym runs)
 
-module _ (batch lane : ℕ) (start : StoreState) (log : LogState) (script : List ScriptLine) (report : LiveReport) (own : List ℕ) (runs : RunsLive batch false start log start.history script report own) (all : AreAllSince start.history log own) (in_lane : AreInLane lane script) where
+module _ (batch lane : ℕ) (start : StoreState) (log : LogState) (script : List ScriptLine) (report : LiveReport) (own : List ℕ) (runs : RunsLive (in_own_feeds batch) false start log start.history script report own) (all : AreAllSince start.history log own) (in_lane : AreInLane lane script) where
   -- No other lane has a number.
   other_none : (k : ℕ) → (k ≡ lane → ⊥) → slice_index_or runs.mine k [] ≡ []
   other_none k other =
-      no_lines batch start runs.middle (lane_begun start.history) (lane_lines k script) (of_lane k (lanes_of script) report.replies.items) (slice_index_or runs.mine k []) (runs.lanes.lasts k)
-      (no_items lane k script (map (λ (line : ScriptLine). line.line) script) other in_lane) (runs.lanes.lanes k)
+      no_lines batch start runs.middle (lane_begun start.history) (lane_lines k script) (of_lane k (lanes_of script) report.replies.items) (slice_index_or runs.mine k []) (runs.lanes.lanes k).0
+      (no_items lane k script (map (λ (line : ScriptLine). line.line) script) other in_lane) (runs.lanes.lanes k).1
 
   -- All numbers are those of the one lane.
   mine_all : (n : ℕ) → times n (slice_index_or runs.mine lane []) ≡ given (length start.history + one false) (all_numbers log) n
@@ -357,14 +353,14 @@ module _ (batch lane : ℕ) (start : StoreState) (log : LogState) (script : List
       omega (arith, sum, only, no_party, no_more, every, same)
 
   -- The lane ran on the log, and its lines and replies are all lines and replies.
-  lane_ran : RunsLines batch start log (lane_begun start.history) (map (λ (line : ScriptLine). line.line) script) report.replies.items (slice_index_or runs.mine lane []) (runs.lanes.lasts lane)
+  lane_ran : RunsLines batch start log (lane_begun start.history) (map (λ (line : ScriptLine). line.line) script) report.replies.items (slice_index_or runs.mine lane []) (runs.lanes.lanes lane).0
   lane_ran =
       let lines : List (Option Line) = map (λ (line : ScriptLine). line.line) script in
       let all_lines : lane_lines lane script ≡ lines = all_items lane script lines in_lane (length-map script (λ (line : ScriptLine). line.line)) in
       let all_replies : of_lane lane (lanes_of script) report.replies.items ≡ report.replies.items = all_items lane script report.replies.items in_lane runs.lanes.each in
-      subst (λ ls. RunsLines batch start log (lane_begun start.history) ls report.replies.items (slice_index_or runs.mine lane []) (runs.lanes.lasts lane)) all_lines
-      (subst (λ rs. RunsLines batch start log (lane_begun start.history) (lane_lines lane script) rs (slice_index_or runs.mine lane []) (runs.lanes.lasts lane)) all_replies
-      (lines_last start log runs.middle runs.goes_on batch (lane_begun start.history) (lane_lines lane script) (of_lane lane (lanes_of script) report.replies.items) (slice_index_or runs.mine lane []) (runs.lanes.lasts lane) (runs.lanes.lanes lane)))
+      subst (λ ls. RunsLines batch start log (lane_begun start.history) ls report.replies.items (slice_index_or runs.mine lane []) (runs.lanes.lanes lane).0) all_lines
+      (subst (λ rs. RunsLines batch start log (lane_begun start.history) (lane_lines lane script) rs (slice_index_or runs.mine lane []) (runs.lanes.lanes lane).0) all_replies
+      (lines_last start log runs.middle runs.goes_on batch (lane_begun start.history) (lane_lines lane script) (of_lane lane (lanes_of script) report.replies.items) (slice_index_or runs.mine lane []) (runs.lanes.lanes lane).0 (runs.lanes.lanes lane).1))
 
 -- A script in one lane that ran alone has the model's replies.
 pub one_lane : OneLaneIsTheModel
@@ -376,7 +372,7 @@ one_lane batch lane start log script report own runs all sound follows fits in_l
       numbers = mine_all batch lane start log script report own runs all in_lane;
     } in
     let by_itself : RanAlone start log follows batch fits sound (state_with start (room start start.history) false) script report.replies.items =
-    lines_alone start log follows batch fits sound (lane_begun start.history) false script report.replies.items (slice_index_or runs.mine lane []) (runs.lanes.lasts lane) alone ran in record {
+    lines_alone start log follows batch fits sound (lane_begun start.history) false script report.replies.items (slice_index_or runs.mine lane []) (runs.lanes.lanes lane).0 alone ran in record {
       last = by_itself.last;
       runs = subst (λ s. RunsScript batch s script report.replies.items by_itself.last) (begun_same start sound) by_itself.replied;
       history = by_itself.history;

@@ -1,5 +1,5 @@
 -- Lemmas on a line that brings an output up to date: from what became of the output to the reply.
-use Rattle.std.specs.Prelude.{◌≡◌, ℕ, ◌++◌, Bool, true, List, [], ◌∷◌, Result, Ok, Err}
+use Rattle.std.specs.Prelude.{◌≡◌, ℕ, Bool, true, List, Result, Ok, Err}
 use Rattle.std.proofs.Common.{refl, sym, subst, inl, inr}
 use Rattle.btr_disk.specs.declared.disk.Disk.{Ghosts}
 use Rattle.btr_hist.specs.declared.entry.Entry.{Entry}
@@ -16,7 +16,7 @@ use Rattle.btr_hall.specs.declared.land.LandFault.TheVariants as faults
 use Rattle.btr_hall.specs.declared.session.Hall.{Hall}
 use Rattle.btr_hall.specs.declared.session.Session.{Session}
 use Rattle.btr_jobs.specs.States.{StoreState, LogState, start_of, log_seen}
-use Rattle.btr_jobs.specs.Turns.{Landed, LandedAfter}
+use Rattle.btr_jobs.specs.Turns.{Landed}
 use Rattle.btr_jobs.specs.Jobs.{Does}
 use Rattle.btr_jobs.proofs.StateLemmas.{history_goes_on}
 use Rattle.btr_work.specs.declared.report.Refreshed.{Refreshed}

@@ -5,8 +5,6 @@ use Rattle.btr_disk.specs.declared.disk.Disk.{Ghosts}
 use Rattle.btr_hist.specs.declared.entry.Entry.{Entry}
 use Rattle.btr_hist.specs.declared.entry.Entry.TheVariants as entries
 use Rattle.btr_hist.specs.History.{ids}
-use Rattle.btr_distil.specs.Plan.{PlanValue, entry_of}
-use Rattle.btr_plan.specs.Next.{IsNextPlan}
 use Rattle.btr_streams.specs.declared.board.Receipt.{Receipt}
 use Rattle.btr_engine.specs.declared.step.StepFault.{StepFault}
 use Rattle.btr_engine.specs.Engine.{IsEngineOf}
@@ -17,22 +15,20 @@ use Rattle.btr_text.specs.declared.reply.Reason.TheVariants as reasons
 use Rattle.btr_text.specs.declared.reply.Reason.{Reason}
 use Rattle.btr_gate.specs.Prefixes.{StartsWith}
 use Rattle.btr_gate.proofs.PrefixLemmas.{starts_refl, starts_trans}
-use Rattle.btr_hall.specs.declared.land.LandFault.{LandFault}
 use Rattle.btr_hall.specs.declared.session.Hall.{Hall}
 use Rattle.btr_hall.specs.declared.session.Session.{Session}
 use Rattle.btr_hall.specs.Trace.{history_of}
 use Rattle.btr_hall.specs.Session.{IsSame, Looks, opening_of, seen_of}
 use Rattle.btr_hall.specs.Commit.{Commits, is_distillate}
-use Rattle.btr_hall.specs.Landing.{Lands}
 use Rattle.btr_jobs.specs.States.{StoreState, LogState, log_seen, start_of}
-use Rattle.btr_jobs.specs.Turns.{Committed, CommittedAfter, LandedAfter}
+use Rattle.btr_jobs.specs.Turns.{Committed, CommittedAfter}
 use Rattle.btr_jobs.specs.TurnLaws.{history_later}
 use Rattle.btr_jobs.specs.Jobs.{IsAt}
 use Rattle.btr_jobs.proofs.DoesLemmas.{goes_none, does_then}
 use Rattle.btr_jobs.proofs.StateLemmas.{history_goes_on}
-use Rattle.btr_jobs.proofs.TurnLemmas.{commit_turn, land_turn, look_turn}
+use Rattle.btr_jobs.proofs.TurnLemmas.{commit_turn, look_turn}
 use Rattle.btr_live.specs.Meaning.{Meaning, Commits as CommitsEntry, Holds, Current, Refuses}
-use Rattle.btr_live.specs.Lanes.{reply_of_step, reply_of_landing, Offers, Answers}
+use Rattle.btr_live.specs.Lanes.{reply_of_step, Offers, Answers}
 use Rattle.btr_live.specs.LaneLaws.{answers_lasts}
 use Rattle.btr_live.specs.Serving.{Asking, HasReply, Serves, Knows, was_reported, RepliesIn, ServesIn, holding_output, reply_with}
 use Rattle.btr_live.proofs.HolderLemmas.{same_reply}

@@ -1,6 +1,6 @@
 -- The laws of lanes, which the ghost members of jobs cite: what is said is true for ever, and also of who had seen less.
-use Rattle.std.specs.Prelude.{ℕ, Bool, List, [], ◌∷◌, Option}
-use Rattle.std.proofs.Common.{refl}
+use Rattle.std.specs.Prelude.{◌≡◌, ℕ, suc, Bool, List, [], ◌∷◌, length, Option}
+use Rattle.std.proofs.Common.{refl, ap}
 use Rattle.btr_hist.specs.declared.entry.Entry.{Entry}
 use Rattle.btr_hist.specs.declared.entry.Entry.TheVariants as entries
 use Rattle.btr_text.specs.declared.script.Line.{Line}
@@ -10,8 +10,27 @@ use Rattle.btr_gate.proofs.PrefixLemmas.{starts_trans}
 use Rattle.btr_jobs.specs.States.{StoreState, LogState, GoesOn}
 use Rattle.btr_jobs.specs.TurnLaws.{history_later, committed_still, landed_lasts}
 use Rattle.btr_live.specs.Meaning.{Meaning, Commits, Asks, Holds, Current, Refuses}
-use Rattle.btr_live.specs.Lanes.{OffersEntry, Offers, Answers, LaneState, begun, RunsLine, RunsLines}
-use Rattle.btr_live.specs.Running.{RunsLane}
+use Rattle.btr_live.specs.Lanes.{OffersEntry, Offers, Answers, LaneState, begun, RunsLine, RunsEach, RunsLines, RunsLane}
+
+-- There is a reply to each line.
+pub each_replied : {S : Type 0} (Step : S → Option Line → LineReply → List ℕ → S → Type 0) (old : S) (lines : List (Option Line))
+    (replies : List LineReply) (own : List ℕ) (new : S) → RunsEach Step old lines replies own new → length replies ≡ length lines
+each_replied Step old [] [] own new is = refl
+each_replied Step old [] (reply ∷ replies) own new is = absurd is
+each_replied Step old (line ∷ lines) [] own new is = absurd is
+each_replied Step old (line ∷ lines) (reply ∷ replies) own new is = ap suc (each_replied Step is.2 lines replies is.1 new is.5)
+
+-- What is said of each line that ran may be said otherwise.
+pub each_implied : {S : Type 0} (Step More : S → Option Line → LineReply → List ℕ → S → Type 0)
+    → ((old : S) (line : Option Line) (reply : LineReply) (own : List ℕ) (new : S)
+    → Step old line reply own new → More old line reply own new)
+    → (old : S) (lines : List (Option Line)) (replies : List LineReply) (own : List ℕ) (new : S)
+    → RunsEach Step old lines replies own new → RunsEach More old lines replies own new
+each_implied Step More implies old [] [] own new is = is
+each_implied Step More implies old [] (reply ∷ replies) own new is = absurd is
+each_implied Step More implies old (line ∷ lines) [] own new is = absurd is
+each_implied Step More implies old (line ∷ lines) (reply ∷ replies) own new is =
+    (is.0, is.1, is.2, is.3, implies old line reply is.0 is.2 is.4, each_implied Step More implies is.2 lines replies is.1 new is.5)
 
 module _ (start : StoreState) (late early : LogState) (on : GoesOn start late early) where
   entry_lasts : (saw_failure : Bool) (a : List Entry) (e : Entry) (reply : LineReply) (own : List ℕ) (next : List Entry)
@@ -59,11 +78,7 @@ module _ (start : StoreState) (late early : LogState) (on : GoesOn start late ea
   -- So is what lines replied one after another.
   pub lines_last : (batch : ℕ) (old : LaneState) (lines : List (Option Line)) (replies : List LineReply) (own : List ℕ)
       (new : LaneState) → RunsLines batch start early old lines replies own new → RunsLines batch start late old lines replies own new
-  lines_last batch old [] [] own new is = is
-  lines_last batch old [] (reply ∷ replies) own new is = absurd is
-  lines_last batch old (line ∷ lines) [] own new is = absurd is
-  lines_last batch old (line ∷ lines) (reply ∷ replies) own new is =
-      (is.0, is.1, is.2, is.3, line_lasts batch old line reply is.0 is.2 is.4, lines_last batch is.2 lines replies is.1 new is.5)
+  lines_last batch = each_implied (RunsLine batch start early) (RunsLine batch start late) (line_lasts batch)
 
   -- So is what a lane did.
   pub lane_lasts : (batch : ℕ) (low : List Entry) (lines : List (Option Line)) (replies : List LineReply) (own : List ℕ)
@@ -71,7 +86,7 @@ module _ (start : StoreState) (late early : LogState) (on : GoesOn start late ea
   lane_lasts batch low lines replies own is = (is.0, lines_last batch (begun low) lines replies own is.0 is.1)
 
 -- A lane between two lines that knows another history.
-abbrev knowing : LaneState → List Entry → LaneState
+abbrev pub knowing : LaneState → List Entry → LaneState
 knowing s h = record { history = h; saw_failure = s.saw_failure; waiting = s.waiting }
 
 module _ (batch : ℕ) (start : StoreState) (log : LogState) where

@@ -1,5 +1,5 @@
 -- What the replies to a lane's lines say of the history that all lanes share.
-use Rattle.std.specs.Prelude.{◌≡◌, ◌⊎◌, ℕ, Bool, true, false, ◌||◌, List, [], ◌∷◌, ◌++◌, Option, Result, Ok, Err}
+use Rattle.std.specs.Prelude.{◌≡◌, ◌⊎◌, ℕ, Bool, true, false, ◌||◌, List, [], ◌∷◌, ◌++◌, slice_get, Option, Some, None, Result, Ok, Err}
 use Rattle.btr_hist.specs.declared.entry.Entry.{Entry}
 use Rattle.btr_hist.specs.declared.entry.Entry.TheVariants as entries
 use Rattle.btr_hist.specs.Answer.{answer}
@@ -99,11 +99,55 @@ pub record RunsLine (batch : ℕ) (start : StoreState) (log : LogState) (old : L
   pub waiting : new.waiting ≡ waiting_after old.waiting (fed admitted old.waiting line) asked reply
   pub saw_failure : new.saw_failure ≡ (old.saw_failure || tells_failure asked reply)
 
+-- Steps from one state to another, one for each line in order, each with its reply. `own` are the numbers of what they added, in order.
+abbrev pub RunsEach : {S : Type 0} → (S → Option Line → LineReply → List ℕ → S → Type 0) → S → List (Option Line) → List LineReply → List ℕ
+    → S → Type 0
+RunsEach Step old [] [] own new = (own ≡ []) × (new ≡ old)
+RunsEach Step old [] (reply ∷ replies) own new = ⊥
+RunsEach Step old (line ∷ lines) [] own new = ⊥
+RunsEach {S} Step old (line ∷ lines) (reply ∷ replies) own new =
+    (first rest : List ℕ) × (next : S) × (own ≡ first ++ rest) × Step old line reply first next × RunsEach Step next lines replies rest new
+
 -- The lines of a lane ran in order, each with its reply. `own` are the numbers of the entries that they added, in order.
 abbrev pub RunsLines : ℕ → StoreState → LogState → LaneState → List (Option Line) → List LineReply → List ℕ → LaneState → Type 0
-RunsLines batch start log old [] [] own new = (own ≡ []) × (new ≡ old)
-RunsLines batch start log old [] (reply ∷ replies) own new = ⊥
-RunsLines batch start log old (line ∷ lines) [] own new = ⊥
-RunsLines batch start log old (line ∷ lines) (reply ∷ replies) own new =
-    (first rest : List ℕ) × (next : LaneState) × (own ≡ first ++ rest)
-    × RunsLine batch start log old line reply first next × RunsLines batch start log next lines replies rest new
+RunsLines batch start log = RunsEach (RunsLine batch start log)
+
+-- All lines of a lane that knew `low` ran, from empty feeds.
+abbrev pub RunsLane : ℕ → StoreState → LogState → List Entry → List (Option Line) → List LineReply → List ℕ → Type 0
+RunsLane batch start log low lines replies own =
+    (last : LaneState) × RunsLines batch start log (begun low) lines replies own last
+
+-- ---- lanes
+
+-- What the lane with a number did that had seen a history before its lines: these lines had these replies, and these are the numbers of the
+-- entries that it added.
+abbrev pub LaneRan : Type 1
+LaneRan = ℕ → StoreState → LogState → List Entry → List (Option Line) → List LineReply → List ℕ → Type 0
+
+-- Each lane ran with feeds of its own, which are due with `batch` points.
+abbrev pub in_own_feeds : ℕ → LaneRan
+in_own_feeds batch = λ k start log low lines replies own. RunsLane batch start log low lines replies own
+
+-- What the lines of a lane do that has feeds of this kind: after this state of the log of a hall that began so, lines of a lane that had
+-- seen this history took its feeds from the first state to the second. They had these replies, and these are the numbers of what they
+-- added.
+abbrev pub LinesRan : Type 0 → Type 1
+LinesRan F = StoreState → LogState → List Entry → F → F → List (Option Line) → List LineReply → List ℕ → Type 0
+
+-- Lines ran with feeds that were the first and are now the second, and had these replies.
+abbrev pub lines_ran : {F : Type 0} → LinesRan F → F → F → List (Option Line) → List LineReply → StoreState → LogState → List Entry → List ℕ
+    → Type 0
+lines_ran ran was now lines replies = λ start log low own. ran start log low was now lines replies own
+
+-- Lines of the lane ran whose feeds were looked up, before and after. Who has no feeds has no lines.
+abbrev pub FedRan : {F : Type 0} → LinesRan F → StoreState → LogState → List Entry → Option F → Option F → List (Option Line)
+    → List LineReply → List ℕ → Type 0
+FedRan ran start log low None None lines replies own = (lines ≡ []) × (replies ≡ []) × (own ≡ [])
+FedRan ran start log low None (Some now) lines replies own = ⊥
+FedRan ran start log low (Some was) None lines replies own = ⊥
+FedRan ran start log low (Some was) (Some now) lines replies own = ran start log low was now lines replies own
+
+-- The lane with each number ran with the feeds in its place, which were the first and are now the second ones.
+abbrev pub in_feeds : {F : Type 0} → LinesRan F → List F → List F → LaneRan
+in_feeds ran was now = λ k start log low lines replies own.
+    FedRan ran start log low (slice_get was k) (slice_get now k) lines replies own

@@ -5,6 +5,8 @@ pub mod Replies
 pub mod Reasons
 -- lanes
 pub mod Lanes
+pub mod SharedLines
+pub mod SharedLanes
 pub mod Rounds
 pub mod OneHistory
 -- a whole run
@@ -15,8 +17,10 @@ pub mod OneLane
 pub mod ScriptLaws
 -- what the private functions promise
 pub mod Serving
+pub mod LinesOf
 pub mod Running
 pub mod LaneLaws
+pub mod SharedLaws
 pub mod RunningLaws
 pub mod RoundsLaws
 pub mod Parts

@@ -10,6 +10,7 @@ use Rattle.btr_jobs.specs.States.{StoreState, LogState}
 use Rattle.btr_work.specs.Laws.{AreAllSince}
 use Rattle.btr_live.specs.declared.live.LiveReport.{LiveReport}
 use Rattle.btr_live.specs.Script.{State, begun_state, RunsScript}
+use Rattle.btr_live.specs.Lanes.{in_own_feeds}
 use Rattle.btr_live.specs.Live.{RunsLive}
 
 -- All lines of a script are in this lane.
@@ -31,6 +32,6 @@ FitsLeft start log = needs_of (log.history ++ option_to_list log.failed) ≤ sta
 abbrev pub OneLaneIsTheModel : Type 0
 OneLaneIsTheModel =
     (batch lane : ℕ) (start : StoreState) (log : LogState) (script : List ScriptLine) (report : LiveReport) (own : List ℕ)
-    → RunsLive batch false start log start.history script report own → AreAllSince start.history log own
+    → RunsLive (in_own_feeds batch) false start log start.history script report own → AreAllSince start.history log own
     → start.stopped ≡ false → Follows log.history → FitsLeft start log → AreInLane lane script
     → RunsAlone batch start log script report.replies.items

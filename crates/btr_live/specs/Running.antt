@@ -1,30 +1,27 @@
 -- Private promises: what lanes and rounds did as jobs.
-use Rattle.std.specs.Prelude.{◌≡◌, ℕ, true, ◌||◌, List, Option}
+use Rattle.std.specs.Prelude.{◌≡◌, ℕ, Bool, true, ◌||◌, List, Option}
 use Rattle.std.specs.Option.{is_some}
 use Rattle.btr_hist.specs.declared.entry.Entry.{Entry}
 use Rattle.btr_text.specs.declared.script.Line.{Line}
 use Rattle.btr_text.specs.declared.reply.LineReply.{LineReply}
 use Rattle.btr_gate.specs.Prefixes.{StartsWith}
 use Rattle.btr_jobs.specs.States.{StoreState, LogState}
-use Rattle.btr_live.specs.Feeds.{Waiting}
+use Rattle.btr_live.specs.Feeds.{Waiting, none_waiting}
 use Rattle.btr_live.specs.declared.rounds.Rounds.{Rounds}
-use Rattle.btr_live.specs.Lanes.{LaneState, begun, RunsLines}
+use Rattle.btr_live.specs.declared.lane.Lane.{Lane}
+use Rattle.btr_live.specs.declared.own_feeds.OwnFeeds.{OwnFeeds}
+use Rattle.btr_live.specs.Lanes.{LaneState, begun, RunsLines, RunsLane, LinesRan}
+use Rattle.btr_live.specs.SharedLines.{Views}
+use Rattle.btr_live.specs.SharedLanes.{SharedState, begun_shared, RunsSharedLines}
 use Rattle.btr_live.specs.Rounds.{MakesRounds}
 
--- The lines of a lane that are to run, and the replies of those that ran.
-pub record LaneValue : Type 0 where
-  pub batch : ℕ
-  pub lines : List (Option Line)
-  pub replies : List LineReply
-
--- All lines of a lane that knew `low` ran, from empty feeds.
-abbrev pub RunsLane : ℕ → StoreState → LogState → List Entry → List (Option Line) → List LineReply → List ℕ → Type 0
-RunsLane batch start log low lines replies own =
-    (last : LaneState) × RunsLines batch start log (begun low) lines replies own last
+-- With feeds of the lane's own.
+abbrev pub RanInOwn : LinesRan OwnFeeds
+RanInOwn start log low was now lines replies own = RunsLane was.batch start log low lines replies own
 
 -- The lane's lines ran, and it has their replies.
-abbrev pub LaneDid : StoreState → LogState → List Entry → LaneValue → LaneValue → List ℕ → Type 0
-LaneDid start log low was now own = RunsLane was.batch start log low was.lines now.replies own
+abbrev pub LaneDid : {F : Type 0} → LinesRan F → StoreState → LogState → List Entry → Lane F → Lane F → List ℕ → Type 0
+LaneDid ran start log low was now own = ran start log low was.feeding now.feeding was.work.lines now.work.replies own
 
 -- The rounds were made, at most as many as they are to be.
 abbrev pub RoundsDid : StoreState → LogState → List Entry → Rounds → Rounds → List ℕ → Type 0
@@ -39,3 +36,13 @@ pub record RunsTo (batch : ℕ) (start : StoreState) (log : LogState) (low : Lis
   pub waits : last.waiting ≡ waiting
   pub ends : StartsWith log.history last.history
   pub failed : last.saw_failure ≡ true → (start.stopped || is_some log.failed) ≡ true
+
+-- So did lines of a lane with shared buffers, of which it had seen `old` before them, and has then seen `new`.
+pub record RunsSharedTo (has : ℕ → Bool) (threshold : ℕ) (old new : Views) (start : StoreState) (log : LogState) (low : List Entry)
+    (lines : List (Option Line)) (replies : List LineReply) (own : List ℕ) : Type 0 where
+  pub last : SharedState
+  pub runs : RunsSharedLines has threshold start log (begun_shared low old) lines replies own last
+  pub views : last.views ≡ new
+  pub none : last.lane.waiting ≡ none_waiting
+  pub ends : StartsWith log.history last.lane.history
+  pub failed : last.lane.saw_failure ≡ true → (start.stopped || is_some log.failed) ≡ true

@@ -22,13 +22,16 @@ use Rattle.btr_hall.specs.Trace.{history_of, stopped_in}
 use Rattle.btr_hall.specs.Session.{opening_of, seen_of}
 use Rattle.btr_jobs.specs.States.{StoreState, LogState}
 use Rattle.btr_jobs.specs.Jobs.{Does}
-use Rattle.btr_live.specs.Feeds.{Waiting, FeedsValue, waiting_of, with_points, feed_of, fed}
+use Rattle.btr_hall.specs.declared.groups.Groups as groups
+use Rattle.btr_live.specs.Feeds.{Waiting, FeedsValue, none_waiting, waiting_of, with_points, feed_of, fed}
 use Rattle.btr_live.specs.Meaning.{Meaning, Asks, Refuses, feed, refresh}
 use Rattle.btr_live.specs.Replies.{reply_of_answer, model_reply, points_after, waiting_after, Means}
 use Rattle.btr_work.specs.declared.report.Refreshed.{Refreshed}
 use Rattle.btr_work.specs.declared.report.Refreshed.TheVariants.{Landed, Current, Refused}
 use Rattle.btr_live.specs.Reasons.{reason_of_step, reason_of_landing}
 use Rattle.btr_live.specs.Lanes.{Answers}
+use Rattle.btr_live.specs.SharedLines.{sharing}
+use Rattle.btr_live.specs.SharedLanes.{SharesAt}
 
 -- What is asked for at a history.
 abbrev pub Asking : Type 1
@@ -92,6 +95,18 @@ abbrev pub IsAnswerOrNoMemory : List Entry → Meaning → LineReply → Type 0
 IsAnswerOrNoMemory h (Asks query) reply = (reply ≡ reply_of_answer (answer h query)) ⊎ (reply ≡ No reasons.Memory)
 IsAnswerOrNoMemory h asked reply = reply ≡ model_reply h asked
 
+-- A line of feeds asked shared buffers for this, at a history that begins with `low`, and had this reply.
+abbrev pub ShareDone : {G : Type 0} → groups.Ghosts G → LogState → List Entry → G → G → Option Line → LineReply → List ℕ → Type 0
+ShareDone ghosts log low was now line reply own = (next : List Entry)
+    × SharesAt (ghosts.has_group was) (ghosts.threshold was) log low (ghosts.view_at was) line reply own next (ghosts.view_at now)
+
+-- Another line had this reply, without feeds and buffers, which are as before.
+abbrev pub UnsharedDone : {G : Type 0} → groups.Ghosts G → StoreState → LogState → Bool → List Entry → G → G → Option Line → LineReply
+    → List ℕ → Type 0
+UnsharedDone ghosts start log saw_failure low was now line reply own =
+    ((h : List Entry) → sharing (ghosts.has_group was) h line ≡ None) × (now ≡ was)
+    × Serves start log saw_failure low (LineAsks 1 none_waiting line reply none_waiting) reply own
+
 module _ {D : Type 0} {disk : Ghosts D} where
   -- This is true of the history that the session has seen, with whichever history the hall began.
   abbrev pub Knows : Hall D disk → Session D disk → (List Entry → Type 0) → Type 0
@@ -115,3 +130,16 @@ module _ {D : Type 0} {disk : Ghosts D} where
   abbrev pub ServesLine : Hall D disk → Session D disk → Session D disk → FeedsValue → FeedsValue → Option Line → LineReply → Type 0
   ServesLine hall old new feeds after line reply =
       ServesIn hall old new (LineAsks feeds.batch (waiting_of feeds) line reply (waiting_of after)) reply
+
+  -- A line of feeds asked shared buffers for this, at what the session had then seen, and had this reply.
+  abbrev pub SharesIn : {G : Type 0} → groups.Ghosts G → Hall D disk → Session D disk → Session D disk → G → G → Option Line → LineReply
+      → Type 0
+  SharesIn ghosts hall old new was now line reply =
+      Does hall old new (λ start log low own. ShareDone ghosts log low was now line reply own)
+
+  -- A line had this reply, at what the session had then seen: a line of feeds by shared buffers, and another one without them.
+  abbrev pub ServesShared : {G : Type 0} → groups.Ghosts G → Hall D disk → Session D disk → Session D disk → G → G → Option Line
+      → LineReply → Type 0
+  ServesShared ghosts hall old new was now line reply =
+      Does hall old new (λ start log low own. ShareDone ghosts log low was now line reply own
+      ⊎ UnsharedDone ghosts start log (was_reported hall old) low was now line reply own)

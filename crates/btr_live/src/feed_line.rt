@@ -183,7 +183,10 @@ fn keep_refused(feeds: &mut Feeds, stream: u32, points: Bag, reply: &LineReply)
 {
     match reply {
         LineReply::Done { .. } => {}
-        LineReply::Held { .. } | LineReply::Found { .. } | LineReply::No(_) => {
+        LineReply::Held { .. }
+        | LineReply::Ticket { .. }
+        | LineReply::Found { .. }
+        | LineReply::No(_) => {
             feeds.put_back(stream, points.into_points());
         }
     }

@@ -1,13 +1,8 @@
-//! A lane: lines that run one after another, in one session, with feeds of their own.
+//! A lane: lines that run one after another, in one session.
 ghost use Rattle.std.specs.Prelude.{◌≡◌, ◌≤◌, ◌↔◌, IsTrue, [], ◌∷◌, length, IfOk};
-ghost use Rattle.std.specs.Vec.{vec_len};
-ghost use Rattle.std.specs.VecDeque.{deque_capacity};
-ghost use Rattle.btr_base.specs.declared.limits.TheConstants.{MAX_COMMIT_POINTS};
-ghost use Rattle.btr_jobs.specs.Jobs.{IsAt, Does};
-ghost use Rattle.btr_live.specs.Running.{RunsLane};
+ghost use Rattle.btr_live.specs.Running.{LaneDid};
 
-use crate::feeds::Feeds;
-use crate::line::answer_line;
+use crate::feeding::Feeding;
 use btr_disk::Disk;
 use btr_hall::{Hall, Session};
 use btr_jobs::{Job, System};
@@ -22,8 +17,7 @@ use std::thread::Threads;
 
 /// The lines of a lane, and their replies. There is room for a reply to each line, so that no lane stops because memory runs out.
 #[derive(Drop)]
-pub(crate) struct Lane {
-    batch: u32,
+pub(crate) struct LaneLines {
     lines: Vec<Option<Line>>,
     replies: VecDeque<LineReply>,
 
@@ -31,37 +25,31 @@ pub(crate) struct Lane {
     running: Arc<AtomicU32>,
 }
 
-impl Model for Lane {
+impl Model for LaneLines {
     ghost use Rattle.std.specs.Prelude.{◌≤◌};
     ghost use Rattle.std.specs.Vec.{vec_len};
     ghost use Rattle.std.specs.VecDeque.{deque_capacity};
-    ghost use Rattle.btr_base.specs.declared.limits.TheConstants.{MAX_COMMIT_POINTS};
-    ghost use Rattle.btr_live.specs.Running.{LaneValue};
+    ghost use Rattle.btr_live.specs.LinesOf.{LinesValue};
 
-    ghost Value = { LaneValue };
+    ghost Value = { LinesValue };
 
-    ghost view = { λ l. record { batch = l.batch; lines = l.lines.items; replies = l.replies.items } };
+    ghost view = { λ l. record { lines = l.lines.items; replies = l.replies.items } };
 
-    ghost invariant = { λ l. (1 ≤ l.batch) × (l.batch ≤ MAX_COMMIT_POINTS) × (vec_len l.lines ≤ deque_capacity l.replies) };
+    ghost invariant = { λ l. vec_len l.lines ≤ deque_capacity l.replies };
 }
 
-impl Lane {
-    /// Makes a lane of lines, whose feeds are due with `batch` points. It takes the memory for the replies. When its lines have run, it
-    /// takes 1 from `running`.
+impl LaneLines {
+    /// Takes the memory for the replies to lines. When the lines have run, 1 is taken from `running`.
     pub(crate) fn new(
         alloc: Global,
-        batch: u32,
         lines: Vec<Option<Line>>,
         running: &Arc<AtomicU32>,
-    ) -> Result<Lane, AllocError>
-        requires least { 1 ≤ batch }
-        requires most { batch ≤ MAX_COMMIT_POINTS }
-        ensures { IfOk result (λ l. l ≡ record { batch = batch; lines = lines.items; replies = [] }) }
+    ) -> Result<LaneLines, AllocError>
+        ensures { IfOk result (λ l. l ≡ record { lines = lines.items; replies = [] }) }
     {
         let replies = VecDeque::with_capacity(alloc, lines.len())?;
         let running = Arc::try_clone(running)?;
-        Ok(Lane {
-            batch,
+        Ok(LaneLines {
             lines,
             replies,
             running,
@@ -87,11 +75,19 @@ impl Lane {
     }
 }
 
-impl Job for Lane {
-    ghost use Rattle.btr_live.specs.Running.{LaneDid};
-    ghost use Rattle.btr_live.specs.RunningLaws.{lane_did_lasts, lane_did_lowers};
+/// A lane: its lines, and where the points wait that they feed.
+#[derive(Drop)]
+pub(crate) struct Lane<F> {
+    pub(crate) feeding: F,
+    pub(crate) work: LaneLines,
+}
 
-    ghost did = { LaneDid };
+impl<F: Feeding> Job for Lane<F> {
+    ghost use Rattle.btr_live.specs.Running.{LaneDid};
+
+    ghost did = { LaneDid F.ran };
+
+    ghost keeps = { λ was now. F.keeps was.feeding now.feeding };
 
     /// Runs the lines. Then the lane has ended.
     fn run<R: Threads + Wait + Sync, D: Disk + Send>(
@@ -100,38 +96,16 @@ impl Job for Lane {
         hall: &Hall<D>,
         session: &mut Session<D>,
     ) {
-        let lines = mem::replace(&mut self.lines, Vec::new(system.alloc));
-        self.replies.clear();
-        run_lines(system, hall, session, self.batch, lines, &mut self.replies);
-        self.running.fetch_sub(1, Ordering::SeqCst);
+        let lines = mem::replace(&mut self.work.lines, Vec::new(system.alloc));
+        self.work.replies.clear();
+        self.feeding
+            .run_lines(system, hall, session, lines, &mut self.work.replies);
+        self.work.running.fetch_sub(1, Ordering::SeqCst);
     }
 
-    ghost lasts = { lane_did_lasts };
+    ghost lasts = { λ start late early low was now own.
+        F.lasts start late early low was.feeding now.feeding was.work.lines now.work.replies own };
 
-    ghost lowers = { lane_did_lowers };
-}
-
-/// Runs lines in order, and adds their replies, for which there is room.
-fn run_lines<R: Threads + Wait + Sync, D: Disk>(
-    system: System<'_, R>,
-    hall: &Hall<D>,
-    session: &mut Session<D>,
-    batch: u32,
-    lines: Vec<Option<Line>>,
-    replies: &mut VecDeque<LineReply>,
-)
-    requires at { IsAt hall.now session.old }
-    requires least { 1 ≤ batch }
-    requires most { batch ≤ MAX_COMMIT_POINTS }
-    requires empty { replies.old.items ≡ [] }
-    requires room { vec_len lines ≤ deque_capacity replies.old }
-    ensures at { IsAt hall.now session.new }
-    ensures runs { Does hall.now session.old session.new
-        (λ start log low own. RunsLane batch start log low lines.items replies.new.items own) }
-{
-    let mut feeds = Feeds::new(system.alloc, batch);
-    for line in lines {
-        let reply = answer_line(system, hall, session, &mut feeds, line);
-        replies.push_back_reserved(reply);
-    }
+    ghost lowers = { λ start log low less was now own.
+        F.lowers start log low less was.feeding now.feeding was.work.lines now.work.replies own };
 }

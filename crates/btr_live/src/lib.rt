@@ -6,14 +6,18 @@
 //! [`OneHistory`]: ../specs/OneHistory.antt
 #![tactic(auto)]
 
-// the points that wait for a commit, in a lane
+// where the points of feeds wait
+mod feeding;
 mod feeds;
+mod own_feeds;
+mod shared_feeds;
 // one line
 mod distill_line;
 mod feed_line;
 mod line;
 mod question;
 mod reasons;
+mod shared_line;
 // what runs beside each other
 mod lane;
 mod part;
@@ -29,6 +33,7 @@ pub use laws::{
     last_is_current, lines_keep_legal, one_lane_is_the_model, refreshes_are_current,
     runs_are_one_history,
 };
-pub use live::{LiveReport, lanes};
+pub use live::{Beside, LiveReport, lanes, last_round, shared_lanes};
+pub use prepare::LANES;
 pub use question::answer_question;
 pub use reasons::{reason_of_landing, reason_of_step};

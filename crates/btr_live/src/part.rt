@@ -1,7 +1,8 @@
 //! The parts of a run, each of which is done in a session of its own: lanes, and the rounds beside them.
 ghost use Rattle.std.specs.Prelude.{◌≡◌, ◌≤◌, ◌↔◌, IsTrue, ◌∷◌, length};
-ghost use Rattle.btr_live.specs.Parts.{replies_of};
+ghost use Rattle.btr_live.specs.Parts.{feeding_of, replies_of};
 
+use crate::feeding::Feeding;
 use crate::lane::Lane;
 use crate::rounds::Rounds;
 use btr_disk::Disk;
@@ -14,21 +15,21 @@ use std::thread::Threads;
 
 /// A part of a run.
 #[derive(Drop)]
-pub(crate) enum ScriptPart {
+pub(crate) enum ScriptPart<F> {
     /// The lines of one lane.
-    Lane(Lane),
+    Lane(Lane<F>),
 
     /// The rounds of the materializer.
     Rounds(Rounds),
 }
 
-impl ScriptPart {
+impl<F> ScriptPart<F> {
     /// Whether it is a lane that has a reply left.
     pub(crate) fn has_reply(&self) -> bool
         ensures { IsTrue result ↔ (1 ≤ length (replies_of self.now)) }
     {
         match self {
-            ScriptPart::Lane(lane) => lane.has_reply(),
+            ScriptPart::Lane(lane) => lane.work.has_reply(),
             ScriptPart::Rounds(_) => false,
         }
     }
@@ -36,20 +37,23 @@ impl ScriptPart {
     /// Takes the next reply of a lane that has one. It takes no memory.
     pub(crate) fn next_reply(&mut self) -> LineReply
         requires there { 1 ≤ length (replies_of self.old) }
-        ensures { replies_of self.old ≡ result ∷ replies_of self.new }
+        ensures reply { replies_of self.old ≡ result ∷ replies_of self.new }
+        ensures feeding { feeding_of self.new ≡ feeding_of self.old }
     {
         match self {
-            ScriptPart::Lane(lane) => lane.next_reply(),
+            ScriptPart::Lane(lane) => lane.work.next_reply(),
             ScriptPart::Rounds(_) => LineReply::No(Reason::Memory),
         }
     }
 }
 
-impl Job for ScriptPart {
-    ghost use Rattle.btr_live.specs.Parts.{PartDid};
+impl<F: Feeding> Job for ScriptPart<F> {
+    ghost use Rattle.btr_live.specs.Parts.{PartDid, PartKeeps};
     ghost use Rattle.btr_live.specs.PartLaws.{part_did_lasts, part_did_lowers};
 
-    ghost did = { PartDid };
+    ghost did = { PartDid F.ran };
+
+    ghost keeps = { PartKeeps F.keeps };
 
     fn run<R: Threads + Wait + Sync, D: Disk + Send>(
         &mut self,
@@ -63,7 +67,7 @@ impl Job for ScriptPart {
         }
     }
 
-    ghost lasts = { part_did_lasts };
+    ghost lasts = { part_did_lasts F.ran F.lasts };
 
-    ghost lowers = { part_did_lowers };
+    ghost lowers = { part_did_lowers F.ran F.lowers };
 }

@@ -1,12 +1,10 @@
 //! What a run takes memory for before it begins: the lines of each lane, and room for all replies.
-ghost use Rattle.std.specs.Prelude.{◌≡◌, ℕ, ◌+◌, ◌<◌, ◌≤◌, [], ◌∷◌, ◌++◌, length, map, IfOk, OnOk};
-ghost use Rattle.btr_base.specs.declared.limits.TheConstants.{MAX_COMMIT_POINTS};
+ghost use Rattle.std.specs.Prelude.{◌≡◌, ℕ, ◌+◌, ◌<◌, ◌≤◌, [], ◌∷◌, ◌++◌, length, map, vec_capacity, IfOk, OnOk};
 ghost use Rattle.btr_text.specs.Input.{HaveLanes};
-ghost use Rattle.btr_gate.specs.Numbers.{one};
 ghost use Rattle.btr_live.specs.OneHistory.{of_lane, lanes_of, lane_lines};
-ghost use Rattle.btr_live.specs.Parts.{lane_with, lines_at, list_at, parties_of, HasLists, HaveLimits, IsRunPrepared};
+ghost use Rattle.btr_live.specs.Parts.{work_with, list_at, feeds_of, AreLanesOf, HasLists, HasRounds, IsReady};
 
-use crate::lane::Lane;
+use crate::lane::{Lane, LaneLines};
 use crate::part::ScriptPart;
 use crate::rounds::Rounds;
 use btr_text::{Line, LineReply, ScriptLine};
@@ -15,44 +13,95 @@ use std::sync::Arc;
 use std::sync::atomic::AtomicU32;
 
 /// The number of lanes.
-pub(crate) const LANES: usize = 8;
+pub const LANES: usize = 8;
 
-/// A run that may begin.
-pub(crate) struct Prepared {
+/// The most parts that run beside each other: the lanes, and the rounds.
+pub(crate) const PARTS: usize = LANES + 1;
+
+/// All that a run takes memory for.
+pub(crate) struct Ready<F> {
     /// The lane of each line.
     pub(crate) lanes: Vec<u8>,
 
-    /// The lanes from 0 on, and then the rounds, if there are any.
-    pub(crate) parts: Vec<ScriptPart>,
+    /// The lines of each lane from 0 on, and room for their replies.
+    pub(crate) works: Vec<LaneLines>,
+
+    /// The rounds, if there are any.
+    pub(crate) rounds: Option<Rounds>,
+
+    /// Room for the lanes and the rounds.
+    pub(crate) parts: Vec<ScriptPart<F>>,
+
+    /// Room for what feeds the lanes, after they have run.
+    pub(crate) feeds: Vec<F>,
 
     /// Room for a reply to each line.
     pub(crate) replies: Vec<LineReply>,
 }
 
-/// Prepares a run of a script, with rounds beside the lanes or without. Each lane takes 1 from `running` when it ends, and rounds begin
-/// only while `running` is not 0. It takes time linear in the script. An `Err` means out of memory.
-pub(crate) fn prepare(
+/// Takes all memory for a run of a script, with rounds beside the lanes or without. Each lane takes 1 from `running` when it ends, and
+/// rounds begin only while `running` is not 0. It takes time linear in the script. An `Err` means out of memory.
+pub(crate) fn prepare<F: Drop>(
     alloc: Global,
-    batch: u32,
     script: Vec<ScriptLine>,
     materialize: bool,
     running: &Arc<AtomicU32>,
-) -> Result<Prepared, AllocError>
-    requires least { 1 ≤ batch }
-    requires most { batch ≤ MAX_COMMIT_POINTS }
+) -> Result<Ready<F>, AllocError>
     requires lanes { HaveLanes script.items }
-    ensures { IfOk result (IsRunPrepared batch materialize script.items) }
+    ensures { IfOk result (IsReady materialize script.items) }
 {
     let count = script.len();
     let replies = Vec::with_capacity(alloc, count)?;
+    let parts = Vec::with_capacity(alloc, PARTS)?;
+    let feeds = Vec::with_capacity(alloc, LANES)?;
     let (lanes, lists) = split_lines(alloc, script)?;
-    let mut parts = parts_of(alloc, batch, lists, running)?;
-    add_rounds(&mut parts, count, materialize, running)?;
-    Ok(Prepared {
+    let works = works_of(alloc, lists, running)?;
+    let rounds = rounds_of(count, materialize, running)?;
+    Ok(Ready {
         lanes,
+        works,
+        rounds,
         parts,
+        feeds,
         replies,
     })
+}
+
+/// Puts together the lanes, each with its lines and with what feeds it, and the rounds, if there are any. There is room for them.
+pub(crate) fn assemble<F: Drop>(
+    parts: &mut Vec<ScriptPart<F>>,
+    feeds: Vec<F>,
+    works: Vec<LaneLines>,
+    rounds: Option<Rounds>,
+)
+    requires empty { parts.old.items ≡ [] }
+    requires each { length feeds.items ≡ length works.items }
+    requires room { length works.items + 1 ≤ vec_capacity parts.old }
+    ensures { AreLanesOf feeds.items works.items rounds parts.new.items }
+{
+    let mut feeds = feeds.into_iter();
+    for work in works {
+        if let Some(feeding) = feeds.next() {
+            parts.push_reserved(ScriptPart::Lane(Lane { feeding, work }));
+        }
+    }
+    if let Some(rounds) = rounds {
+        parts.push_reserved(ScriptPart::Rounds(rounds));
+    }
+}
+
+/// Takes what feeds the lanes out of them. There is room for it.
+pub(crate) fn take_feeds<F: Drop>(parts: Vec<ScriptPart<F>>, feeds: &mut Vec<F>)
+    requires empty { feeds.old.items ≡ [] }
+    requires room { length (feeds_of parts.items) ≤ vec_capacity feeds.old }
+    ensures { feeds.new.items ≡ feeds_of parts.items }
+{
+    for part in parts {
+        if let ScriptPart::Lane(lane) = part {
+            let Lane { feeding, work: _ } = lane;
+            feeds.push_reserved(feeding);
+        }
+    }
 }
 
 /// Puts the lines of each lane into a list of their own. Returns the lane of each line, and the lists.
@@ -94,40 +143,33 @@ fn put(lists: &mut Vec<Vec<Option<Line>>>, lane: u8, line: Option<Line>) -> Resu
     Ok(())
 }
 
-/// Makes a lane of each list.
-fn parts_of(
+/// Takes the memory for the replies to the lines of each list.
+fn works_of(
     alloc: Global,
-    batch: u32,
     lists: Vec<Vec<Option<Line>>>,
     running: &Arc<AtomicU32>,
-) -> Result<Vec<ScriptPart>, AllocError>
-    requires least { 1 ≤ batch }
-    requires most { batch ≤ MAX_COMMIT_POINTS }
-    ensures { IfOk result (λ p. p.items ≡ map (lane_with batch) lists.items) }
+) -> Result<Vec<LaneLines>, AllocError>
+    ensures { IfOk result (λ w. w.items ≡ map work_with lists.items) }
 {
-    let mut parts = Vec::new(alloc);
+    let mut works = Vec::new(alloc);
     for lines in lists {
-        let lane = Lane::new(alloc, batch, lines, running)?;
-        parts.push(ScriptPart::Lane(lane))?;
+        let work = LaneLines::new(alloc, lines, running)?;
+        works.push(work)?;
     }
-    Ok(parts)
+    Ok(works)
 }
 
-/// Adds rounds to the parts of a run, if they are wanted: at most `count`, while `running` is not 0.
-fn add_rounds(
-    parts: &mut Vec<ScriptPart>,
+/// Makes rounds, if they are wanted: at most `count`, while `running` is not 0.
+fn rounds_of(
     count: usize,
     materialize: bool,
     running: &Arc<AtomicU32>,
-) -> Result<(), AllocError>
-    ensures lines { OnOk result ((k : ℕ) → lines_at parts.new.items k ≡ lines_at parts.old.items k) }
-    ensures limits { (batch : ℕ) → HaveLimits batch count parts.old.items → OnOk result (HaveLimits batch count parts.new.items) }
-    ensures parties { OnOk result (parties_of parts.new.items ≡ parties_of parts.old.items + one materialize) }
+) -> Result<Option<Rounds>, AllocError>
+    ensures { IfOk result (HasRounds count materialize) }
 {
     if !materialize {
-        return Ok(());
+        return Ok(None);
     }
     let lanes = Arc::try_clone(running)?;
-    parts.push(ScriptPart::Rounds(Rounds { count, lanes }))?;
-    Ok(())
+    Ok(Some(Rounds { count, lanes }))
 }

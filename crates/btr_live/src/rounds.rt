@@ -27,6 +27,8 @@ impl Job for Rounds {
 
     ghost did = { RoundsDid };
 
+    ghost keeps = { λ was now. Unit {0} };
+
     /// Makes the rounds, one after another.
     fn run<R: Threads + Wait + Sync, D: Disk + Send>(
         &mut self,

@@ -36,6 +36,8 @@ impl Job for LoadedStream {
 
     ghost did = { CommitsStream };
 
+    ghost keeps = { λ was now. Unit {0} };
+
     fn run<R: Threads + Wait + Sync, D: Disk + Send>(
         &mut self,
         system: System<'_, R>,

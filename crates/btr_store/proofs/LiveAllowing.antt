@@ -18,7 +18,7 @@ use Rattle.btr_jobs.specs.Turns.{IsIdle, CommittedAfter}
 use Rattle.btr_work.specs.declared.report.RefreshLine.{RefreshLine}
 use Rattle.btr_live.specs.declared.live.LiveReport.{LiveReport}
 use Rattle.btr_live.specs.Meaning.{Meaning, Commits, Asks, Holds, Current, Refuses}
-use Rattle.btr_live.specs.Lanes.{Offers, Answers, LaneState, begun, RunsLines}
+use Rattle.btr_live.specs.Lanes.{Offers, Answers, LaneState, begun, RunsLines, in_own_feeds}
 use Rattle.btr_live.specs.LaneLaws.{lines_last}
 use Rattle.btr_live.specs.RoundsLaws.{rounds_last}
 use Rattle.btr_live.specs.Rounds.{MakesRounds}
@@ -33,7 +33,7 @@ module _ (start : StoreState) (log : LogState) where
   -- ---- a line
 
   -- An entry that is computed after any history, in its turn.
-  committed_allowed : (a : List Entry) (e : Entry) (result : Result Receipt StepFault) (own : List ℕ) (next : List Entry) → ((p : List Entry) → IsComputed p e) → CommittedAfter start log a e result own next → AddsAllowed log own
+  pub committed_allowed : (a : List Entry) (e : Entry) (result : Result Receipt StepFault) (own : List ℕ) (next : List Entry) → ((p : List Entry) → IsComputed p e) → CommittedAfter start log a e result own next → AddsAllowed log own
   committed_allowed a e result own next computed is = allows_committed start log is.0 e result own next (computed is.0) is.3
 
   -- A distillate is that of a plan.
@@ -48,7 +48,7 @@ module _ (start : StoreState) (log : LogState) where
   idle_allowed : (a : List Entry) (own : List ℕ) (next : List Entry) → IsIdle a own next → AddsAllowed log own
   idle_allowed a own next is = allows_nothing log own is.own
 
-  answers_allowed : (reported : Bool) (a : List Entry) (m : Meaning) (reply : LineReply) (own : List ℕ) (next : List Entry) → Answers start log reported a m reply own next → AddsAllowed log own
+  pub answers_allowed : (reported : Bool) (a : List Entry) (m : Meaning) (reply : LineReply) (own : List ℕ) (next : List Entry) → Answers start log reported a m reply own next → AddsAllowed log own
   answers_allowed reported a (Commits e) reply own next is = offers_allowed reported a e reply own next is
   answers_allowed reported a (Asks query) reply own next is = idle_allowed a own next is.1
   answers_allowed reported a (Holds count) reply own next is = idle_allowed a own next is.1
@@ -76,12 +76,12 @@ module _ (start : StoreState) (log : LogState) where
       let here : 1 ≤ times n (n ∷ []) = let one = one_same n n (λ i. n) in omega (arith, one) in
       landing_allowed low n (lands n listed) p e starts here legal
 
-  rounds_allowed : (count : ℕ) (low : List Entry) (own : List ℕ) → MakesRounds start count low log own → AddsAllowed log own
+  pub rounds_allowed : (count : ℕ) (low : List Entry) (own : List ℕ) → MakesRounds start count low log own → AddsAllowed log own
   rounds_allowed count low own is = landings_allowed low own (rounds_land start count log low own is)
 
   -- ---- the last round
 
-  last_allowed : (low : List Entry) (materialize : Bool) (last : Option (Result (List RefreshLine) AllocError)) (own : List ℕ) → LastRound start log low materialize last own → AddsAllowed log own
+  pub last_allowed : (low : List Entry) (materialize : Bool) (last : Option (Result (List RefreshLine) AllocError)) (own : List ℕ) → LastRound start log low materialize last own → AddsAllowed log own
   last_allowed low false None own is = allows_none log own is
   last_allowed low false (Some result) own is = absurd is
   last_allowed low true None own is = absurd is
@@ -89,7 +89,7 @@ module _ (start : StoreState) (log : LogState) where
   last_allowed low true (Some (Ok report)) own is = refreshes_allowed start log low report own is
 
 -- A number that is in one of the lists is in a list at some place.
-in_lists : (P : Type 0) (n : ℕ) (lists : List (List ℕ)) → ((k : ℕ) → 1 ≤ times n (slice_index_or lists k []) → P) → 1 ≤ total (times n) lists → P
+pub in_lists : (P : Type 0) (n : ℕ) (lists : List (List ℕ)) → ((k : ℕ) → 1 ≤ times n (slice_index_or lists k []) → P) → 1 ≤ total (times n) lists → P
 in_lists P n [] each some = absurd (omega (arith, some))
 in_lists P n (l ∷ ls) each some =
     elim (cases_lt 0 (times n l)) [
@@ -98,7 +98,7 @@ in_lists P n (l ∷ ls) each some =
     ]
 
 -- What lanes, rounds and the last round add is allowed.
-pub live_allowed : (batch : ℕ) (materialize : Bool) (start : StoreState) (log : LogState) (low : List Entry) (script : List ScriptLine) (report : LiveReport) (own : List ℕ) → RunsLive batch materialize start log low script report own → AddsAllowed log own
+pub live_allowed : (batch : ℕ) (materialize : Bool) (start : StoreState) (log : LogState) (low : List Entry) (script : List ScriptLine) (report : LiveReport) (own : List ℕ) → RunsLive (in_own_feeds batch) materialize start log low script report own → AddsAllowed log own
 live_allowed batch materialize start log low script report own runs p e starts listed legal =
     let n : ℕ = length p + 1 in
     let sum = runs.numbers n in
@@ -108,8 +108,8 @@ live_allowed batch materialize start log low script report own runs p e starts l
           elim (cases_lt 0 (total (times n) runs.mine)) [
             | inl by_lane ↦
                 in_lists (Allowed p e) n runs.mine
-                (λ k here. lines_allowed start log batch (begun low) (lane_lines k script) (of_lane k (lanes_of script) report.replies.items) (slice_index_or runs.mine k []) (runs.lanes.lasts k)
-                (lines_last start log runs.middle runs.goes_on batch (begun low) (lane_lines k script) (of_lane k (lanes_of script) report.replies.items) (slice_index_or runs.mine k []) (runs.lanes.lasts k) (runs.lanes.lanes k))
+                (λ k here. lines_allowed start log batch (begun low) (lane_lines k script) (of_lane k (lanes_of script) report.replies.items) (slice_index_or runs.mine k []) (runs.lanes.lanes k).0
+                (lines_last start log runs.middle runs.goes_on batch (begun low) (lane_lines k script) (of_lane k (lanes_of script) report.replies.items) (slice_index_or runs.mine k []) (runs.lanes.lanes k).0 (runs.lanes.lanes k).1)
                 p e starts here legal)
                 by_lane
             | inr no_lane ↦

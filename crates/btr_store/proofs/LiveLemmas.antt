@@ -16,6 +16,7 @@ use Rattle.btr_jobs.proofs.StateLemmas.{log_at}
 use Rattle.btr_jobs.proofs.DoesLemmas.{goes_none}
 use Rattle.btr_work.specs.Laws.{AreAllSince}
 use Rattle.btr_live.specs.declared.live.LiveReport.{LiveReport}
+use Rattle.btr_live.specs.Lanes.{in_own_feeds}
 use Rattle.btr_live.specs.Live.{LastRound, RunsLive, RunsAreOneHistory, LastIsCurrent}
 use Rattle.btr_live.specs.OneHistory.{OneHistory}
 use Rattle.btr_live.specs.OneLane.{AreInLane, RunsAlone, FitsLeft, OneLaneIsTheModel}
@@ -33,7 +34,7 @@ use Rattle.btr_store.proofs.LiveAllowing.{live_allowed}
 
 module _ {D : Type 0} {disk : Ghosts D} (batch : ℕ) (materialize : Bool) (script : List ScriptLine) (hall : Hall D disk) where
   -- What was said of a report was said of the store at the end.
-  pub lives_said : (old mid new : Session D disk) (report : LiveReport) (said : Result Transcript AllocError) → Does hall old mid (λ start log low own. RunsLive batch materialize start log low script report own) → Stays mid new → ((h : List Entry) → IsEngineOf h (opening_of hall) → IfOk said (SaysLive (log_seen h mid) report)) → Does hall old new (λ start log low own. Lives batch materialize script start log low said own)
+  pub lives_said : (old mid new : Session D disk) (report : LiveReport) (said : Result Transcript AllocError) → Does hall old mid (λ start log low own. RunsLive (in_own_feeds batch) materialize start log low script report own) → Stays mid new → ((h : List Entry) → IsEngineOf h (opening_of hall) → IfOk said (SaysLive (log_seen h mid) report)) → Does hall old new (λ start log low own. Lives batch materialize script start log low said own)
   lives_said old mid new report said does stays says = (
     does.0,
     goes_stays old mid new does.0 does.1 stays,
@@ -82,7 +83,7 @@ module _ (history_law : RunsAreOneHistory) (lane_law : OneLaneIsTheModel) (last_
   runs_if None runs = runs
   runs_if (Some report) runs = runs
 
-  one_history_if : (report : Option LiveReport) → RunsFrom batch materialize start log start.history script report own → IfSome report (λ r. OneHistory batch start log script r.replies.items)
+  one_history_if : (report : Option LiveReport) → RunsFrom batch materialize start log start.history script report own → IfSome report (λ r. OneHistory (in_own_feeds batch) start log script r.replies.items)
   one_history_if None runs = tt
   one_history_if (Some report) runs = history_law batch materialize start log script report own runs all
 
@@ -90,11 +91,11 @@ module _ (history_law : RunsAreOneHistory) (lane_law : OneLaneIsTheModel) (last_
   one_lane_if None runs none lane are = tt
   one_lane_if (Some report) runs none lane are =
       lane_law batch lane start log script report own
-      (subst (λ (m : Bool). RunsLive batch m start log start.history script report own) none runs)
+      (subst (λ (m : Bool). RunsLive (in_own_feeds batch) m start log start.history script report own) none runs)
       all not_stopped follows fits are
 
   -- A last round that has a report was wanted.
-  last_if : (m : Bool) (report : LiveReport) (last : live.LastResult) → report.last ≡ last → RunsLive batch m start log start.history script report own → log.failed ≡ None → IsLastCurrent log.history last
+  last_if : (m : Bool) (report : LiveReport) (last : live.LastResult) → report.last ≡ last → RunsLive (in_own_feeds batch) m start log start.history script report own → log.failed ≡ None → IsLastCurrent log.history last
   last_if m report None is runs sound = tt
   last_if m report (Some (Err error)) is runs sound = tt
   last_if true report (Some (Ok lines)) is runs sound = last_law batch start log script report own lines runs all follows sound is

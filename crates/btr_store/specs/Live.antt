@@ -14,6 +14,7 @@ use Rattle.btr_work.specs.Laws.{IsCurrentIn}
 use Rattle.btr_store.specs.declared.report_line.ReportLine.{ReportLine}
 use Rattle.btr_store.specs.declared.report_line.ReportLine.TheVariants as lines
 use Rattle.btr_live.specs.declared.live.LiveReport.{LiveReport}
+use Rattle.btr_live.specs.Lanes.{in_own_feeds}
 use Rattle.btr_live.specs.Live.{HasReplyEach, RunsLive}
 use Rattle.btr_live.specs.OneHistory.{OneHistory}
 use Rattle.btr_live.specs.Script.{text_of_replies}
@@ -102,7 +103,7 @@ pub record SaysSomeScript (materialize : Bool) (script : List ScriptLine) (t : T
 abbrev pub RunsIf : ℕ → Bool → StoreState → LogState → List ScriptLine → Option LiveReport → List ℕ → Type 0
 RunsIf batch materialize start log script None own = own ≡ []
 RunsIf batch materialize start log script (Some report) own =
-    RunsLive batch materialize start log start.history script report own
+    RunsLive (in_own_feeds batch) materialize start log start.history script report own
 
 -- Each output that the last round did not refuse is up to date, and it refused none because another version came first.
 abbrev pub IsLastCurrent : List Entry → LastResult → Type 0
@@ -116,7 +117,7 @@ pub record LivesStore (batch : ℕ) (materialize : Bool) (script : List ScriptLi
   pub report : Option LiveReport
   pub runs : RunsIf batch materialize start log script report own
   -- all lanes, and the rounds beside them, made one history, for every schedule of the threads
-  pub one_history : IfSome report (λ r. OneHistory batch start log script r.replies.items)
+  pub one_history : IfSome report (λ r. OneHistory (in_own_feeds batch) start log script r.replies.items)
   -- the lines of one lane alone have the model's replies, one after another
   pub one_lane : materialize ≡ false → (lane : ℕ) → AreInLane lane script
       → IfSome report (λ r. RunsAlone batch start log script r.replies.items)

@@ -12,6 +12,7 @@ use Rattle.btr_live.specs.Script.{text_of_replies}
 abbrev pub status_of_reply : LineReply → Status
 status_of_reply (replies.Done version) = Done
 status_of_reply (replies.Held count) = Done
+status_of_reply (replies.Ticket ticket) = Done
 status_of_reply (replies.Found version rows) = Done
 status_of_reply (replies.No reason) = status_of_reason reason
 

@@ -27,7 +27,8 @@ fn status_of_reply(reply: &LineReply) -> Status
     ensures { result ≡ status_of_reply reply.now }
 {
     match reply {
-        LineReply::Done { .. } | LineReply::Held { .. } | LineReply::Found { .. } => Status::Done,
+        LineReply::Done { .. } | LineReply::Held { .. } => Status::Done,
+        LineReply::Ticket { .. } | LineReply::Found { .. } => Status::Done,
         LineReply::No(reason) => Status::of_reason(*reason),
     }
 }

@@ -15,7 +15,7 @@ use Rattle.btr_hist.specs.declared.kernel.Reads.{Reads}
 use Rattle.btr_base.specs.declared.limits.TheConstants.{MAX_STREAMS, MAX_VERSIONS}
 use Rattle.btr_text.specs.declared.word.TheConstants.{SPACE, LINE_FEED}
 use Rattle.btr_text.specs.declared.reply.LineReply.{LineReply}
-use Rattle.btr_text.specs.declared.reply.LineReply.TheVariants.{Done, Held, Found, No}
+use Rattle.btr_text.specs.declared.reply.LineReply.TheVariants.{Done, Held, Ticket, Found, No}
 use Rattle.btr_text.specs.declared.reply.Reason.{Reason}
 use Rattle.btr_text.specs.declared.reply.Reason.TheVariants as reasons
 
@@ -52,6 +52,9 @@ reason_words (reasons.Full need left) = codes "full" ∷ decimal need ∷ decima
 reason_words reasons.Device = codes "device" ∷ []
 reason_words (reasons.Stopped entries) = codes "stopped" ∷ decimal entries ∷ []
 reason_words (reasons.Superseded version) = codes "superseded" ∷ decimal version ∷ []
+reason_words reasons.Group = codes "group" ∷ []
+reason_words reasons.Busy = codes "busy" ∷ []
+reason_words reasons.Spent = codes "spent" ∷ []
 
 -- The first line of a reply that is no refusal: the version and the number of rows.
 abbrev pub ok_text : ℕ → ℕ → List ℕ
@@ -122,13 +125,14 @@ rows_text (rows.Ranges rs) = flat_map range_row rs
 rows_text (rows.Info output a r) = info_row output a ++ reads_text r
 rows_text (rows.Streams ss) = flat_map stream_row ss
 
--- The line of a feed: the number of its points.
+-- The line of points that wait: their number in a feed, or their ticket in a shared buffer.
 abbrev pub held_text : ℕ → List ℕ
-held_text count = line_text (codes "held" ∷ decimal count ∷ [])
+held_text number = line_text (codes "held" ∷ decimal number ∷ [])
 
 -- The text of a reply.
 abbrev pub text : LineReply → List ℕ
 text (Done version) = ok_text version 0
 text (Held count) = held_text count
+text (Ticket ticket) = held_text ticket
 text (Found version r) = ok_text version (row_count r) ++ rows_text r
 text (No reason) = line_text (codes "no" ∷ reason_words reason)

@@ -104,6 +104,15 @@ pub enum Reason {
     Superseded {
         version: u64,
     },
+
+    /// The stream has no shared buffer: it did not stand when the run began.
+    Group,
+
+    /// Another batch of the shared buffer is being committed.
+    Busy,
+
+    /// The shared buffer gives no more tickets.
+    Spent,
 }
 
 impl Reason {
@@ -157,6 +166,9 @@ pub enum LineReply {
 
     /// The points of a feed wait. This is their number.
     Held { count: u32 },
+
+    /// The points wait in a shared buffer, and this is their ticket there. Tickets count from 0.
+    Ticket { ticket: u64 },
 
     /// The answer to a question: the version and the rows. Of two versions it is the second, of `streams` the number of
     /// entries.

@@ -13,11 +13,11 @@ use uuid::Uuid;
 /// Appends the text of a reply to `out`. It takes time linear in the text, and the memory that `out` needs to grow.
 /// An `Err` means out of memory, and leaves `out` as it was.
 ///
-/// A reply is `ok VERSION ROWS` and its rows, `held COUNT`, or `no WORD` with numbers, or with an id and a number. A row is `TIME VALUE`
-/// for a point, `START COUNT SUM LEAST GREATEST` for a window, `FROM TO` for a changed range, and `ID LATEST KIND` for a stream. All points
-/// of a version have the row `KIND COUNT SUM [LEAST GREATEST]`, and those of a version that was computed from others a second row
-/// `reads VERSION [VERSION]`, the versions of the inputs. A kind is `plain` or `output`. Each line ends with a line feed, and one space
-/// separates two words. Numbers are plain decimal. An id is hyphenated and in lower case (RFC 9562).
+/// A reply is `ok VERSION ROWS` and its rows, `held COUNT`, `held TICKET`, or `no WORD` with numbers, or with an id and a number. A row is
+/// `TIME VALUE` for a point, `START COUNT SUM LEAST GREATEST` for a window, `FROM TO` for a changed range, and `ID LATEST KIND` for a
+/// stream. All points of a version have the row `KIND COUNT SUM [LEAST GREATEST]`, and those of a version that was computed from others a
+/// second row `reads VERSION [VERSION]`, the versions of the inputs. A kind is `plain` or `output`. Each line ends with a line feed, and
+/// one space separates two words. Numbers are plain decimal. An id is hyphenated and in lower case (RFC 9562).
 pub fn write_reply(reply: &LineReply, out: &mut Vec<u8>) -> Result<(), AllocError>
     ensures ok { OnOk result (out.new.items ≡ out.old.items ++ text reply.now) }
     ensures err { OnErr result (out.new.items ≡ out.old.items) }
@@ -37,7 +37,8 @@ fn append_reply(reply: &LineReply, out: &mut Vec<u8>) -> Result<(), AllocError>
 {
     match reply {
         LineReply::Done { version } => append_ok(out, *version, 0),
-        LineReply::Held { count } => append_held(out, *count),
+        LineReply::Held { count } => append_held(out, u64::from(*count)),
+        LineReply::Ticket { ticket } => append_held(out, *ticket),
         LineReply::Found { version, rows } => {
             append_ok(out, *version, row_count(rows))?;
             append_rows(out, rows)
@@ -63,13 +64,13 @@ fn append_ok(out: &mut Vec<u8>, version: u64, rows: usize) -> Result<(), AllocEr
     )
 }
 
-/// Appends the line of a feed. An `Err` may leave a part of it.
-fn append_held(out: &mut Vec<u8>, count: u32) -> Result<(), AllocError>
-    ensures ok { OnOk result (out.new.items ≡ out.old.items ++ held_text count) }
+/// Appends the line of points that wait: their number, or their ticket. An `Err` may leave a part of it.
+fn append_held(out: &mut Vec<u8>, number: u64) -> Result<(), AllocError>
+    ensures ok { OnOk result (out.new.items ≡ out.old.items ++ held_text number) }
     ensures err { OnErr result (take (length out.old.items) out.new.items ≡ out.old.items) }
 {
     let mut text = Buffer::new();
-    append_line(out, b"held", &[text.format(count).as_bytes()])
+    append_line(out, b"held", &[text.format(number).as_bytes()])
 }
 
 /// Appends the line of a refusal: `no`, a word and numbers. It takes time linear in the line. An `Err` means out of memory, and may
@@ -106,6 +107,9 @@ pub fn append_reason(out: &mut Vec<u8>, reason: Reason) -> Result<(), AllocError
         Reason::Device => append_refusal(out, b"device"),
         Reason::Stopped { entries } => append_refusal1(out, b"stopped", entries),
         Reason::Superseded { version } => append_refusal1(out, b"superseded", version),
+        Reason::Group => append_refusal(out, b"group"),
+        Reason::Busy => append_refusal(out, b"busy"),
+        Reason::Spent => append_refusal(out, b"spent"),
     }
 }
 

@@ -17,6 +17,7 @@ use Rattle.btr_work.specs.declared.report.Refreshed.{Refreshed}
 use Rattle.btr_work.specs.declared.report.Refreshed.TheVariants as results
 use Rattle.btr_work.specs.declared.report.RefreshLine.{RefreshLine}
 use Rattle.btr_live.specs.declared.live.LiveReport.{LiveReport}
+use Rattle.btr_live.specs.Lanes.{in_own_feeds}
 use Rattle.btr_live.specs.Live as runs
 use Rattle.btr_live.specs.Script.{begun_state}
 use Rattle.btr_live.specs.OneLane.{AreInLane, RunsAlone}
@@ -84,7 +85,7 @@ benign_live_status replies log last benign calm sound =
     if_failed failed = log_status (record { history = log.history; failed = failed })
 
 -- A script without rounds has no last round.
-no_last : (batch : ℕ) (start : StoreState) (log : LogState) (script : List ScriptLine) (report : LiveReport) (own : List ℕ) → runs.RunsLive batch false start log start.history script report own → report.last ≡ None
+no_last : (batch : ℕ) (start : StoreState) (log : LogState) (script : List ScriptLine) (report : LiveReport) (own : List ℕ) → runs.RunsLive (in_own_feeds batch) false start log start.history script report own → report.last ≡ None
 no_last batch start log script report own is = by report.last refl
   where
     by : (last : LastResult) → report.last ≡ last → report.last ≡ None
@@ -114,7 +115,7 @@ module _ {S D : Type 0} (source : SourceGhosts S) (disk : Ghosts D) (batch : ℕ
         (subst (λ (ls : List ScriptLine). HasRoomForScript batch materialize store ls) (sym all) can.1.room)
 
     abbrev Ran : Bool → LiveReport → Type 0
-    Ran rounds report = runs.RunsLive batch rounds does.first does.log does.first.history lines report does.own
+    Ran rounds report = runs.RunsLive (in_own_feeds batch) rounds does.first does.log does.first.history lines report does.own
 
     abbrev AreCalm : LiveReport → Type 0
     AreCalm report = IsBenign (status_of_replies report.replies.items) × LastCalm report.last

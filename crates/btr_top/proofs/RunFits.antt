@@ -15,7 +15,7 @@ use Rattle.btr_text.specs.declared.script.ScriptLine.{ScriptLine}
 use Rattle.btr_work.specs.declared.report.RefreshLine.{RefreshLine}
 use Rattle.btr_work.specs.Laws.{AreAllSince}
 use Rattle.btr_live.specs.declared.live.LiveReport.{LiveReport}
-use Rattle.btr_live.specs.Lanes.{begun, RunsLines}
+use Rattle.btr_live.specs.Lanes.{begun, RunsLines, in_own_feeds}
 use Rattle.btr_live.specs.LaneLaws.{lines_last}
 use Rattle.btr_live.specs.OneHistory.{of_lane, lanes_of, lane_lines}
 use Rattle.btr_live.specs.Rounds.{MakesRounds}
@@ -61,9 +61,9 @@ module _ (batch : ℕ) (script : List ScriptLine) (start : StoreState) (log : Lo
       let is = party_serves batch (length script + 1) script start log running sound follows begins (length script) (omega arith) middle beside on one_party made in
       record { own = is.0; parties = is.1; sum = is.2 }
 
-  module _ (materialize : Bool) (report : LiveReport) (own : List ℕ) (ran : RunsLive batch materialize start log low script report own) (each_once : AreAllSince low log own) (room : HasRoomForHistories batch (rounds_of materialize script) start script) where
-    lane : (k : ℕ) → RunsLines batch start log (begun low) (lane_lines k script) (of_lane k (lanes_of script) report.replies.items) (slice_index_or ran.mine k []) (ran.lanes.lasts k)
-    lane k = lines_last start log ran.middle ran.goes_on batch (begun low) (lane_lines k script) (of_lane k (lanes_of script) report.replies.items) (slice_index_or ran.mine k []) (ran.lanes.lasts k) (ran.lanes.lanes k)
+  module _ (materialize : Bool) (report : LiveReport) (own : List ℕ) (ran : RunsLive (in_own_feeds batch) materialize start log low script report own) (each_once : AreAllSince low log own) (room : HasRoomForHistories batch (rounds_of materialize script) start script) where
+    lane : (k : ℕ) → RunsLines batch start log (begun low) (lane_lines k script) (of_lane k (lanes_of script) report.replies.items) (slice_index_or ran.mine k []) (ran.lanes.lanes k).0
+    lane k = lines_last start log ran.middle ran.goes_on batch (begun low) (lane_lines k script) (of_lane k (lanes_of script) report.replies.items) (slice_index_or ran.mine k []) (ran.lanes.lanes k).0 (ran.lanes.lanes k).1
 
     beside : BesideServe (rounds_of materialize script) ran.beside
     beside = beside_serves materialize ran.middle ran.beside ran.goes_on ran.one_party ran.no_rounds ran.lanes.parties
@@ -84,6 +84,6 @@ module _ (batch : ℕ) (script : List ScriptLine) (start : StoreState) (log : Lo
     run_fits =
         let rounds = rounds_of materialize script in
         let all = report.replies.items in (
-          replies_benign batch rounds script start log running sound follows begins room all ran.lanes.each ran.mine ran.lanes.lasts lane beside.own ran.lastly (LastCalm report.last) beside.parties lastly once,
-          last_calm batch rounds script start log running sound follows begins room all ran.lanes.each ran.mine ran.lanes.lasts lane beside.own ran.lastly (LastCalm report.last) beside.parties lastly once,
+          replies_benign batch rounds script start log running sound follows begins room all ran.lanes.each ran.mine (λ k. (ran.lanes.lanes k).0) lane beside.own ran.lastly (LastCalm report.last) beside.parties lastly once,
+          last_calm batch rounds script start log running sound follows begins room all ran.lanes.each ran.mine (λ k. (ran.lanes.lanes k).0) lane beside.own ran.lastly (LastCalm report.last) beside.parties lastly once,
         )

@@ -102,6 +102,7 @@ abbrev pub one_by_one : List (List ℕ) → List (List ℕ)
 one_by_one levels = map (λ output. output ∷ []) (by_levels levels)
 
 -- The report of a call of one worker: each output was planned after all that was seen when the one before it was done.
-pub record RefreshesInTurn (start : StoreState) (log : LogState) (low : List Entry) (report : List RefreshLine) (own : List ℕ) : Type 0 where
+pub record RefreshesInTurn (start : StoreState) (log : LogState) (low : List Entry) (report : List RefreshLine) (own : List ℕ)
+    : Type 0 where
   pub refreshes : Refreshes start log low report own
   pub in_turn : RefreshesLevels start refreshes.seen refreshes.result (one_by_one refreshes.levels) log own

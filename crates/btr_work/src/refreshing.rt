@@ -55,6 +55,8 @@ impl Job for OutputJob {
 
     ghost did = { IsDone };
 
+    ghost keeps = { λ was now. Unit {0} };
+
     fn run<R: Threads + Wait + Sync, D: Disk + Send>(
         &mut self,
         system: System<'_, R>,

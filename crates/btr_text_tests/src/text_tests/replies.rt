@@ -73,6 +73,9 @@ const REFUSED: &[Refused] = &[
         "no stopped 18446744073709551615\n",
     ),
     Refused(Reason::Superseded { version: 3 }, "no superseded 3\n"),
+    Refused(Reason::Group, "no group\n"),
+    Refused(Reason::Busy, "no busy\n"),
+    Refused(Reason::Spent, "no spent\n"),
 ];
 
 #[test]
@@ -160,6 +163,7 @@ enum Say {
     Found(u64, &'static [Point]),
     NoLine,
     Held(u32),
+    Ticket(u64),
 }
 
 /// Appends a reply.
@@ -172,6 +176,7 @@ fn push_reply(alloc: Global, out: &mut Vec<u8>, say: &Say) -> Result<(), AllocEr
         },
         Say::NoLine => LineReply::No(Reason::Line),
         Say::Held(count) => LineReply::Held { count: *count },
+        Say::Ticket(ticket) => LineReply::Ticket { ticket: *ticket },
     };
     write_reply(&reply, out)
 }
@@ -195,6 +200,8 @@ const REPLIES: &[Say] = &[
     Say::Found(1, &[]),
     Say::NoLine,
     Say::Held(65535),
+    Say::Ticket(0),
+    Say::Ticket(18446744073709551615),
 ];
 
 #[test]
@@ -203,8 +210,8 @@ fn replies_follow_one_another(rt: HostRuntime) -> Result<(), Fail> {
     for say in REPLIES {
         push_reply(rt.alloc(), &mut out, say)?;
     }
-    let want =
-        b"ok 0 0\nok 12 0\nok 3 2\n-9223372036854775808 0\n1000 -25\nok 1 0\nno line\nheld 65535\n";
+    let want = b"ok 0 0\nok 12 0\nok 3 2\n-9223372036854775808 0\n1000 -25\nok 1 0\nno line\n\
+        held 65535\nheld 0\nheld 18446744073709551615\n";
     assert!(rt; out.as_slice() == want.as_slice());
     Ok(())
 }

@@ -3,11 +3,11 @@ use Rattle.std.specs.Option.{is_some}
 use Rattle.std.proofs.Common.{◌∙◌, refl, sym, ap, subst}
 use Rattle.btr_gate.specs.Gates.{view}
 use Rattle.btr_gate.specs.Views.{turn_list}
-use Rattle.btr_group.specs.declared.item.GroupItem.TheVariants.{Settle}
-use Rattle.btr_group.specs.Book.{BatchValue, SettledValue, book}
-use Rattle.btr_group.specs.Serves.{Serves}
+use Rattle.btr_hall.specs.declared.group_item.GroupItem.TheVariants.{Settle}
+use Rattle.btr_hall.specs.GroupBook.{BatchValue, SettledValue, book}
+use Rattle.btr_group.specs.Serves.{CommitsEach}
 use Rattle.btr_group.specs.Seats.{setting_of}
-use Rattle.btr_group.specs.State.{StateValue, value_of, IsStateAt, IsGroupAt}
+use Rattle.btr_group.specs.State.{StateValue, state_value, IsStateAt, IsGroupAt}
 use Rattle.btr_group.proofs.StateLemmas.{session_out, settle_state}
 use Rattle.btr_group.proofs.PassLemmas.{group_in, group_out, carried_here, has_settled}
 use Rattle.btr_group.proofs.carry.settle_in.Given.{Over}
@@ -28,7 +28,7 @@ its_batch g c =
 pub settle-requires : goal.settle-requires
 settle-requires g c =
     let a = (goal.at.settle-requires g c).After-enter-turn in
-    session_out (value_of c.enter-turn.result.state) _ _ _ (its_state g a) (ap (λ (o : Option BatchValue). is_some o) (its_batch g a).0)
+    session_out (state_value c.enter-turn.result.state) _ _ _ (its_state g a) (ap (λ (o : Option BatchValue). is_some o) (its_batch g a).0)
 
 pub leave-requires-clause-of : goal.leave-requires-clause-of
 leave-requires-clause-of g c =
@@ -40,8 +40,8 @@ leave-requires-clause-of g c =
     let session = c.args.session in
     let may = c.requires.may in
     let batch = its_batch g a in
-    let served = subst (λ (l : List SettledValue). Serves x.stream x.session (l ++ record { batch = may.batch; outcome = note.outcome } ∷ []) session) (sym batch.1) may.served in
-    let next = settle_state (value_of s) (turn_list w) x may.batch note.outcome session note (its_state g a) batch.0 may.note_is served in
+    let served = subst (λ (l : List SettledValue). CommitsEach x.stream x.session (l ++ record { batch = may.batch; outcome = note.outcome } ∷ []) session) (sym batch.1) may.served in
+    let next = settle_state (state_value s) (turn_list w) x may.batch note.outcome session note (its_state g a) batch.0 may.note_is served in
     group_out c.settle.new.self (turn_list w ++ Settle note.outcome ∷ []) w.setting x (c.enter-turn.ensures.enters.setting ∙ may.set)
     (subst (λ (v : StateValue g.row.D.Denot g.D.Disk). IsStateAt v (length (turn_list w ++ Settle note.outcome ∷ [])) (book (turn_list w ++ Settle note.outcome ∷ [])) x) (sym c.settle.ensures) next)
 

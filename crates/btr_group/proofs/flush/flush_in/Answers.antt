@@ -2,7 +2,7 @@ use Rattle.std.proofs.Common.{◌∙◌}
 use Rattle.btr_gate.specs.Gates.{view}
 use Rattle.btr_gate.specs.Views.{turn_list, list_after}
 use Rattle.btr_group.specs.Seats.{setting_of}
-use Rattle.btr_group.specs.State.{value_of, IsGroupAt}
+use Rattle.btr_group.specs.State.{state_value, IsGroupAt}
 use Rattle.btr_group.proofs.StateLemmas.{flush_state, flush_lent}
 use Rattle.btr_group.proofs.PassLemmas.{group_in, group_out, has_flushed}
 use Rattle.btr_group.proofs.flush.flush_in.Given.{Over}
@@ -20,11 +20,11 @@ leave-requires-clause-of g c =
     let w = view c.enter-turn.new.pass in
     let item = c.flush-result.result.1 in
     group_out c.flush-result.new.self (list_after w item) w.setting (setting_of c.args.group.now) (c.enter-turn.ensures.enters.setting ∙ c.requires.free.set)
-    (flush_state (value_of c.enter-turn.result.state) (turn_list w) (setting_of c.args.group.now) c.flush-result.result.0 item (value_of c.flush-result.new.self) (its_state g a) c.flush-result.ensures)
+    (flush_state (state_value c.enter-turn.result.state) (turn_list w) (setting_of c.args.group.now) c.flush-result.result.0 item (state_value c.flush-result.new.self) (its_state g a) c.flush-result.ensures)
 
 pub leave-requires-clause-lent : goal.leave-requires-clause-lent
 leave-requires-clause-lent g c = λ out free.
-    flush_lent (value_of c.enter-turn.result.state) c.flush-result.result.0 c.flush-result.result.1 (value_of c.flush-result.new.self) c.flush-result.ensures (c.enter-turn.ensures.takes.lent ∙ out)
+    flush_lent (state_value c.enter-turn.result.state) c.flush-result.result.0 c.flush-result.result.1 (state_value c.flush-result.new.self) c.flush-result.ensures (c.enter-turn.ensures.takes.lent ∙ out)
 
 pub returns-clause-flushed : goal.returns-clause-flushed
 returns-clause-flushed g c =

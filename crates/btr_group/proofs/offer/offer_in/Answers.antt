@@ -2,7 +2,7 @@ use Rattle.std.proofs.Common.{◌∙◌}
 use Rattle.btr_gate.specs.Gates.{view}
 use Rattle.btr_gate.specs.Views.{turn_list, list_after}
 use Rattle.btr_group.specs.Seats.{setting_of}
-use Rattle.btr_group.specs.State.{value_of, IsGroupAt}
+use Rattle.btr_group.specs.State.{state_value, IsGroupAt}
 use Rattle.btr_group.proofs.StateLemmas.{offer_state, offer_lent}
 use Rattle.btr_group.proofs.PassLemmas.{group_in, group_out, has_offered}
 use Rattle.btr_group.proofs.offer.offer_in.Given.{Over}
@@ -20,11 +20,11 @@ leave-requires-clause-of g c =
     let w = view c.enter-turn.new.pass in
     let item = c.offer-result.result.1 in
     group_out c.offer-result.new.self (list_after w item) w.setting (setting_of c.args.group.now) (c.enter-turn.ensures.enters.setting ∙ c.requires.free.set)
-    (offer_state (value_of c.enter-turn.result.state) (turn_list w) (setting_of c.args.group.now) c.args.points.now c.offer-result.result.0 item (value_of c.offer-result.new.self) (its_state g a) c.offer-result.ensures)
+    (offer_state (state_value c.enter-turn.result.state) (turn_list w) (setting_of c.args.group.now) c.args.points.now c.offer-result.result.0 item (state_value c.offer-result.new.self) (its_state g a) c.offer-result.ensures)
 
 pub leave-requires-clause-lent : goal.leave-requires-clause-lent
 leave-requires-clause-lent g c = λ out free.
-    offer_lent (value_of c.enter-turn.result.state) c.args.points.now c.offer-result.result.0 c.offer-result.result.1 (value_of c.offer-result.new.self) c.offer-result.ensures (c.enter-turn.ensures.takes.lent ∙ out)
+    offer_lent (state_value c.enter-turn.result.state) c.args.points.now c.offer-result.result.0 c.offer-result.result.1 (state_value c.offer-result.new.self) c.offer-result.ensures (c.enter-turn.ensures.takes.lent ∙ out)
 
 pub returns-clause-offered : goal.returns-clause-offered
 returns-clause-offered g c =

@@ -3,9 +3,9 @@ use Rattle.std.specs.List.Sorted.{IsPartitionedBy, IsPartitionPoint}
 use Rattle.std.proofs.Common.{◌∙◌, ◌-◌, sym, ap, subst, arith, get_or, rules}
 use Rattle.std.proofs.lemmas.List.Sorted.{IsPartitionPoint-from_clause}
 use Rattle.std.proofs.lemmas.Bool.Decides.{nat_tests}
-use Rattle.btr_group.specs.declared.answers.Outcome.{Outcome}
+use Rattle.btr_hall.specs.declared.group_answers.Outcome.{Outcome}
 use Rattle.btr_group.specs.declared.group.SettledBatch.{SettledBatch}
-use Rattle.btr_group.specs.Notes.{noted, NotesTile}
+use Rattle.btr_group.specs.Notes.{outcome_noted, NotesTile}
 use Rattle.btr_group.proofs.NoteLemmas.{none_later, noted_at, firsts_rise}
 use Rattle.btr_group.proofs.outcome.outcome_at.Goals.{After-partition_point-end}
 use Rattle.btr_group.proofs.outcome.outcome_at.Goals as goal
@@ -41,7 +41,7 @@ outcome_by n ticket = if nat_lt ticket (n.first + n.tickets) then Some n.outcome
 
 -- what is noted is what the last of the others has
 by_last : (notes : List SettledBatch) (to ticket place : ℕ) (n : SettledBatch) → NotesTile 0 notes to → (place ≡ 0 → ⊥) → place ≤ length notes → n ≡ get_or notes (place - 1) n
-    → IsPartitionPoint (λ (m : SettledBatch). nat_le m.first ticket ≡ true) (λ (m : SettledBatch). nat_le m.first ticket ≡ false) notes place → noted notes ticket ≡ outcome_by n ticket
+    → IsPartitionPoint (λ (m : SettledBatch). nat_le m.first ticket ≡ true) (λ (m : SettledBatch). nat_le m.first ticket ≡ false) notes place → outcome_noted notes ticket ≡ outcome_by n ticket
 by_last notes to ticket place n tiles some bound is point =
     noted_at 0 notes to ticket (place - 1) tiles (omega arith) (λ j d le. is_below (get_or notes j d).first ticket (point.0 j d (omega arith) (omega (arith, le))))
     (λ j d lt long. is_above (get_or notes j d).first ticket (point.1 j d (omega (arith, lt)) long)) n

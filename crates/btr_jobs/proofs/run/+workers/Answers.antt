@@ -1,9 +1,9 @@
 use Rattle.std.proofs.Common.{◌++◌, sym, ◌∙◌, subst}
 use denote.Param.Send.{sendable}
 use Rattle.std.proofs.Crossing.{crosses}
-use Rattle.btr_jobs.specs.Jobs.{IsAt, Does}
+use Rattle.btr_jobs.specs.Jobs.{IsAt, Does, AllKeep}
 use Rattle.btr_jobs.proofs.CrossingLemmas.{worker_send}
-use Rattle.btr_jobs.proofs.RunLemmas.{Did, did_both}
+use Rattle.btr_jobs.proofs.RunLemmas.{Did, did_both, keep_append}
 use Rattle.btr_jobs.proofs.InTurnLemmas.{in_turn_all}
 use Rattle.btr_jobs.proofs.run.+workers.Goals as goal
 
@@ -38,3 +38,11 @@ share_out-returns-clause-does g t c =
     let at : IsAt hall new = subst (λ (w : _). IsAt w.now new) (c.both_halves.ensures.halls.0 ∙ c.split-other.ensures.hall) c.meet.ensures.at in
     let all = did_both did hall laws.lasts old kept other left right new c.split-other.ensures.splits c.meet.ensures.meets at low c.both_halves.new.low high c.both_halves.new.high first second in
     subst (λ l. Does hall old new (Did did l (c.both_halves.new.low ++ c.both_halves.new.high))) (sym c.split_at_mut-low.ensures.value) all
+
+pub share_out-returns-clause-keep : goal.share_out-returns-clause-keep
+share_out-returns-clause-keep g t c =
+    let keeps = g.J.Job.keeps in
+    let low = c.split_at_mut-low.result.0.now in
+    let high = c.split_at_mut-low.result.1.now in
+    subst (λ l. AllKeep keeps l (c.both_halves.new.low ++ c.both_halves.new.high)) (sym c.split_at_mut-low.ensures.value)
+    (keep_append keeps low c.both_halves.new.low high c.both_halves.new.high c.both_halves.ensures.low_keep c.both_halves.ensures.high_keep)

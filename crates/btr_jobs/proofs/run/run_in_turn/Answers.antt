@@ -1,11 +1,11 @@
 use Rattle.std.proofs.Common.{◌<◌, ◌+◌, length, [], ◌∷◌, ◌++◌, take, refl, sym, subst, arith}
-use Rattle.btr_jobs.specs.Jobs.{Does}
-use Rattle.btr_jobs.proofs.RunLemmas.{length_after, rest_after, items_more, now_more}
+use Rattle.btr_jobs.specs.Jobs.{AllKeep, Does}
+use Rattle.btr_jobs.proofs.RunLemmas.{length_after, rest_after, items_more, keep_push, now_more}
 use Rattle.btr_jobs.proofs.InTurnLemmas.{InTurn, in_turn_none, in_turn_more}
 use Rattle.btr_jobs.proofs.run.run_in_turn.Goals as goal
 
 pub loop-job-init : goal.loop-job-init
-loop-job-init g c = (c.requires.at, refl, refl, in_turn_none g.J.Job.did c.args.hall.now c.args.session.now)
+loop-job-init g c = (c.requires.at, refl, refl, tt, in_turn_none g.J.Job.did c.args.hall.now c.args.session.now)
 
 pub loop-job-preserved : goal.loop-job-preserved
 loop-job-preserved g c =
@@ -21,9 +21,12 @@ loop-job-preserved g c =
     let rest = c.loop-job.invariant.2 in
     let inside : i < length now = omega arith in
     let one = subst (λ w. Does hall c.loop-job.session c.run.new.session (λ start log low own. did start log low w done own)) (sym c.job-item.is) c.run.ensures.does in
-    let more = in_turn_more did hall laws.lowers c.args.session.now c.loop-job.session c.run.new.session (take i jobs) (take i now) was done c.run.ensures.at c.loop-job.invariant.3 one in
+    let more = in_turn_more did hall laws.lowers c.args.session.now c.loop-job.session c.run.new.session (take i jobs) (take i now) was done c.run.ensures.at c.loop-job.invariant.4 one in
     let same = c.job-item.is in
     let before = items_more jobs now i was done inside long rest same in
     let after = now_more jobs now i was done inside long rest same in
     let all = subst (λ l. Does hall c.args.session.now c.run.new.session (InTurn did (take (i + 1) jobs) l)) after (subst (λ l. Does hall c.args.session.now c.run.new.session (InTurn did l (take i now ++ done ∷ []))) before more) in
-    (c.run.ensures.at, length_after jobs now i was done inside long rest same, rest_after jobs now i was done inside long rest same, all)
+    let keeps = g.J.Job.keeps in
+    let kept = subst (λ w. keeps w done) (sym c.job-item.is) c.run.ensures.keeps in
+    let keep = subst (λ l. AllKeep keeps (take (i + 1) jobs) l) after (subst (λ l. AllKeep keeps l (take i now ++ done ∷ [])) before (keep_push keeps (take i jobs) (take i now) was done c.loop-job.invariant.3 kept)) in
+    (c.run.ensures.at, length_after jobs now i was done inside long rest same, rest_after jobs now i was done inside long rest same, keep, all)

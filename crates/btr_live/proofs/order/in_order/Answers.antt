@@ -6,7 +6,7 @@ use Rattle.btr_live.proofs.OrderLemmas.{HasLeft, HasPlaced, left-first, left-mor
 use Rattle.btr_live.proofs.order.in_order.Goals as goal
 
 pub loop-lane-preserved : goal.loop-lane-preserved
-loop-lane-preserved c =
+loop-lane-preserved g c =
     let before = c.loop-lane.invariant in
     let i = c.loop-lane.lane-index in
     let lanes = c.args.lanes.now in
@@ -26,6 +26,8 @@ loop-lane-preserved c =
     record {
       each = omega (arith, more, before.each);
       room = omega (arith, before.room, c.push_reserved.ensures.capacity);
+      parts = c.next_reply-reply.ensures.parts ∙ before.parts;
+      feeds = c.next_reply-reply.ensures.feeds ∙ before.feeds;
       left = λ each. left-more left after lane reply rest (has each) (reported each);
       placed = λ each.
           subst (λ ls. HasPlaced all after ls c.push_reserved.new.self.items) (sym (take_more lanes i 0 low))

@@ -1,12 +1,13 @@
 use Rattle.std.specs.Prelude.{Option}
 use Rattle.std.specs.Option.{is_some}
-use Rattle.std.proofs.Common.{◌∙◌, ap}
+use Rattle.std.proofs.Common.{◌∙◌, ap, subst}
 use Rattle.btr_feed.specs.Feed.{FeedValue}
 use Rattle.btr_gate.specs.Gates.{view}
 use Rattle.btr_hall.specs.declared.session.Session.{Session}
-use Rattle.btr_group.specs.Book.{book}
+use Rattle.btr_hall.specs.GroupBook.{book}
+use Rattle.btr_group.specs.Serves.{HasCommitted}
 use Rattle.btr_group.specs.Seats.{setting_of, seen_by}
-use Rattle.btr_group.specs.State.{value_of}
+use Rattle.btr_group.specs.State.{state_value}
 use Rattle.btr_group.proofs.StateLemmas.{home_is}
 use Rattle.btr_group.proofs.PassLemmas.{group_in}
 use Rattle.btr_group.proofs.SeatLemmas.{closed_tiles, closed_session, closed_served}
@@ -18,7 +19,7 @@ returns-clause-closes g c =
     let s = c.close-session.result in
     let b = book (seen_by c.args.seat) in
     let at = group_in s (seen_by c.args.seat) (view c.args.seat.pass).setting x c.requires.seat.set c.close-session.ensures.of in
-    let home = home_is (value_of s) _ b x at (ap (λ (o : Option (Session g.row.D.Denot g.D.Disk)). is_some o) c.in-Some.is) in
+    let home = home_is (state_value s) _ b x at (ap (λ (o : Option (Session g.row.D.Denot g.D.Disk)). is_some o) c.in-Some.is) in
     record {
       home = home;
       batches = at.settled;
@@ -39,3 +40,10 @@ returns-clause-served g c = λ hall h of engine.
     let s = c.close-session.result in
     let at = group_in s (seen_by c.args.seat) (view c.args.seat.pass).setting x c.requires.seat.set c.close-session.ensures.of in
     closed_served hall h x (book (seen_by c.args.seat)).settled s.session c.in-Some.session of engine at.served c.in-Some.is
+
+pub returns-clause-commits : goal.returns-clause-commits
+returns-clause-commits g c =
+    let x = setting_of c.args.self in
+    let s = c.close-session.result in
+    let at = group_in s (seen_by c.args.seat) (view c.args.seat.pass).setting x c.requires.seat.set c.close-session.ensures.of in
+    subst (λ (o : Option (Session g.row.D.Denot g.D.Disk)). HasCommitted x.stream x.session (book (seen_by c.args.seat)).settled o) c.in-Some.is at.served

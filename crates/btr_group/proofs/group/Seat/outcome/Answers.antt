@@ -1,10 +1,10 @@
 use Rattle.std.proofs.Common.{◌∙◌, sym, ap}
 use Rattle.btr_gate.specs.Gates.{view}
 use Rattle.btr_gate.specs.Views.{turn_list, with_entry}
-use Rattle.btr_group.specs.Book.{book}
+use Rattle.btr_hall.specs.GroupBook.{book}
 use Rattle.btr_group.specs.Known.{known_of}
 use Rattle.btr_group.specs.Seats.{setting_of}
-use Rattle.btr_group.specs.State.{value_of, IsGroupAt}
+use Rattle.btr_group.specs.State.{state_value, IsGroupAt}
 use Rattle.btr_group.proofs.NoteLemmas.{known_same, state_tiles}
 use Rattle.btr_group.proofs.PassLemmas.{group_in}
 use Rattle.btr_group.proofs.SeatLemmas.{looks_at}
@@ -21,7 +21,7 @@ pub returns-clause-known : goal.returns-clause-known
 returns-clause-known g c =
     let a = (goal.at.returns-clause-known g c).After-enter-turn in
     let l = turn_list (view c.enter-turn.new.pass) in
-    let v = value_of c.enter-turn.result.state in
+    let v = state_value c.enter-turn.result.state in
     let x = setting_of c.args.group.now in
     let tiles = state_tiles v _ (book l) x (its_state g a) in
     let seen = c.leave.ensures.leaves.seen ∙ ap (with_entry l) c.enter-turn.ensures.takes.none in

@@ -10,6 +10,7 @@ use Rattle.btr_load.proofs.stream.LoadedStreamJob.run.Goals as goal
 pub returns-in_default : goal.returns-in_default
 returns-in_default g c = record {
   at = c.requires.at;
+  keeps = tt;
   does = does_none c.args.hall.now c.args.session.now (λ start log low own. CommitsStream start log low c.args.self.now c.args.self.now own)
       (λ start log. works_still start log log.history c.args.self.now c.in_default.not-Committed);
 }
