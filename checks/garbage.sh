@@ -137,8 +137,15 @@ refused live --batch
 refused live --batch 0
 refused live --batch 65537
 refused live --batch 1 --batch 1
+refused live --group
+refused live --group 0
+refused live --group 65537
+refused live --group 1 --group 1
+refused live --group 1 --batch 1
+refused live --batch 1 --group 1
 refused live --blocks 64
 refused ask --batch 5
+refused load --group 5
 refused -- ask
 refused ask -- --
 refused format --Blocks 64

@@ -1,7 +1,8 @@
 #!/usr/bin/env bash
 # Scripts in eight lanes, checked against the log on the device. awk reads the log's bytes anew, by the format alone, and then looks
 # for the history that each reply belongs to: each lane reads its own writes and never goes back, and each entry of the log is that
-# of exactly one line, or of one landing beside the lanes. BTR_SOAK, if it is set, is the number of runs, which is 2 without it.
+# of exactly one line, of one batch of a shared buffer, or of one landing beside the lanes. BTR_SOAK, if it is set, is the number of runs, which
+# is 4 without it.
 # shellcheck source=checks/common.sh
 . "$(dirname "$0")/common.sh"
 
@@ -117,9 +118,10 @@ log_of() {
         NR == last { entry() }'
 }
 
-# Compares replies with a log: FIRST is the number of entries before the run, and LAST whether a last round ran.
+# Compares replies with a log: FIRST is the number of entries before the run, LAST whether a last round ran, and SHARED whether lanes shared the
+# buffers of feeds.
 compare() {
-    awk -v first="$1" -v last="$2" '
+    awk -v first="$1" -v last="$2" -v shared="$3" '
         function fail(why) { print "line " at_line " [" text "], reply [" reply "]: " why; failed = 1; exit }
         # ---- the log: of each stream its versions, with their points by time and value
         function less(t, v, u, w) { return t < u || (t == u && v < w) }
@@ -228,6 +230,52 @@ compare() {
             }
             return want
         }
+        # ---- shared buffers
+        # The line committed what waited in the buffer of stream s: the entry is that of a batch.
+        function leads(s,    e) {
+            if (r[1] != "ok" || r[3] != 0 || !((s, r[2]) in place)) fail("a commit was expected")
+            e = place[s, r[2]]
+            if (landed[e] || cuts[e] != "") fail("entry " e " is [" said[e] "]")
+            owns(e); is_batch[e] = 1
+            return e
+        }
+        # The points of the line wait with a ticket, or the line committed them with all that waited.
+        function offers(s,    k) {
+            offer++; buffer[offer] = s; many[offer] = (NW - 2) / 2
+            for (k = 3; k <= NW; k += 2) { fed[word[k + 1]] = offer; at_time[word[k + 1]] = word[k] }
+            if (r[1] != "held") { led_by[leads(s)] = offer; return }
+            if ((s, r[2]) in ticket) fail("line " ticket[s, r[2]] " has this ticket")
+            ticket[s, r[2]] = at_line; waits_with[offer] = r[2]
+        }
+        # Each batch, in the order of versions, has whole lines: those with the next tickets, and at last the one that led it. The tickets of
+        # the lines that are in no batch come after those.
+        function batches(s,    v, e, k, n, w, o, had, size) {
+            for (v = 0; v <= top[s]; v++) if (is_batch[e = place[s, v]]) {
+                n = split(puts[e], w, " ") / 2; split("", had); size = 0
+                for (k = 1; k <= n; k++) {
+                    o = fed[w[2 * k]]
+                    if (!o || buffer[o] != s || at_time[w[2 * k]] != w[2 * k - 1] || o in stored) return "entry " e " has a point that was not offered: " w[2 * k]
+                    had[o]++
+                }
+                for (o in had) {
+                    if (had[o] != many[o]) return "entry " e " has " had[o] " points of a line of " many[o]
+                    stored[o] = 1; size++
+                    if (led_by[e] == o) continue
+                    if (!(o in waits_with)) return "entry " e " has points of a line that led another batch"
+                    if (waits_with[o] < next_ticket[s]) return "ticket " waits_with[o] " is in a later batch than others"
+                    tickets_of[e, waits_with[o]] = 1
+                }
+                for (k = 0; k < size - (led_by[e] ? 1 : 0); k++) if (!((e, next_ticket[s] + k) in tickets_of)) return "entry " e " lacks ticket " next_ticket[s] + k
+                if (led_by[e] && (!(led_by[e] in had) || n < batch)) return "entry " e " has not the points of the line that led it, or too few"
+                next_ticket[s] += size
+            }
+            for (o = 1; o <= offer; o++) if (buffer[o] == s && !(o in stored)) {
+                if (!(o in waits_with) || waits_with[o] < next_ticket[s]) return "a line is in no batch"
+                dropped[s]++
+            }
+            for (k = 0; k < dropped[s]; k++) if (!((s, next_ticket[s] + k) in ticket)) return "ticket " next_ticket[s] + k " was not given"
+            return ""
+        }
         function question(s, given,    v) {
             if (r[1] == "no") {
                 if (r[2] != "version" || r[3] != given) fail("an answer was expected")
@@ -265,6 +313,7 @@ compare() {
         function look(    s, key, k, n) {
             if (word[1] == "nonsense") { if (reply != "no line") fail("no line"); return }
             if (word[1] == "streams") { list(); return }
+            if (shared && word[1] == "discard") { if (reply != "no line") fail("no line"); return }
             if (word[1] == "create") {
                 if (reply != "ok 0 0" || !(word[2] in number)) fail("a stream was to be made")
                 owns(made_at[number[word[2]]]); return
@@ -280,6 +329,8 @@ compare() {
             else if (word[1] == "refresh" && !output[s]) { if (reply != "no plain") fail("the stream is no output") }
             else if (word[1] == "refresh") refreshed(s)
             else if (output[s] && (word[1] == "feed" || word[1] == "flush")) { if (reply != "no output") fail("the stream is an output") }
+            else if (shared && word[1] == "feed") offers(s)
+            else if (shared && word[1] == "flush") { if (reply != "no busy" && reply != "no empty") leads(s) }
             else if (word[1] == "feed") {
                 waits[key] = waits[key] rest; n = split(waits[key], k0, " ") / 2
                 if (n < batch) { if (reply != "held " n) fail(n " points wait") }
@@ -304,6 +355,8 @@ compare() {
                 look()
             }
             if ((getline row <"replies") > 0) { print "a reply too many: " row; exit }
+            for (s = 0; s < 2; s++) if ((row = batches(s)) != "") { print "stream " s ": " row; exit }
+            if (shared && offer < 100) { print offer " lines with points are too few to show anything"; exit }
             for (e = first + 1; e <= E; e++) if (!owner[e] && !(landed[e] && (may_own[e] || last))) {
                 print "entry " e " is nobody\047s: " said[e]; exit
             }
@@ -313,25 +366,24 @@ compare() {
 }
 
 found=''
-for run in $(seq "${BTR_SOAK:-2}"); do
+for run in $(seq "${BTR_SOAK:-4}"); do
     rm -f device
     play device format --blocks 40000 </dev/null
     play device live <first
     log_of device >log
     before=$(grep -c . log)
     lanes "$run" >script
-    round=0
-    if [ $((run % 2)) = 0 ]; then
-        round=1
-        play device live --batch 7 --materialize <script
-    else
-        play device live --batch 7 <script
-    fi
+    words=(--batch 7)
+    shared=0
+    [ $((run % 4)) -lt 2 ] || { words=(--group 7); shared=1; }
+    round=$((1 - run % 2))
+    [ $round = 0 ] || words+=(--materialize)
+    play device live "${words[@]}" <script
     [ "$status" = 1 ] || found="run $run: status $status"
     cp out replies
     log_of device >log
-    [ -n "$found" ] || found=$(compare "$before" "$round")
-    [ -z "$found" ] || { found="run $run: $found"; break; }
+    [ -n "$found" ] || found=$(compare "$before" "$round" "$shared")
+    [ -z "$found" ] || { found="run $run, ${words[*]}: $found"; break; }
 done
 expect 'eight lanes of 500 lines have replies of one history, which is the log' "$found" ''
 

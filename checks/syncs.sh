@@ -109,3 +109,12 @@ play device live <line
 cp device changed
 wanted='syncs that failed: 3'
 failing distil changed "$(printf '0: %s 2 5/' "$other")" distil
+
+# The lines of a batch of a shared buffer have one commit.
+: >device
+play device format --blocks 64 </dev/null
+printf 'create %s\n' "$id" >line
+play device live <line
+printf 'feed %s 0 1\nfeed %s 1 2 2 3\nfeed %s 3 4\n' "$id" "$id" "$id" >script
+traced live --group 4 <script
+expect 'the calls of a batch of a shared buffer' "$(ended) $calls" "0: held 0/held 1/ok 1 0/ $open$commit"

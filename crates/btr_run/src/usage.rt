@@ -1,9 +1,10 @@
 //! What is said on standard error of words that are refused.
 
 /// The commands, with their options and numbers, as COMMANDS has them.
-const COMMANDS: [&str; 8] = [
+const COMMANDS: [&str; 9] = [
     "format --blocks N",
     "live [--materialize] [--batch B]",
+    "live --group B [--materialize]",
     "ask",
     "load [--workers K] [--batch B]",
     "distil [--workers K]",

@@ -29,3 +29,9 @@ mod ReplyLemmas
 mod LiveLineLemmas
 mod LiveAllowing
 mod LiveLemmas
+-- scripts with shared buffers
+mod BatchLemmas
+mod SharedLaneLemmas
+mod SharedAllowing
+mod SharedLemmas
+mod SharesLemmas

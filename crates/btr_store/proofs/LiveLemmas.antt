@@ -30,6 +30,11 @@ use Rattle.btr_store.specs.Live.{SaysLive, SaysScript, RunsIf, IsLastCurrent, Li
 use Rattle.btr_store.specs.LiveLines.{RunsFrom, Lives}
 use Rattle.btr_store.proofs.LiveAllowing.{live_allowed}
 
+-- What was said of a report is what is said of the script, if its text was made.
+pub says_report : (report : LiveReport) (said : Result Transcript AllocError) (log : LogState) → IfOk said (SaysLive log report) → SaysScript log (Some report) said
+says_report report (Ok transcript) log is = is
+says_report report (Err error) log is = tt
+
 -- ---- in a session
 
 module _ {D : Type 0} {disk : Ghosts D} (batch : ℕ) (materialize : Bool) (script : List ScriptLine) (hall : Hall D disk) where
@@ -43,13 +48,9 @@ module _ {D : Type 0} {disk : Ghosts D} (batch : ℕ) (materialize : Bool) (scri
         (record {
           report = Some report;
           runs = does.2 h of;
-          says = says_report said (log_seen h mid) (says h of);
+          says = says_report report said (log_seen h mid) (says h of);
         }),
   )
-    where
-      says_report : (said : Result Transcript AllocError) (log : LogState) → IfOk said (SaysLive log report) → SaysScript log (Some report) said
-      says_report (Ok transcript) log is = is
-      says_report (Err error) log is = tt
 
   -- Memory ran out before any line.
   pub lives_none : (old new : Session D disk) (error : AllocError) → new ≡ old → Does hall old new (λ start log low own. Lives batch materialize script start log low (Err error) own)
@@ -58,7 +59,7 @@ module _ {D : Type 0} {disk : Ghosts D} (batch : ℕ) (materialize : Bool) (scri
       ([], goes_none old, λ h of. record { report = None; runs = refl; says = tt })
 
 -- What was said holds of what is said in the end: the same, or that memory ran out.
-still_says : (log : LogState) (report : Option LiveReport) (said reported : Result Transcript AllocError) → IfOk reported (λ t. said ≡ Ok t) → SaysScript log report said → SaysScript log report reported
+pub still_says : (log : LogState) (report : Option LiveReport) (said reported : Result Transcript AllocError) → IfOk reported (λ t. said ≡ Ok t) → SaysScript log report said → SaysScript log report reported
 still_says log report said (Err error) is says = tt
 still_says log report said (Ok transcript) is says = subst (λ (s : Result Transcript AllocError). SaysScript log report s) is says
 

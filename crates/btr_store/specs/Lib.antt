@@ -19,5 +19,7 @@ pub mod SampleRoom
 pub mod SampleLaw
 pub mod SampleLimits
 pub mod Live
+pub mod Shared
 -- what the private functions promise
 pub mod LiveLines
+pub mod SharedLines

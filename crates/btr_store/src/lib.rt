@@ -19,6 +19,7 @@ mod load_lines;
 // the work of `live`, and its lines
 mod live;
 mod live_lines;
+mod shared_live;
 // the work of `sample`, its outputs and its lines
 mod define;
 mod sample;
@@ -42,6 +43,7 @@ pub use replies::{add_reply, no_replies};
 pub use report_line::{ReportLine, RowRefusal};
 pub use report_text::write_line;
 pub use sample::sample_store;
+pub use shared_live::share_store;
 pub use status::Status;
 pub use streams::{all_streams, id_of};
 pub use transcript::Transcript;

@@ -328,6 +328,71 @@ fn lines_that_give_a_command(rt: HostRuntime) -> Result<(), Fail> {
     all_hold(rt.alloc(), COMMANDS)
 }
 
+const GROUPS: &[Words] = &[
+    // shared buffers
+    Words(
+        &["live", "--group", "1"],
+        Some(Command::LiveGroups {
+            threshold: 1,
+            materialize: false,
+        }),
+    ),
+    Words(
+        &["live", "--group", "65536"],
+        Some(Command::LiveGroups {
+            threshold: 65536,
+            materialize: false,
+        }),
+    ),
+    Words(
+        &["live", "--group=8"],
+        Some(Command::LiveGroups {
+            threshold: 8,
+            materialize: false,
+        }),
+    ),
+    Words(
+        &["live", "--group=+08", "--"],
+        Some(Command::LiveGroups {
+            threshold: 8,
+            materialize: false,
+        }),
+    ),
+    Words(
+        &["live", "--group", "8", "--materialize"],
+        Some(Command::LiveGroups {
+            threshold: 8,
+            materialize: true,
+        }),
+    ),
+    Words(
+        &["live", "--materialize", "--group", "8"],
+        Some(Command::LiveGroups {
+            threshold: 8,
+            materialize: true,
+        }),
+    ),
+    Words(
+        &["live", "--group=8", "--materialize", "--"],
+        Some(Command::LiveGroups {
+            threshold: 8,
+            materialize: true,
+        }),
+    ),
+    Words(
+        &["live", "--materialize", "--group=8"],
+        Some(Command::LiveGroups {
+            threshold: 8,
+            materialize: true,
+        }),
+    ),
+];
+
+#[test]
+fn lines_with_shared_buffers_give_a_command(rt: HostRuntime) -> Result<(), Fail> {
+    all_hold(rt.alloc(), GROUPS)
+}
+
 const NO_COMMAND: &[Words] = &[
     // no command, or another word in its place
     Words(&[], None),
@@ -489,6 +554,63 @@ const WRONG_FLAGS: &[Words] = &[
 #[test]
 fn wrong_flags_give_none(rt: HostRuntime) -> Result<(), Fail> {
     all_hold(rt.alloc(), WRONG_FLAGS)
+}
+
+const WRONG_GROUPS: &[Words] = &[
+    // shared buffers: numbers that lack or are wrong, the option twice, in part, of another command, or beside a batch
+    Words(&["live", "--group"], None),
+    Words(&["live", "--group="], None),
+    Words(&["live", "--group", ""], None),
+    Words(&["live", "--group", "0"], None),
+    Words(&["live", "--group", "65537"], None),
+    Words(&["live", "--group=-8"], None),
+    Words(&["live", "--group", "--materialize"], None),
+    Words(&["live", "--group", "--materialize", "8"], None),
+    Words(&["live", "--group", "--", "8"], None),
+    Words(&["live", "--", "--group", "8"], None),
+    Words(&["live", "--group", "8", "8"], None),
+    Words(&["live", "--group", "8", "--", "8"], None),
+    Words(&["live", "--group", "8", "--group", "8"], None),
+    Words(&["live", "--group=8", "--group=9"], None),
+    Words(&["live", "--group", "8", "--batch", "8"], None),
+    Words(&["live", "--batch", "8", "--group", "8"], None),
+    Words(&["live", "--group=8", "--batch=8"], None),
+    Words(&["live", "--batch=4096", "--group=1"], None),
+    Words(
+        &["live", "--batch", "8", "--materialize", "--group", "8"],
+        None,
+    ),
+    Words(
+        &["live", "--group", "8", "--materialize", "--batch", "8"],
+        None,
+    ),
+    Words(
+        &["live", "--materialize", "--group", "8", "--batch", "8"],
+        None,
+    ),
+    Words(
+        &["live", "--group", "8", "--materialize", "--materialize"],
+        None,
+    ),
+    Words(&["live", "--groups", "8"], None),
+    Words(&["live", "--grou", "8"], None),
+    Words(&["live", "--g=8"], None),
+    Words(&["live", "--Group", "8"], None),
+    Words(&["live", "-group", "8"], None),
+    Words(&["live", "-g", "8"], None),
+    Words(&["live", "group", "8"], None),
+    Words(&["--group", "8", "live"], None),
+    Words(&["load", "--group", "8"], None),
+    Words(&["format", "--group", "8"], None),
+    Words(&["ask", "--group", "8"], None),
+    Words(&["distil", "--group", "8"], None),
+    Words(&["checkpoint", "--group", "8"], None),
+    Words(&["check", "--group=8"], None),
+];
+
+#[test]
+fn wrong_words_of_shared_buffers_give_none(rt: HostRuntime) -> Result<(), Fail> {
+    all_hold(rt.alloc(), WRONG_GROUPS)
 }
 
 const WRONG_NUMBERS: &[Words] = &[

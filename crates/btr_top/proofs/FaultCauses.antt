@@ -6,7 +6,7 @@ use Rattle.btr_io.specs.declared.sink.Sink.{Ghosts as SinkGhosts}
 use Rattle.btr_disk.specs.declared.disk.Disk.{Ghosts}
 use Rattle.btr_disk.specs.Causes.{Rose}
 use Rattle.btr_words.specs.declared.command.Command.{Command}
-use Rattle.btr_words.specs.declared.command.Command.TheVariants.{Format, Load, Ask, Distil, Live, Sample, Checkpoint, Check}
+use Rattle.btr_words.specs.declared.command.Command.TheVariants.{Format, Load, Ask, Distil, Live, LiveGroups, Sample, Checkpoint, Check}
 use Rattle.btr_rows.specs.Rows.{rows_of}
 use Rattle.btr_rows.specs.Streams.{list_of}
 use Rattle.btr_text.specs.Input.{questions_of, script_of}
@@ -17,6 +17,8 @@ use Rattle.btr_store.specs.declared.status.Status.TheVariants as statuses
 use Rattle.btr_store.specs.Status.{code_of}
 use Rattle.btr_store.specs.Load.{LoadsStore}
 use Rattle.btr_store.specs.Live.{LivesStore}
+use Rattle.btr_store.specs.Shared.{SharesStore}
+use Rattle.btr_top.specs.declared.live.FeedKind.TheVariants.{Own, Shared}
 use Rattle.btr_store.specs.Distil.{DistilsStore}
 use Rattle.btr_store.specs.SampleLaw.{SamplesStore}
 use Rattle.btr_top.specs.declared.ending.Ending.{Ending}
@@ -176,8 +178,11 @@ module _ {S D : Type 0} (source : SourceGhosts S) (disk : Ghosts D) (given rest 
   cause_fault None e why five = let two : status_of e ≡ 2 = ap status_of why.0 in absurd (omega (arith, two, five))
   cause_fault (Some (Format blocks)) e why five = format_fault disk old new blocks e why.1 five
   cause_fault (Some (Live batch materialize)) e why five =
-      read_fault (λ input. ScriptCause disk batch materialize (script_of input)) e
+      read_fault (λ input. ScriptCause disk (Own batch) materialize (script_of input)) e
       (λ input cause. work_fault disk old new (λ said start log own. LivesStore batch materialize (script_of input) start log said own) e cause.0) why five
+  cause_fault (Some (LiveGroups threshold materialize)) e why five =
+      read_fault (λ input. ScriptCause disk (Shared threshold) materialize (script_of input)) e
+      (λ input cause. work_fault disk old new (λ said start log own. SharesStore threshold materialize (script_of input) start log said own) e cause.0) why five
   cause_fault (Some Ask) e why five =
       read_fault (λ input. QuestionsCause disk (questions_of input)) e (λ input. asked_fault disk old new (questions_of input) e) why five
   cause_fault (Some (Load workers batch)) e why five =

@@ -33,52 +33,56 @@ use Rattle.btr_live.specs.Lanes.{Answers, LaneState, RunsLine, RunsLines}
 use Rattle.btr_live.proofs.StreamLemmas.{stream_of-longer}
 use Rattle.btr_store.specs.Completes.{IsBenign}
 use Rattle.btr_store.specs.Replies.{status_of_reply}
-use Rattle.btr_top.specs.Room.{Purpose, OfLine, OfFeeds, has_line, has_landing, LandsFor, IsAskedSince, IsOfLine, IsAtPlace, IsFeedOf, fed_by, IsFor, Service}
+use Rattle.btr_top.specs.declared.live.FeedKind.{FeedKind}
+use Rattle.btr_top.specs.Room.{Purpose, OfLine, OfFeeds, has_line, has_landing, LandsFor, IsAskedSince, IsOfLine, IsAtPlace, IsFeedOf, fed_by, due_at, IsFor, Service}
 use Rattle.btr_top.proofs.BenignStatuses.{benign_meaning, along}
 use Rattle.btr_top.proofs.ServiceLemmas.{counted, lines_had, landings_had, up_to, up_to_least, up_to_sum, up_to_above, Above, above_lower, above_append, Served, served_append}
 use Rattle.btr_top.proofs.PlaceLemmas.{AtPlaces}
 use Rattle.btr_top.proofs.LineTurns.{Lands, WasFull, WasAdded, WasRefused, Turned, offered_turn}
 use Rattle.btr_top.proofs.LineEntries.{on_found, asked_only, entry_is, asked_feed, asked_flush, IsOfOutput, asked_refresh}
-use Rattle.btr_top.proofs.WaitingPlaces.{Pending, waits_for, of_stream, others, split_sum, feed_longer, feeds_of, each_snoc, Waits, waits_longer, waits_same, waits_drop, points_more, waits_push}
+use Rattle.btr_top.proofs.WaitingPlaces.{Pending, waits_for, of_stream, others, split_sum, feed_longer, feeds_of, each_snoc, Waits, waits_longer, waits_same, waits_drop, points_more, waits_push, feeds_of_lane}
 
 abbrev pub AreBenign : List LineReply → Type 0
 AreBenign all = AllByRecursion (λ (reply : LineReply). IsBenign (status_of_reply reply)) all
 
-module _ (batch rounds : ℕ) (script : List ScriptLine) (start : StoreState) (log : LogState) (running : start.stopped ≡ false) (sound : log.failed ≡ None) (follows : Follows log.history) (low : List Entry) where
+module _ (feeds : FeedKind) (rounds : ℕ) (script : List ScriptLine) (start : StoreState) (log : LogState) (running : start.stopped ≡ false) (sound : log.failed ≡ None) (follows : Follows log.history) (low : List Entry) where
+  abbrev batch : ℕ
+  batch = due_at feeds
+
   -- An entry was refused after `p` because the device was full, and it would have been there for this.
   pub record Refusal (p : List Entry) (e : Entry) (purpose : Purpose) : Type 0 where
     pub starts : StartsWith log.history p
     pub since : StartsWith p low
     pub accepted : rejection p e ≡ None
-    pub is_for : IsFor batch rounds script low p e purpose
+    pub is_for : IsFor feeds rounds script low p e purpose
     pub need : ℕ
     pub left : ℕ
     pub full : IsFull start p e need left
 
   abbrev Here : Service → Type 0
-  Here s = Served batch rounds script low log.history s
+  Here s = Served feeds rounds script low log.history s
 
   abbrev LandsHere : List Entry → Entry → Type 0
   LandsHere p e = Lands start log running sound follows low p e
 
-  abbrev NoLanding : Purpose → Type 0
+  abbrev pub NoLanding : Purpose → Type 0
   NoLanding purpose = (round output : ℕ) → has_landing round output purpose ≡ 0
 
   -- ---- one line
 
   -- What a line did, at this place of the script, in a lane in which these places waited. A refusal for lack of room is excluded if no
   -- entry could have been refused.
-  record LineServes (lane place : ℕ) (old : LaneState) (pending : List Pending) (reply : LineReply) (own : List ℕ) (new : LaneState) : Type 0 where
-    waiting : List Pending
-    services : List Service
-    waits : Waits script new.history lane waiting new.waiting
-    longer : StartsWith new.history old.history
-    numbers : (n : ℕ) → counted n services ≡ times n own
-    are : AllByRecursion Here services
-    above : Above (length old.history) services
-    lines : (k : ℕ) → lines_had k services + waits_for k waiting ≤ waits_for k pending + one (place == k)
-    landings : (round output : ℕ) → landings_had round output services ≡ 0
-    benign : ((p : List Entry) (e : Entry) (purpose : Purpose) → Refusal p e purpose → NoLanding purpose → StartsWith p old.history → StartsWith new.history p
+  pub record LineServes (lane place : ℕ) (old : LaneState) (pending : List Pending) (reply : LineReply) (own : List ℕ) (new : LaneState) : Type 0 where
+    pub waiting : List Pending
+    pub services : List Service
+    pub waits : Waits script new.history lane waiting new.waiting
+    pub longer : StartsWith new.history old.history
+    pub numbers : (n : ℕ) → counted n services ≡ times n own
+    pub are : AllByRecursion Here services
+    pub above : Above (length old.history) services
+    pub lines : (k : ℕ) → lines_had k services + waits_for k waiting ≤ waits_for k pending + one (place == k)
+    pub landings : (round output : ℕ) → landings_had round output services ≡ 0
+    pub benign : ((p : List Entry) (e : Entry) (purpose : Purpose) → Refusal p e purpose → NoLanding purpose → StartsWith p old.history → StartsWith new.history p
         → ((k : ℕ) → has_line k purpose + lines_had k services ≤ waits_for k pending + one (place == k)) → ⊥) → IsBenign (status_of_reply reply)
 
   module _ (lane place : ℕ) (old : LaneState) (pending : List Pending) (a : List Entry) (reply : LineReply) (own : List ℕ) (new : LaneState) (after : StartsWith a old.history) (since : StartsWith a low) where
@@ -97,7 +101,7 @@ module _ (batch rounds : ℕ) (script : List ScriptLine) (start : StoreState) (l
       benign = λ never. benign;
     }
 
-    module _ (e : Entry) (purpose : Purpose) (spent kept : List Pending) (is_for : (p : List Entry) → StartsWith p a → LandsHere p e → IsFor batch rounds script low p e purpose) (none : NoLanding purpose) (fewer : (k : ℕ) → has_line k purpose + waits_for k spent ≤ waits_for k pending + one (place == k)) (kept_fewer : (k : ℕ) → waits_for k kept ≤ waits_for k pending + one (place == k)) (waits_spent : (version : ℕ) → reply ≡ Done version → Waits script a lane spent new.waiting) (waits_kept : (reason : Reason) → reply ≡ No reason → Waits script a lane kept new.waiting) where
+    module _ (e : Entry) (purpose : Purpose) (spent kept : List Pending) (is_for : (p : List Entry) → StartsWith p a → LandsHere p e → IsFor feeds rounds script low p e purpose) (none : NoLanding purpose) (fewer : (k : ℕ) → has_line k purpose + waits_for k spent ≤ waits_for k pending + one (place == k)) (kept_fewer : (k : ℕ) → waits_for k kept ≤ waits_for k pending + one (place == k)) (waits_spent : (version : ℕ) → reply ≡ Done version → Waits script a lane spent new.waiting) (waits_kept : (reason : Reason) → reply ≡ No reason → Waits script a lane kept new.waiting) where
       added_serves : WasAdded start log running sound follows low a e reply own new.history → LineServes lane place old pending reply own new
       added_serves was =
           let s : Service = record { number = length was.p + 1; purpose = purpose } in
@@ -155,7 +159,7 @@ module _ (batch rounds : ℕ) (script : List ScriptLine) (start : StoreState) (l
 
     -- An entry for this line alone.
     module _ (turned_for : (e : Entry) → Means batch a w line (Commits e) → (p : List Entry) → StartsWith p a → LandsHere p e → IsOfLine batch low p e line) where
-      line_for : (e : Entry) → Means batch a w line (Commits e) → (p : List Entry) → StartsWith p a → LandsHere p e → IsFor batch rounds script low p e (OfLine place)
+      line_for : (e : Entry) → Means batch a w line (Commits e) → (p : List Entry) → StartsWith p a → LandsHere p e → IsFor feeds rounds script low p e (OfLine place)
       line_for e means p starts lands = subst (λ (o : Option ScriptLine). IsAtPlace batch low p e o) (sym at_place) (turned_for e means p starts lands)
 
       -- A line that changes no feed.
@@ -181,7 +185,7 @@ module _ (batch rounds : ℕ) (script : List ScriptLine) (start : StoreState) (l
 
     -- A line that changes the feed of a stream, which has then all these points. The places that wait are `held` if the points are kept,
     -- and `kept` if a commit of all is refused.
-    module _ (stream : ℕ) (all : List Point) (held kept : List Pending) (used : List ℕ) (waits_held : Waits script a lane held (with_points stream all w)) (fewer_held : (k : ℕ) → waits_for k held ≤ waits_for k pending + one (place == k)) (waits_kept : Waits script a lane kept (with_points stream (sort all) w)) (fewer_kept : (k : ℕ) → waits_for k kept ≤ waits_for k pending + one (place == k)) (fewer_used : (k : ℕ) → times k used + waits_for k (others stream pending) ≤ waits_for k pending + one (place == k)) (feeds_for : (e : Entry) → Means batch a w line (Commits e) → (p : List Entry) → StartsWith p a → LandsHere p e → IsFor batch rounds script low p e (OfFeeds used)) where
+    module _ (stream : ℕ) (all : List Point) (held kept : List Pending) (used : List ℕ) (waits_held : Waits script a lane held (with_points stream all w)) (fewer_held : (k : ℕ) → waits_for k held ≤ waits_for k pending + one (place == k)) (waits_kept : Waits script a lane kept (with_points stream (sort all) w)) (fewer_kept : (k : ℕ) → waits_for k kept ≤ waits_for k pending + one (place == k)) (fewer_used : (k : ℕ) → times k used + waits_for k (others stream pending) ≤ waits_for k pending + one (place == k)) (feeds_for : (e : Entry) → Means batch a w line (Commits e) → (p : List Entry) → StartsWith p a → LandsHere p e → IsFor feeds rounds script low p e (OfFeeds used)) where
       before_same : new.waiting ≡ with_points stream (w stream) w → Waits script a lane pending new.waiting
       before_same same = subst (λ (v : Waiting). Waits script a lane pending v) (sym same) (waits_same script a lane pending w waits stream (w stream) refl)
 
@@ -234,8 +238,8 @@ module _ (batch rounds : ℕ) (script : List ScriptLine) (start : StoreState) (l
         F : ℕ → Meaning
         F s = if_plain (is_output a s) (feed batch s (v s) added)
 
-        feeds : (stream : ℕ) → stream_of a id ≡ Some stream → IsFeedOf script a lane stream place
-        feeds stream some = record { id = id; added = added; line = at_place; same_stream = some }
+        is_feed : (stream : ℕ) → stream_of a id ≡ Some stream → IsFeedOf script a lane stream place
+        is_feed stream some = record { id = id; added = added; line = at_place; same_stream = some }
 
         fed_is : fed_by (slice_get script place) ≡ added
         fed_is = ap (λ (o : Option ScriptLine). fed_by o) at_place
@@ -249,16 +253,16 @@ module _ (batch rounds : ℕ) (script : List ScriptLine) (start : StoreState) (l
         used : (stream k : ℕ) → times k (of_stream stream pending ++ place ∷ []) + waits_for k (others stream pending) ≤ waits_for k pending + one (place == k)
         used stream k = let s = split_sum stream k pending in let t = times_append k (of_stream stream pending) (place ∷ []) in omega (arith, s, t)
 
-        entry_for : (stream : ℕ) → stream_of a id ≡ Some stream → (e : Entry) → Means batch a v line (Commits e) → (p : List Entry) → StartsWith p a → LandsHere p e → IsFor batch rounds script low p e (OfFeeds (of_stream stream pending ++ place ∷ []))
+        entry_for : (stream : ℕ) → stream_of a id ≡ Some stream → (e : Entry) → Means batch a v line (Commits e) → (p : List Entry) → StartsWith p a → LandsHere p e → IsFor feeds rounds script low p e (OfFeeds (of_stream stream pending ++ place ∷ []))
         entry_for stream some e asked p starts lands =
             let P : Entry → Type 0 = λ x. x ≡ entries.Commit stream [] (sort (v stream ++ added)) in
             let is : e ≡ entries.Commit stream [] (sort (v stream ++ added)) =
             entry_is P (on_stream (Some stream) F) e (asked_only batch a v line e asked ∙ ap (λ o. on_stream o F) some) (asked_feed batch a stream (v stream) added) in
             let at_p = waits_longer script a lane pending v waits p starts in
-            record {
+            feeds_of_lane feeds script p e (of_stream stream pending ++ place ∷ []) record {
               lane = lane;
               stream = stream;
-              are = each_snoc script (IsFeedOf script p lane stream) (of_stream stream pending) place (feeds_of script p lane stream pending at_p.are) (feed_longer script p a lane stream place starts (feeds stream some));
+              are = each_snoc script (IsFeedOf script p lane stream) (of_stream stream pending) place (feeds_of script p lane stream pending at_p.are) (feed_longer script p a lane stream place starts (is_feed stream some));
               commits = is ∙ ap (λ points. entries.Commit stream [] points) (points_more script a lane pending v waits stream place added fed_is);
             }
 
@@ -270,8 +274,8 @@ module _ (batch rounds : ℕ) (script : List ScriptLine) (start : StoreState) (l
         by (Some stream) some =
             let all : List Point = v stream ++ added in
             feed_serves lane place old pending line reply own new a after since at_place waits stream all (more stream) (more stream) (of_stream stream pending ++ place ∷ [])
-            (waits_push script a lane pending v waits stream place added all (feeds stream some) fed_is refl) (fewer stream)
-            (waits_push script a lane pending v waits stream place added (sort all) (feeds stream some) fed_is (sort-sort all)) (fewer stream)
+            (waits_push script a lane pending v waits stream place added all (is_feed stream some) fed_is refl) (fewer stream)
+            (waits_push script a lane pending v waits stream place added (sort all) (is_feed stream some) fed_is (sort-sort all)) (fewer stream)
             (used stream) (entry_for stream some) m means answers
             (same ∙ ap (λ (o : Option ℕ). waiting_after v (option_map (λ s. (s, v s ++ added)) o) m reply) some)
 
@@ -287,13 +291,13 @@ module _ (batch rounds : ℕ) (script : List ScriptLine) (start : StoreState) (l
         used : (stream k : ℕ) → times k (of_stream stream pending) + waits_for k (others stream pending) ≤ waits_for k pending + one (place == k)
         used stream k = let s = split_sum stream k pending in omega (arith, s)
 
-        entry_for : (stream : ℕ) → stream_of a id ≡ Some stream → (e : Entry) → Means batch a v line (Commits e) → (p : List Entry) → StartsWith p a → LandsHere p e → IsFor batch rounds script low p e (OfFeeds (of_stream stream pending))
+        entry_for : (stream : ℕ) → stream_of a id ≡ Some stream → (e : Entry) → Means batch a v line (Commits e) → (p : List Entry) → StartsWith p a → LandsHere p e → IsFor feeds rounds script low p e (OfFeeds (of_stream stream pending))
         entry_for stream some e asked p starts lands =
             let P : Entry → Type 0 = λ x. x ≡ entries.Commit stream [] (sort (v stream)) in
             let is : e ≡ entries.Commit stream [] (sort (v stream)) =
             entry_is P (on_stream (Some stream) F) e (asked_only batch a v line e asked ∙ ap (λ o. on_stream o F) some) (asked_flush a stream (v stream)) in
             let at_p = waits_longer script a lane pending v waits p starts in
-            record {
+            feeds_of_lane feeds script p e (of_stream stream pending) record {
               lane = lane;
               stream = stream;
               are = feeds_of script p lane stream pending at_p.are;
@@ -399,7 +403,7 @@ module _ (batch rounds : ℕ) (script : List ScriptLine) (start : StoreState) (l
         plain_serves lane place old pending line reply own new a after since at_place waits
         (λ e asked p starts lands. asked_for line e (asked_only batch a v line e asked) p starts) m means answers same
 
-  line_serves : (lane place : ℕ) (old : LaneState) (pending : List Pending) (line : Option Line) (reply : LineReply) (own : List ℕ) (new : LaneState) → StartsWith old.history low → slice_get script place ≡ Some (record { lane = lane; line = line }) → Waits script old.history lane pending old.waiting → RunsLine batch start log old line reply own new → LineServes lane place old pending reply own new
+  pub line_serves : (lane place : ℕ) (old : LaneState) (pending : List Pending) (line : Option Line) (reply : LineReply) (own : List ℕ) (new : LaneState) → StartsWith old.history low → slice_get script place ≡ Some (record { lane = lane; line = line }) → Waits script old.history lane pending old.waiting → RunsLine batch start log old line reply own new → LineServes lane place old pending reply own new
   line_serves lane place old pending line reply own new begins at_place waits is =
       by_line lane place old pending reply own new is.admitted is.after (starts_trans is.admitted old.history low is.after begins)
       (waits_longer script old.history lane pending old.waiting waits is.admitted is.after)
@@ -445,7 +449,7 @@ module _ (batch rounds : ℕ) (script : List ScriptLine) (start : StoreState) (l
             let later = rest.numbers n in
             let same : times n own ≡ times n (is.0 ++ is.1) = ap (times n) is.3 in
             omega (arith, sum, here, later, same, times_append n is.0 is.1);
-        are = served_append batch rounds script low log.history first.services rest.services first.are rest.are;
+        are = served_append feeds rounds script low log.history first.services rest.services first.are rest.are;
         above = above_append (length old.history) first.services rest.services first.above (above_lower (length old.history) (length next.history) rest.services grown rest.above);
         lines = λ k.
             let sum = total_append (λ (s : Service). has_line k s.purpose) first.services rest.services in

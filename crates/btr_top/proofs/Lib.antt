@@ -22,6 +22,12 @@ mod PlaceLemmas
 mod HistoriesFit
 mod PartyServes
 mod RunFits
+mod Gifts
+mod BookPlaces
+mod BatchServes
+mod OfferLines
+mod SharedLaneServes
+mod SharedFits
 mod ScriptFits
 mod PlainStatuses
 mod StoreCompletes

@@ -34,7 +34,7 @@ use Rattle.btr_top.specs.Room.{LandsFor}
 use Rattle.btr_top.proofs.BenignStatuses.{benign_rejection, along}
 
 module _ (start : StoreState) (log : LogState) (running : start.stopped ≡ false) (sound : log.failed ≡ None) (follows : Follows log.history) (low : List Entry) where
-  not_stopped : (start.stopped || is_some log.failed) ≡ true → ⊥
+  pub not_stopped : (start.stopped || is_some log.failed) ≡ true → ⊥
   not_stopped stopped =
       let never : (start.stopped || is_some log.failed) ≡ false = ap (λ b. b || is_some log.failed) running ∙ ap (λ (o : Option Entry). is_some o) sound in
       both (start.stopped || is_some log.failed) never stopped

@@ -13,12 +13,13 @@ use Rattle.btr_jobs.specs.TurnLaws.{goes_trans}
 use Rattle.btr_load.proofs.TotalLemmas.{total_append}
 use Rattle.btr_text.specs.declared.script.ScriptLine.{ScriptLine}
 use Rattle.btr_live.specs.Rounds.{MakesRound, MakesRounds}
+use Rattle.btr_top.specs.declared.live.FeedKind.{FeedKind}
 use Rattle.btr_top.specs.Room.{has_line, has_landing, Service}
 use Rattle.btr_top.proofs.ServiceLemmas.{counted, lines_had, landings_had, Served, served_append}
 use Rattle.btr_top.proofs.RoundServes.{RoundServes, no_round, any_round}
 use Rattle.btr_top.proofs.HistoriesFit.{PartiesServe, no_party}
 
-module _ (batch rounds : ℕ) (script : List ScriptLine) (start : StoreState) (log : LogState) (running : start.stopped ≡ false) (sound : log.failed ≡ None) (follows : Follows log.history) (begins : StartsWith log.history start.history) where
+module _ (feeds : FeedKind) (rounds : ℕ) (script : List ScriptLine) (start : StoreState) (log : LogState) (running : start.stopped ≡ false) (sound : log.failed ≡ None) (follows : Follows log.history) (begins : StartsWith log.history start.history) where
   abbrev low : List Entry
   low = start.history
 
@@ -26,18 +27,18 @@ module _ (batch rounds : ℕ) (script : List ScriptLine) (start : StoreState) (l
   record RoundsServe (count : ℕ) (own : List ℕ) : Type 0 where
     services : List Service
     numbers : (n : ℕ) → counted n services ≡ times n own
-    are : AllByRecursion (Served batch rounds script low log.history) services
+    are : AllByRecursion (Served feeds rounds script low log.history) services
     no_line : (k : ℕ) → lines_had k services ≡ 0
     landings : (r output : ℕ) → landings_had r output services ≤ 1
     not_last : (output : ℕ) → landings_had 0 output services ≡ 0
     not_later : (r output : ℕ) → count < r → landings_had r output services ≡ 0
 
   abbrev OneRound : ℕ → List ℕ → Type 0
-  OneRound round own = RoundServes batch rounds script start log running sound follows low round (λ o. 1) (Unit {0}) own
+  OneRound round own = RoundServes feeds rounds script start log running sound follows low round (λ o. 1) (Unit {0}) own
 
   round_made : (round : ℕ) → round < rounds → (late : LogState) (known : List Entry) (own : List ℕ) → GoesOn start log late → StartsWith known low → MakesRound start late known own → OneRound round own
-  round_made round is_round late known own on after (inl made) = any_round batch rounds script start log running sound follows low round is_round late known made.0 own on after made.1
-  round_made round is_round late known own on after (inr none) = no_round batch rounds script start log running sound follows low round own none
+  round_made round is_round late known own on after (inl made) = any_round feeds rounds script start log running sound follows low round is_round late known made.0 own on after made.1
+  round_made round is_round late known own on after (inr none) = no_round feeds rounds script start log running sound follows low round own none
 
   rounds_serve : (count : ℕ) → count < rounds → (late : LogState) (known : List Entry) (own : List ℕ) → GoesOn start log late → StartsWith known low → MakesRounds start count known late own → RoundsServe count own
   rounds_serve zero are_rounds late known own on after made = record {
@@ -61,7 +62,7 @@ module _ (batch rounds : ℕ) (script : List ScriptLine) (start : StoreState) (l
             let g = rest.numbers n in
             let t = made.7 n in
             omega (arith, s, f, g, t);
-        are = served_append batch rounds script low log.history first.services rest.services first.are rest.are;
+        are = served_append feeds rounds script low log.history first.services rest.services first.are rest.are;
         no_line = λ k.
             let s = total_append (λ (x : Service). has_line k x.purpose) first.services rest.services in
             let f = first.no_line k in
@@ -93,9 +94,9 @@ module _ (batch rounds : ℕ) (script : List ScriptLine) (start : StoreState) (l
       }
 
   -- At most one party was beside the lanes.
-  pub party_serves : (count : ℕ) → count < rounds → (late : LogState) (beside : List (List ℕ)) → GoesOn start log late → length beside ≤ 1 → ((k : ℕ) → MakesRounds start count low late (slice_index_or beside k [])) → (own : List ℕ) × PartiesServe batch rounds script start log running sound follows begins own × ((n : ℕ) → times n own ≡ total (times n) beside)
+  pub party_serves : (count : ℕ) → count < rounds → (late : LogState) (beside : List (List ℕ)) → GoesOn start log late → length beside ≤ 1 → ((k : ℕ) → MakesRounds start count low late (slice_index_or beside k [])) → (own : List ℕ) × PartiesServe feeds rounds script start log running sound follows begins own × ((n : ℕ) → times n own ≡ total (times n) beside)
   party_serves count are_rounds late [] on one_party made =
-      ([], no_party batch rounds script start log running sound follows begins, λ n. refl)
+      ([], no_party feeds rounds script start log running sound follows begins, λ n. refl)
   party_serves count are_rounds late (own ∷ []) on one_party made =
       let is = rounds_serve count are_rounds late low own on (starts_refl low) (made 0) in
       (own, record { services = is.services; numbers = is.numbers; are = is.are; no_line = is.no_line; landings = is.landings; not_last = is.not_last }, λ n. omega arith)

@@ -14,7 +14,7 @@ abbrev pub sum_to : (ℕ → ℕ) → ℕ → ℕ
 sum_to f zero = 0
 sum_to f (suc k) = f 0 + sum_to (λ j. f (suc j)) k
 
-sum_least : (f g : ℕ → ℕ) → ((j : ℕ) → f j ≤ g j) → (k : ℕ) → sum_to f k ≤ sum_to g k
+pub sum_least : (f g : ℕ → ℕ) → ((j : ℕ) → f j ≤ g j) → (k : ℕ) → sum_to f k ≤ sum_to g k
 sum_least f g least zero = omega arith
 sum_least f g least (suc k) =
     let here = least 0 in
@@ -46,7 +46,7 @@ sum_same f g same (suc k) =
     let rest = sum_same (λ j. f (suc j)) (λ j. g (suc j)) (λ j. same (suc j)) k in
     omega (arith, here, rest)
 
-sum_both : (f g h : ℕ → ℕ) → ((j : ℕ) → f j ≡ g j + h j) → (k : ℕ) → sum_to f k ≡ sum_to g k + sum_to h k
+pub sum_both : (f g h : ℕ → ℕ) → ((j : ℕ) → f j ≡ g j + h j) → (k : ℕ) → sum_to f k ≡ sum_to g k + sum_to h k
 sum_both f g h sum zero = refl
 sum_both f g h sum (suc k) =
     let here = sum 0 in
@@ -54,7 +54,7 @@ sum_both f g h sum (suc k) =
     omega (arith, here, rest)
 
 -- Something at one place alone.
-sum_one : (f : ℕ → ℕ) (at most k : ℕ) → f at ≤ most → ((j : ℕ) → (at ≡ j → ⊥) → f j ≡ 0) → sum_to f k ≤ most
+pub sum_one : (f : ℕ → ℕ) (at most k : ℕ) → f at ≤ most → ((j : ℕ) → (at ≡ j → ⊥) → f j ≡ 0) → sum_to f k ≤ most
 sum_one f at most zero here other = omega arith
 sum_one f zero most (suc k) here other =
     let rest = sum_none (λ j. f (suc j)) (λ j. other (suc j) (λ same. absurd (omega (arith, same)))) k in

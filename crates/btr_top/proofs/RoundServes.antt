@@ -30,6 +30,7 @@ use Rattle.btr_work.proofs.MemberLemmas.{IsIn, Distinct, IsInAny, Graded, groups
 use Rattle.btr_store.specs.Completes.{IsBenign}
 use Rattle.btr_store.specs.Status.{status_of_reason}
 use Rattle.btr_live.specs.Reasons.{reason_of_landing}
+use Rattle.btr_top.specs.declared.live.FeedKind.{FeedKind}
 use Rattle.btr_top.specs.Room.{OfRound, has_line, has_landing, LandsFor, Service}
 use Rattle.btr_top.proofs.ServiceLemmas.{counted, lines_had, landings_had, Served, served_append}
 use Rattle.btr_top.proofs.LineTurns.{not_failed, current_plan, plan_here, lands_here}
@@ -112,9 +113,9 @@ landing_here round output o = ap (λ b. one (b && output == o)) (eq-eqb round ro
 pub landing_elsewhere : (round r output o : ℕ) → r ≢ round → has_landing r o (OfRound round output) ≡ 0
 landing_elsewhere round r output o differs = ap (λ b. one (b && output == o)) (ne_eqb round r (λ same. differs (sym same)))
 
-module _ (batch rounds : ℕ) (script : List ScriptLine) (start : StoreState) (log : LogState) (running : start.stopped ≡ false) (sound : log.failed ≡ None) (follows : Follows log.history) (low : List Entry) (round : ℕ) where
+module _ (feeds : FeedKind) (rounds : ℕ) (script : List ScriptLine) (start : StoreState) (log : LogState) (running : start.stopped ≡ false) (sound : log.failed ≡ None) (follows : Follows log.history) (low : List Entry) (round : ℕ) where
   abbrev Here : Service → Type 0
-  Here s = Served batch rounds script low log.history s
+  Here s = Served feeds rounds script low log.history s
 
   -- What a part of a round did. `most` says how often it may land each output. It is calm if no landing could have been refused.
   pub record RoundServes (most : ℕ → ℕ) (Calm : Type 0) (own : List ℕ) : Type 0 where
@@ -124,7 +125,7 @@ module _ (batch rounds : ℕ) (script : List ScriptLine) (start : StoreState) (l
     pub no_line : (k : ℕ) → lines_had k services ≡ 0
     pub landings : (output : ℕ) → landings_had round output services ≤ most output
     pub no_other : (r output : ℕ) → r ≢ round → landings_had r output services ≡ 0
-    pub calm : ((p : List Entry) (e : Entry) (output : ℕ) → Refusal batch rounds script start log running sound follows low p e (OfRound round output)
+    pub calm : ((p : List Entry) (e : Entry) (output : ℕ) → Refusal feeds rounds script start log running sound follows low p e (OfRound round output)
         → ((o : ℕ) → one (output == o) + landings_had round o services ≤ most o) → ⊥) → Calm
 
   none_serves : (Calm : Type 0) (own : List ℕ) → Calm → ((n : ℕ) → times n own ≡ 0) → RoundServes (λ o. 0) Calm own
@@ -158,7 +159,7 @@ module _ (batch rounds : ℕ) (script : List ScriptLine) (start : StoreState) (l
         let g = other_part.numbers n in
         let t = sum n in
         omega (arith, s, f, g, t);
-    are = served_append batch rounds script low log.history one_part.services other_part.services one_part.are other_part.are;
+    are = served_append feeds rounds script low log.history one_part.services other_part.services one_part.are other_part.are;
     no_line = λ k.
         let s = total_append (λ (x : Service). has_line k x.purpose) one_part.services other_part.services in
         let f = one_part.no_line k in

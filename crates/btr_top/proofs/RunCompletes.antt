@@ -6,10 +6,11 @@ use Rattle.btr_io.specs.Faults.{Rose as StreamRose}
 use Rattle.btr_disk.specs.declared.disk.Disk.{Ghosts}
 use Rattle.btr_disk.specs.Causes.{Rose}
 use Rattle.btr_words.specs.declared.command.Command.{Command}
-use Rattle.btr_words.specs.declared.command.Command.TheVariants.{Format, Load, Ask, Distil, Live, Sample, Checkpoint, Check}
+use Rattle.btr_words.specs.declared.command.Command.TheVariants.{Format, Load, Ask, Distil, Live, LiveGroups, Sample, Checkpoint, Check}
 use Rattle.btr_open.specs.Laws.{HeldIsSound, OneHistoryIsHeld}
 use Rattle.btr_top.specs.declared.ending.Ending.{Ending}
 use Rattle.btr_top.specs.Ending.{status_of}
+use Rattle.btr_top.specs.declared.live.FeedKind.TheVariants.{Own, Shared}
 use Rattle.btr_top.specs.Run.{Cause, RunCause, CanRun, IsPlainStatus}
 use Rattle.btr_top.proofs.LiveCompletes.{benign_live}
 use Rattle.btr_top.proofs.AskCompletes.{benign_ask}
@@ -22,7 +23,9 @@ module _ {S D : Type 0} (source : SourceGhosts S) (disk : Ghosts D) (given rest 
   plain_cause None can e why = absurd can
   plain_cause (Some (Format blocks)) can e why = absurd can
   plain_cause (Some (Live batch materialize)) can e why =
-      benign_live source disk batch materialize given rest old new sound one can source_reported reported source_works device_works e why
+      benign_live source disk (Own batch) materialize given rest old new sound one can source_reported reported source_works device_works e why
+  plain_cause (Some (LiveGroups threshold materialize)) can e why =
+      benign_live source disk (Shared threshold) materialize given rest old new sound one can source_reported reported source_works device_works e why
   plain_cause (Some Ask) can e why =
       benign_ask source disk given rest old new sound can source_reported reported source_works device_works e why
   plain_cause (Some (Load workers batch)) can e why =

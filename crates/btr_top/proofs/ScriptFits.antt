@@ -39,10 +39,12 @@ use Rattle.btr_text.specs.declared.script.ScriptLine.{ScriptLine}
 use Rattle.btr_text.specs.declared.reply.Reason.TheVariants as reasons
 use Rattle.btr_live.specs.Feeds.{none_waiting}
 use Rattle.btr_live.specs.Meaning.{Meaning, Commits, Asks, Holds, Refuses, delete, on_second, meaning}
-use Rattle.btr_top.specs.Room.{Purpose, OfLine, OfFeeds, OfRound, has_line, IsOfLine, IsAtPlace, IsAskedSince, fed_by, points_fed, IsFeedOf, CommitsFeeds, IsFor, Service, IsServed}
+use Rattle.btr_top.specs.declared.live.FeedKind.{FeedKind}
+use Rattle.btr_top.specs.Room.{Purpose, OfLine, OfFeeds, OfRound, has_line, IsOfLine, IsAtPlace, IsAskedSince, fed_by, points_fed, IsFeedOf, CommitsShared, due_at, IsFor, Service, IsServed}
 use Rattle.btr_top.specs.Room.{blocks_of_points, most_blocks, IsNoRefresh, ScriptFits}
 use Rattle.btr_top.proofs.LineEntries.{Asked, on_found, entry_is}
 use Rattle.btr_top.proofs.PlaceLemmas.{places_from}
+use Rattle.btr_top.proofs.WaitingPlaces.{feeds_of_lanes}
 
 -- ---- the entry of a line
 
@@ -200,31 +202,35 @@ module _ (script : List ScriptLine) where
   cost (OfFeeds places) = total at places
   cost (OfRound round output) = 0
 
+  -- The line with this place adds points to a feed that some lane has for the stream.
+  abbrev IsOfAnyLane : List Entry → ℕ → ℕ → Type 0
+  IsOfAnyLane p stream place = (lane : ℕ) × IsFeedOf script p lane stream place
+
   feed_cost : (p : List Entry) (lane stream place : ℕ) → IsFeedOf script p lane stream place → blocks_of_points (length (fed_by (slice_get script place))) ≡ at place
   feed_cost p lane stream place is =
       ap (λ (o : Option ScriptLine). blocks_of_points (length (fed_by o))) is.line ∙ sym (ap most_of is.line)
 
-  feeds_cost : (p : List Entry) (lane stream place : ℕ) (places : List ℕ) → AllByRecursion (IsFeedOf script p lane stream) (place ∷ places) → blocks_of_points (length (points_fed script (place ∷ places))) ≤ total at (place ∷ places)
-  feeds_cost p lane stream place [] are =
-      let here = feed_cost p lane stream place are.0 in
+  feeds_cost : (p : List Entry) (stream place : ℕ) (places : List ℕ) → AllByRecursion (IsOfAnyLane p stream) (place ∷ places) → blocks_of_points (length (points_fed script (place ∷ places))) ≤ total at (place ∷ places)
+  feeds_cost p stream place [] are =
+      let here = feed_cost p are.0.0 stream place are.0.1 in
       let long = length-append (fed_by (slice_get script place)) [] in
       omega (arith, here, long)
-  feeds_cost p lane stream place (next ∷ places) are =
-      let here = feed_cost p lane stream place are.0 in
-      let rest = feeds_cost p lane stream next places are.1 in
+  feeds_cost p stream place (next ∷ places) are =
+      let here = feed_cost p are.0.0 stream place are.0.1 in
+      let rest = feeds_cost p stream next places are.1 in
       let long = length-append (fed_by (slice_get script place)) (points_fed script (next ∷ places)) in
       let sum = sum_of_points (length (fed_by (slice_get script place))) (length (points_fed script (next ∷ places))) in
       let whole : blocks_of_points (length (points_fed script (place ∷ next ∷ places))) ≡ blocks_of_points (length (fed_by (slice_get script place)) + length (points_fed script (next ∷ places))) = ap blocks_of_points long in
       omega (arith, here, rest, sum, whole)
 
-  feeds_least : (p : List Entry) (e : Entry) (places : List ℕ) → rejection p e ≡ None → CommitsFeeds script p e places → most_need_of e ≤ total at places
+  feeds_least : (p : List Entry) (e : Entry) (places : List ℕ) → rejection p e ≡ None → CommitsShared script p e places → most_need_of e ≤ total at places
   feeds_least p e [] accepted is = absurd (not_empty p is.stream (sym (ap (rejection p) is.commits) ∙ accepted))
   feeds_least p e (place ∷ places) accepted is =
       let points : List Point = points_fed script (place ∷ places) in
       let same : most_need_of e ≡ most_need_of (entries.Commit is.stream [] (sort points)) = ap most_need_of is.commits in
       let need = least_insert is.stream (sort points) in
       let long : blocks_of_points (length (sort points)) ≡ blocks_of_points (length points) = ap blocks_of_points (length-sort points) in
-      let least = feeds_cost p is.lane is.stream place places is.are in
+      let least = feeds_cost p is.stream place places is.are in
       omega (arith, same, need, long, least)
 
   plain_at : (ls : List ScriptLine) (k : ℕ) (line : ScriptLine) → AllByRecursion (λ (l : ScriptLine). IsNoRefresh l.line) ls → slice_get ls k ≡ Some line → IsNoRefresh line.line
@@ -235,17 +241,20 @@ module _ (script : List ScriptLine) where
       some_same a b same = cc
   plain_at (l ∷ ls) (suc k) line plain is = plain_at ls k line plain.1 is
 
-  module _ (batch : ℕ) (plain : AllByRecursion (λ (line : ScriptLine). IsNoRefresh line.line) script) (low h : List Entry) (follows : Follows h) where
+  module _ (feeds : FeedKind) (plain : AllByRecursion (λ (line : ScriptLine). IsNoRefresh line.line) script) (low h : List Entry) (follows : Follows h) where
+    abbrev batch : ℕ
+    batch = due_at feeds
+
     place_least : (p : List Entry) (e : Entry) (place : ℕ) (o : Option ScriptLine) → slice_get script place ≡ o → IsAtPlace batch low p e o → most_need_of e ≤ most_of o
     place_least p e place None at_place is = absurd is
     place_least p e place (Some line) at_place is = line_least batch low p e line.line (plain_at script place line plain at_place) is
 
-    purpose_least : (p : List Entry) (e : Entry) (purpose : Purpose) → rejection p e ≡ None → IsFor batch 0 script low p e purpose → most_need_of e ≤ cost purpose
+    purpose_least : (p : List Entry) (e : Entry) (purpose : Purpose) → rejection p e ≡ None → IsFor feeds 0 script low p e purpose → most_need_of e ≤ cost purpose
     purpose_least p e (OfLine place) accepted is = place_least p e place (slice_get script place) refl is
-    purpose_least p e (OfFeeds places) accepted is = feeds_least p e places accepted is
+    purpose_least p e (OfFeeds places) accepted is = feeds_least p e places accepted (feeds_of_lanes feeds script p e places is)
     purpose_least p e (OfRound round output) accepted is = let none = is.0 in absurd (omega (arith, none))
 
-    service_least : (s : Service) → IsServed batch 0 script low h s → at_number most_need_of h s.number ≤ cost s.purpose
+    service_least : (s : Service) → IsServed feeds 0 script low h s → at_number most_need_of h s.number ≤ cost s.purpose
     service_least s is =
         let part : List Entry = is.before ++ is.entry ∷ [] in
         let accepted = follows-last is.before is.entry (follows-prefix part is.there.0 (subst Follows is.there.1 follows)) in
@@ -307,13 +316,13 @@ each_least P f g (s ∷ services) least are =
     omega (arith, rest, here)
 
 pub script_fits : ScriptFits
-script_fits batch store script plain fits h serves =
+script_fits feeds store script plain fits h serves =
     let low = store.history in
     let since = serves.begins.0 in
     let numbers = numbers_of serves.services in
     let added = entries_sum most_need_of h low since 0 numbers serves.begins.1 (λ n.
     numbers_counted n serves.services ∙ serves.each n ∙ ap (λ m. given (length low) m n) (let e : length h ≡ length h + 0 = omega arith in e)) in
-    let least = each_least (IsServed batch 0 script low h) (at_number most_need_of h) (λ (s : Service). cost script s.purpose) serves.services (service_least script batch plain low h serves.follows) serves.are in
+    let least = each_least (IsServed feeds 0 script low h) (at_number most_need_of h) (λ (s : Service). cost script s.purpose) serves.services (service_least script feeds plain low h serves.follows) serves.are in
     let costs = all_cost script serves.services in
     let most = places_least script (all_places script serves.services) (λ k. let a = all_lines script k serves.services in let b = serves.lines_once k in omega (arith, a, b)) in
     let whole : blocks.needs_of h ≡ blocks.needs_of low + blocks.needs_after low since = ap (λ l. blocks.needs_of l) serves.begins.1 ∙ needs-append low since in

@@ -16,6 +16,7 @@ use Rattle.btr_jobs.specs.States.{StoreState}
 use Rattle.btr_jobs.specs.Turns.{IsFull}
 use Rattle.btr_load.proofs.TotalLemmas.{total_append}
 use Rattle.btr_text.specs.declared.script.ScriptLine.{ScriptLine}
+use Rattle.btr_top.specs.declared.live.FeedKind.{FeedKind}
 use Rattle.btr_top.specs.Room.{Purpose, has_line, has_landing, IsFor, Service, IsServed, ServesScript, HasRoomForHistories}
 
 -- ---- sums over services
@@ -107,9 +108,9 @@ counted_part n low top high services part each =
 
 -- ---- what services are
 
-module _ (batch rounds : ℕ) (script : List ScriptLine) (low : List Entry) where
+module _ (feeds : FeedKind) (rounds : ℕ) (script : List ScriptLine) (low : List Entry) where
   abbrev pub Served : List Entry → Service → Type 0
-  Served h s = IsServed batch rounds script low h s
+  Served h s = IsServed feeds rounds script low h s
 
   served_shorter : (h p : List Entry) (s : Service) → StartsWith h p → s.number ≤ length p → Served h s → Served p s
   served_shorter h p s starts within is =
@@ -156,11 +157,11 @@ module _ (batch rounds : ℕ) (script : List ScriptLine) (low : List Entry) wher
       pub starts : StartsWith h p
       pub since : StartsWith p low
       pub accepted : rejection p e ≡ None
-      pub is_for : IsFor batch rounds script low p e purpose
+      pub is_for : IsFor feeds rounds script low p e purpose
       pub new_line : (place : ℕ) → lines_had place (up_to (length p) services) + has_line place purpose ≤ 1
       pub new_landing : (round output : ℕ) → landings_had round output (up_to (length p) services) + has_landing round output purpose ≤ 1
 
-    serves_next : (p : List Entry) (e : Entry) (purpose : Purpose) → IsNext p e purpose → ServesScript batch rounds script low (p ++ e ∷ [])
+    serves_next : (p : List Entry) (e : Entry) (purpose : Purpose) → IsNext p e purpose → ServesScript feeds rounds script low (p ++ e ∷ [])
     serves_next p e purpose is =
         let s : Service = record { number = length p + 1; purpose = purpose } in
         let some : List Service = up_to (length p) services in
@@ -188,9 +189,9 @@ module _ (batch rounds : ℕ) (script : List ScriptLine) (low : List Entry) wher
         }
 
     -- So it does not find the device full.
-    pub never_full : (start : StoreState) (p : List Entry) (e : Entry) (purpose : Purpose) (need left : ℕ) → low ≡ start.history → HasRoomForHistories batch rounds start script → IsNext p e purpose → IsFull start p e need left → ⊥
+    pub never_full : (start : StoreState) (p : List Entry) (e : Entry) (purpose : Purpose) (need left : ℕ) → low ≡ start.history → HasRoomForHistories feeds rounds start script → IsNext p e purpose → IsFull start p e need left → ⊥
     never_full start p e purpose need left begins room is full =
-        let serves : ServesScript batch rounds script start.history (p ++ e ∷ []) = subst (λ (l : List Entry). ServesScript batch rounds script l (p ++ e ∷ [])) begins (serves_next p e purpose is) in
+        let serves : ServesScript feeds rounds script start.history (p ++ e ∷ []) = subst (λ (l : List Entry). ServesScript feeds rounds script l (p ++ e ∷ [])) begins (serves_next p e purpose is) in
         let fits : needs_of (p ++ e ∷ []) ≤ start.left + needs_of start.history = room (p ++ e ∷ []) serves in
         let whole = needs-push p e in
         let needed = full.need in

@@ -1,5 +1,5 @@
 -- A device whose store is missing or damaged is left as it was by each command that opens a store, which ends by a refusal.
-use Rattle.std.specs.Prelude.{◌≡◌, ◌⊎◌, ℕ, List, Option, Some, None}
+use Rattle.std.specs.Prelude.{◌≡◌, ℕ, List, Option, Some, None}
 use Rattle.std.proofs.Common.{refl, sym, subst, inl, inr, ⊎_elim}
 use Rattle.btr_io.specs.declared.source.Source.{Ghosts as SourceGhosts}
 use Rattle.btr_io.specs.declared.sink.Sink.{Ghosts as SinkGhosts}
@@ -15,10 +15,12 @@ use Rattle.btr_text.specs.Input.{questions_of, script_of}
 use Rattle.btr_text.specs.declared.script.ScriptLine.{ScriptLine}
 use Rattle.btr_store.specs.Load.{LoadsStore}
 use Rattle.btr_store.specs.Live.{LivesStore}
+use Rattle.btr_store.specs.Shared.{SharesStore}
+use Rattle.btr_top.specs.declared.live.FeedKind.TheVariants.{Own, Shared}
 use Rattle.btr_store.specs.Distil.{DistilsStore}
 use Rattle.btr_store.specs.SampleLaw.{SamplesStore}
 use Rattle.btr_words.specs.declared.command.Command.{Command}
-use Rattle.btr_words.specs.declared.command.Command.TheVariants.{Format, Load, Ask, Distil, Live, Sample, Checkpoint, Check}
+use Rattle.btr_words.specs.declared.command.Command.TheVariants.{Format, Load, Ask, Distil, Live, LiveGroups, Sample, Checkpoint, Check}
 use Rattle.btr_top.specs.declared.ending.Ending.{Ending}
 use Rattle.btr_top.specs.declared.ending.Ending.TheVariants.{Usage, NoSource, TooLong, OutOfMemory, NoDevice, NoStore, Damaged, Occupied, TooSmall, Formatted, Checkpointed, Stands, Full, Replied}
 use Rattle.btr_top.specs.Ending.{status_of, text_of, Writes, Shows}
@@ -162,8 +164,11 @@ module _ {D : Type 0} (disk : Ghosts D) (only_now : disk.is_observable → (d : 
     cause_refused None e opens why = absurd opens
     cause_refused (Some (Format blocks)) e opens why = absurd opens
     cause_refused (Some (Live batch materialize)) e opens why =
-        read_refused (λ input. ScriptCause disk batch materialize (script_of input)) e
+        read_refused (λ input. ScriptCause disk (Own batch) materialize (script_of input)) e
         (λ input cause. work_refused (λ said start log own. LivesStore batch materialize (script_of input) start log said own) e cause.0) why
+    cause_refused (Some (LiveGroups threshold materialize)) e opens why =
+        read_refused (λ input. ScriptCause disk (Shared threshold) materialize (script_of input)) e
+        (λ input cause. work_refused (λ said start log own. SharesStore threshold materialize (script_of input) start log said own) e cause.0) why
     cause_refused (Some Ask) e opens why =
         read_refused (λ input. QuestionsCause disk (questions_of input)) e (λ input. asked_refused (questions_of input) e) why
     cause_refused (Some (Load workers batch)) e opens why =

@@ -15,7 +15,9 @@ use Rattle.btr_text.specs.declared.script.ScriptLine.{ScriptLine}
 use Rattle.btr_live.specs.Feeds.{Waiting, with_points}
 use Rattle.btr_live.proofs.StreamLemmas.{stream_of-longer}
 use Rattle.btr_live.proofs.WaitingLemmas.{at_stream, at_other}
-use Rattle.btr_top.specs.Room.{fed_by, points_fed, IsFeedOf}
+use Rattle.btr_top.specs.declared.live.FeedKind.{FeedKind}
+use Rattle.btr_top.specs.declared.live.FeedKind.TheVariants.{Own, Shared}
+use Rattle.btr_top.specs.Room.{fed_by, points_fed, IsFeedOf, CommitsFeeds, CommitsShared, IsOfFeeds}
 
 -- ---- places that wait
 
@@ -175,3 +177,22 @@ module _ (script : List ScriptLine) where
                 ∙ sym (ap (λ l. sort (points_fed script l)) (of_stream_snoc other pending x ∙ ap (λ b. of_stream other pending ++ cond b (place ∷ []) []) (ne_eqb stream other (λ same. differs (sym same))) ∙ append-nil (of_stream other pending)))
           ];
     }
+
+-- ---- the entry of places
+
+each_lane : (script : List ScriptLine) (p : List Entry) (lane stream : ℕ) (places : List ℕ) → AllByRecursion (IsFeedOf script p lane stream) places → AllByRecursion (λ place. (other : ℕ) × IsFeedOf script p other stream place) places
+each_lane script p lane stream [] are = tt
+each_lane script p lane stream (place ∷ places) are = ((lane, are.0), each_lane script p lane stream places are.1)
+
+-- A commit of what waits in one lane is one of what waits for a stream in any lanes.
+of_any_lanes : (script : List ScriptLine) (p : List Entry) (e : Entry) (places : List ℕ) → CommitsFeeds script p e places → CommitsShared script p e places
+of_any_lanes script p e places is = record { stream = is.stream; are = each_lane script p is.lane is.stream places is.are; commits = is.commits }
+
+-- So it is what the feeds commit, whether lanes share them or not; and what the feeds commit is one of any lanes.
+pub feeds_of_lane : (feeds : FeedKind) (script : List ScriptLine) (p : List Entry) (e : Entry) (places : List ℕ) → CommitsFeeds script p e places → IsOfFeeds feeds script p e places
+feeds_of_lane (Own batch) script p e places is = is
+feeds_of_lane (Shared threshold) script p e places is = of_any_lanes script p e places is
+
+pub feeds_of_lanes : (feeds : FeedKind) (script : List ScriptLine) (p : List Entry) (e : Entry) (places : List ℕ) → IsOfFeeds feeds script p e places → CommitsShared script p e places
+feeds_of_lanes (Own batch) script p e places is = of_any_lanes script p e places is
+feeds_of_lanes (Shared threshold) script p e places is = is

@@ -23,6 +23,8 @@ use Rattle.btr_live.specs.Script.{begun_state, script_needs}
 use Rattle.btr_live.specs.OneLane.{AreInLane}
 use Rattle.btr_store.specs.Completes.{IsPlannedSince}
 use Rattle.btr_jobs.specs.States.{StoreState}
+use Rattle.btr_top.specs.declared.live.FeedKind.{FeedKind}
+use Rattle.btr_top.specs.declared.live.FeedKind.TheVariants.{Own, Shared}
 
 -- ---- one lane
 
@@ -112,13 +114,30 @@ pub record CommitsFeeds (script : List ScriptLine) (p : List Entry) (e : Entry) 
   pub are : AllByRecursion (IsFeedOf script p lane stream) places
   pub commits : e ≡ entries.Commit stream [] (sort (points_fed script places))
 
+-- The entry commits the points of the `feed` lines with these places, which any lanes have for one stream: lanes share its buffer.
+pub record CommitsShared (script : List ScriptLine) (p : List Entry) (e : Entry) (places : List ℕ) : Type 0 where
+  pub stream : ℕ
+  pub are : AllByRecursion (λ place. (lane : ℕ) × IsFeedOf script p lane stream place) places
+  pub commits : e ≡ entries.Commit stream [] (sort (points_fed script places))
+
+-- The entry commits the points of the `feed` lines with these places, which wait for one stream: those of one lane, or, in a shared buffer,
+-- those of any lanes.
+abbrev pub IsOfFeeds : FeedKind → List ScriptLine → List Entry → Entry → List ℕ → Type 0
+IsOfFeeds (Own batch) script p e places = CommitsFeeds script p e places
+IsOfFeeds (Shared threshold) script p e places = CommitsShared script p e places
+
+-- How many points are due in the feeds of a lane. With shared buffers a lane has no feeds, and no line is asked by this number.
+abbrev pub due_at : FeedKind → ℕ
+due_at (Own batch) = batch
+due_at (Shared threshold) = 1
+
 -- ---- histories
 
 -- The entry, which follows `p`, is there for this, in a script with this many rounds.
-abbrev pub IsFor : ℕ → ℕ → List ScriptLine → List Entry → List Entry → Entry → Purpose → Type 0
-IsFor batch rounds script low p e (OfLine place) = IsAtPlace batch low p e (slice_get script place)
-IsFor batch rounds script low p e (OfFeeds places) = CommitsFeeds script p e places
-IsFor batch rounds script low p e (OfRound round output) = (round < rounds) × LandsFor low p e output
+abbrev pub IsFor : FeedKind → ℕ → List ScriptLine → List Entry → List Entry → Entry → Purpose → Type 0
+IsFor feeds rounds script low p e (OfLine place) = IsAtPlace (due_at feeds) low p e (slice_get script place)
+IsFor feeds rounds script low p e (OfFeeds places) = IsOfFeeds feeds script p e places
+IsFor feeds rounds script low p e (OfRound round output) = (round < rounds) × LandsFor low p e output
 
 -- The number of an entry, and what it is there for.
 pub record Service : Type 0 where
@@ -126,39 +145,42 @@ pub record Service : Type 0 where
   pub purpose : Purpose
 
 -- The history has an entry with this number after `low`, and it is there for this.
-pub record IsServed (batch rounds : ℕ) (script : List ScriptLine) (low h : List Entry) (s : Service) : Type 0 where
+pub record IsServed (feeds : FeedKind) (rounds : ℕ) (script : List ScriptLine) (low h : List Entry) (s : Service) : Type 0 where
   pub before : List Entry
   pub entry : Entry
   pub there : StartsWith h (before ++ entry ∷ [])
   pub since : StartsWith before low
   pub same_number : s.number ≡ length before + 1
-  pub is_for : IsFor batch rounds script low before entry s.purpose
+  pub is_for : IsFor feeds rounds script low before entry s.purpose
 
 -- The history goes on from `low` by what the lines of a script ask for, and by landings of this many rounds, in any order. Each entry
 -- after `low` may follow those before it. It is there for one thing, and no line and no landing has two entries.
-pub record ServesScript (batch rounds : ℕ) (script : List ScriptLine) (low h : List Entry) : Type 0 where
+pub record ServesScript (feeds : FeedKind) (rounds : ℕ) (script : List ScriptLine) (low h : List Entry) : Type 0 where
   pub begins : StartsWith h low
   pub follows : Follows h
   pub services : List Service
   pub each : (n : ℕ) → total (λ s. one (s.number == n)) services ≡ given (length low) (length h) n
-  pub are : AllByRecursion (IsServed batch rounds script low h) services
+  pub are : AllByRecursion (IsServed feeds rounds script low h) services
   pub lines_once : (place : ℕ) → total (λ s. has_line place s.purpose) services ≤ 1
   pub landings_once : (round output : ℕ) → total (λ s. has_landing round output s.purpose) services ≤ 1
 
 -- Whatever such a history is, its blocks are left.
-abbrev pub HasRoomForHistories : ℕ → ℕ → StoreState → List ScriptLine → Type 0
-HasRoomForHistories batch rounds store script =
-    (h : List Entry) → ServesScript batch rounds script store.history h → blocks.needs_of h ≤ store.left + blocks.needs_of store.history
+abbrev pub HasRoomForHistories : FeedKind → ℕ → StoreState → List ScriptLine → Type 0
+HasRoomForHistories feeds rounds store script =
+    (h : List Entry) → ServesScript feeds rounds script store.history h → blocks.needs_of h ≤ store.left + blocks.needs_of store.history
 
 -- The most rounds of a script: with `--materialize` one for each line, and a last one.
 abbrev pub rounds_of : Bool → List ScriptLine → ℕ
 rounds_of materialize script = if materialize then length script + 1 else 0
 
--- All lines are of one lane, there are no rounds, and what the lines need one after another is left; or any history that serves the
--- script has room.
-abbrev pub HasRoomForScript : ℕ → Bool → StoreState → List ScriptLine → Type 0
-HasRoomForScript batch materialize store script =
-    ((materialize ≡ false) × HasRoomInLane batch store script) ⊎ HasRoomForHistories batch (rounds_of materialize script) store script
+-- All lines are of one lane that has its own feeds, there are no rounds, and what the lines need one after another is left; or any history
+-- that serves the script has room.
+abbrev pub HasRoomForScript : FeedKind → Bool → StoreState → List ScriptLine → Type 0
+HasRoomForScript (Own batch) materialize store script =
+    ((materialize ≡ false) × HasRoomInLane batch store script)
+    ⊎ HasRoomForHistories (Own batch) (rounds_of materialize script) store script
+HasRoomForScript (Shared threshold) materialize store script =
+    HasRoomForHistories (Shared threshold) (rounds_of materialize script) store script
 
 -- ---- how much is enough
 
@@ -184,5 +206,5 @@ IsNoRefresh line = Unit {0}
 -- A script without rounds has room if no line brings an output up to date and the most that all lines need is left.
 abbrev pub ScriptFits : Type 0
 ScriptFits =
-    (batch : ℕ) (store : StoreState) (script : List ScriptLine) → AllByRecursion (λ line. IsNoRefresh line.line) script
-    → total (λ line. most_blocks line.line) script ≤ store.left → HasRoomForHistories batch 0 store script
+    (feeds : FeedKind) (store : StoreState) (script : List ScriptLine) → AllByRecursion (λ line. IsNoRefresh line.line) script
+    → total (λ line. most_blocks line.line) script ≤ store.left → HasRoomForHistories feeds 0 store script

@@ -8,11 +8,12 @@ use Rattle.btr_disk.specs.declared.disk.Disk.{Ghosts}
 use Rattle.btr_disk.specs.Causes.{Rose}
 use Rattle.btr_open.specs.Damage.{IsUndamaged}
 use Rattle.btr_words.specs.declared.command.Command.{Command}
-use Rattle.btr_words.specs.declared.command.Command.TheVariants.{Format, Load, Ask, Distil, Live, Sample, Checkpoint, Check}
+use Rattle.btr_words.specs.declared.command.Command.TheVariants.{Format, Load, Ask, Distil, Live, LiveGroups, Sample, Checkpoint, Check}
 use Rattle.btr_top.specs.declared.ending.Ending.{Ending}
 use Rattle.btr_top.specs.declared.ending.Ending.TheVariants.{Usage, OutOfMemory}
 use Rattle.btr_top.specs.declared.command.TheConstants.{MAX_INPUT}
 use Rattle.btr_top.specs.Command.{IsKept}
+use Rattle.btr_top.specs.declared.live.FeedKind.TheVariants.{Own, Shared}
 use Rattle.btr_top.specs.Live.{LiveCause, CanLive}
 use Rattle.btr_top.specs.Ask.{AskCause, CanAsk}
 use Rattle.btr_top.specs.Format.{FormatCause, FormatLeaves, CanFormat}
@@ -26,7 +27,9 @@ use Rattle.btr_top.specs.Ending.{Shows}
 abbrev pub Cause : {S D : Type 0} → SourceGhosts S → Ghosts D → Option Command → S → S → D → D → Ending → Type 0
 Cause source disk None given rest old new e = (e ≡ Usage) × (rest ≡ given) × (new ≡ old)
 Cause source disk (Some (Format blocks)) given rest old new e = (rest ≡ given) × FormatCause disk blocks old new e
-Cause source disk (Some (Live batch materialize)) given rest old new e = LiveCause source disk batch materialize given rest old new e
+Cause source disk (Some (Live batch materialize)) given rest old new e = LiveCause source disk (Own batch) materialize given rest old new e
+Cause source disk (Some (LiveGroups threshold materialize)) given rest old new e =
+    LiveCause source disk (Shared threshold) materialize given rest old new e
 Cause source disk (Some Ask) given rest old new e = AskCause source disk given rest old new e
 Cause source disk (Some (Load workers batch)) given rest old new e = LoadCause source disk workers batch given rest old new e
 Cause source disk (Some (Distil workers)) given rest old new e = (rest ≡ given) × DistilCause disk workers old new e
@@ -49,7 +52,8 @@ RunCause source disk command given rest old new e =
 abbrev pub CanRun : {S D : Type 0} → SourceGhosts S → Ghosts D → Option Command → S → D → Type 0
 CanRun source disk None given old = ⊥
 CanRun source disk (Some (Format blocks)) given old = ⊥
-CanRun source disk (Some (Live batch materialize)) given old = CanLive source disk batch materialize given old
+CanRun source disk (Some (Live batch materialize)) given old = CanLive source disk (Own batch) materialize given old
+CanRun source disk (Some (LiveGroups threshold materialize)) given old = CanLive source disk (Shared threshold) materialize given old
 CanRun source disk (Some Ask) given old = CanAsk source disk given old
 CanRun source disk (Some (Load workers batch)) given old = CanLoad source disk batch given old
 CanRun source disk (Some (Distil workers)) given old = CanDistil disk old

@@ -15,7 +15,7 @@ use crate::command::CommandResult;
 use crate::distil::run_distil;
 use crate::ending::{Ending, show};
 use crate::format_store::format_store;
-use crate::live::run_live;
+use crate::live::{FeedKind, run_live};
 use crate::load::run_load;
 use crate::remains::RunRemains;
 use crate::sample::run_sample;
@@ -120,8 +120,30 @@ fn dispatch<R: Threads + Wait + Sync, S: Source, D: Disk + Send, P: Pace + Sync>
         },
         Ok(Some(Command::Format { blocks })) => make_store(disk, blocks),
         Ok(Some(Command::Live { batch, materialize })) => {
-            run_live(system, batch, materialize, source, disk, pace)
+            run_live(
+                system,
+                FeedKind::Own { batch },
+                materialize,
+                source,
+                disk,
+                pace,
+            )
         }
+        Ok(
+            Some(
+                Command::LiveGroups {
+                    threshold,
+                    materialize,
+                },
+            ),
+        ) => run_live(
+            system,
+            FeedKind::Shared { threshold },
+            materialize,
+            source,
+            disk,
+            pace,
+        ),
         Ok(Some(Command::Ask)) => run_ask(system.alloc, source, disk),
         Ok(Some(Command::Load { workers, batch })) => {
             run_load(system, workers, batch, source, disk, pace)

@@ -9,6 +9,7 @@ mod fixture;
 mod lanes;
 mod outputs;
 mod retirements;
+mod shared;
 mod stops;
 mod streams;
 mod transcripts;

@@ -1,7 +1,7 @@
 -- The numbers of commands lie in their bounds.
 use Rattle.std.proofs.Common.{◌≡◌, ◌≤◌, ◌∷◌, ◌&&◌, ◌*◌, ℕ, Bool, true, false, cond, List, [], Option, Some, None, refl, sym, ap, ◌∙◌, subst, codes, nat_lt, nat_le, ◌^◌, arith, unwrap_or}
-use Rattle.std.specs.Prelude.{IfSome, find}
-use Rattle.std.specs.Option.{option_and_then, option_map}
+use Rattle.std.specs.Prelude.{IfSome, find, is_some}
+use Rattle.std.specs.Option.{option_and_then, option_map, option_map_or}
 use Rattle.std.specs.Str.{bytes_eq}
 use Rattle.std.specs.Str.Parse.{digits_value, without_leading_plus}
 use Rattle.std.proofs.lemmas.Slice.Eq.{bytes_eq-Decides}
@@ -9,8 +9,8 @@ use Rattle.std.proofs.lemmas.Bool.{leb-true}
 use Rattle.clap.specs.ValueTests.{is_numeral, is_unsigned_in}
 use Rattle.clap.proofs.WalkLemmas.{both}
 use Rattle.btr_words.specs.declared.command.Command.{Command}
-use Rattle.btr_words.specs.declared.command.Command.TheVariants.{Format, Load, Ask, Distil, Live, Sample, Checkpoint, Check}
-use Rattle.btr_words.specs.Words.{Argument, Found, IsInBounds, Takes, Text, argument_named, batch_argument, batch_of, between, blocks_argument, command_of, format_of, live_arguments}
+use Rattle.btr_words.specs.declared.command.Command.TheVariants.{Format, Load, Ask, Distil, Live, LiveGroups, Sample, Checkpoint, Check}
+use Rattle.btr_words.specs.Words.{Argument, Found, IsInBounds, Takes, Text, argument_named, batch_argument, batch_of, between, blocks_argument, command_of, format_of, group_argument, live_arguments, live_of}
 use Rattle.btr_words.specs.Words.{materialize_of, nothing, number_for, number_of, numbers_in_order, numbers_of, option_numbers, options_after, others, sample_arguments, sample_of}
 use Rattle.btr_words.specs.Words.{sample_within, taken, without_marker, workers_argument, workers_of}
 use Rattle.btr_words.proofs.Found.{named_in_others, some_is}
@@ -156,6 +156,18 @@ load_good words = mapped (workers_argument ∷ batch_argument ∷ []) (λ found.
     let b : Within 1 65536 (batch_of found) = batch_lies (workers_argument ∷ batch_argument ∷ []) refl found h in
     (w.0, w.1, b.0, b.1)) words
 
+live_good : (words : List Text) → Good (option_and_then live_of (option_numbers live_arguments words))
+live_good words = chained live_arguments live_of
+    (λ found h. go found (number_for (codes "group") found) (h (codes "group") group_argument refl) (is_some (number_for (codes "batch") found))
+    (batch_lies live_arguments refl found h))
+    (option_numbers live_arguments words) (options_lie live_arguments words)
+  where
+    go : (found : Found) (o : Option ℕ) → IfSome o (Within 1 65536) → (b : Bool) → Within 1 65536 (batch_of found)
+        → Good (option_map_or (λ n. cond b None (Some (LiveGroups n (materialize_of found)))) o (Some (Live (batch_of found) (materialize_of found))))
+    go found None h b w = w
+    go found (Some n) h true w = tt
+    go found (Some n) h false w = h
+
 sample_good : (words : List Text) → Good (option_and_then sample_of (numbers_in_order sample_arguments words))
 sample_good words = chained sample_arguments sample_of
     (λ found h. go (number_for (codes "number") found) (h (codes "number") (record { name = codes "number"; takes = between 0 2147483647 }) refl)
@@ -185,7 +197,7 @@ in_bounds (word ∷ words) = go (is (codes "format")) (is (codes "load")) (is (c
         (cond b2 (option_map (λ found. Load (workers_of found) (batch_of found)) (option_numbers (workers_argument ∷ batch_argument ∷ []) words))
         (cond b3 (option_map (λ found. Ask) (option_numbers [] words))
         (cond b4 (option_map (λ found. Distil (workers_of found)) (option_numbers (workers_argument ∷ []) words))
-        (cond b5 (option_map (λ found. Live (batch_of found) (materialize_of found)) (option_numbers live_arguments words))
+        (cond b5 (option_and_then live_of (option_numbers live_arguments words))
         (cond b6 (option_and_then sample_of (numbers_in_order sample_arguments (without_marker words)))
         (cond b7 (option_map (λ found. Checkpoint) (option_numbers [] words))
         (cond b8 (option_map (λ found. Check) (option_numbers [] words)) None))))))))
@@ -193,7 +205,7 @@ in_bounds (word ∷ words) = go (is (codes "format")) (is (codes "load")) (is (c
     go false true b3 b4 b5 b6 b7 b8 = load_good words
     go false false true b4 b5 b6 b7 b8 = mapped [] (λ found. Ask) (λ found h. tt) words
     go false false false true b5 b6 b7 b8 = mapped (workers_argument ∷ []) (λ found. Distil (workers_of found)) (workers_lie (workers_argument ∷ []) refl) words
-    go false false false false true b6 b7 b8 = mapped live_arguments (λ found. Live (batch_of found) (materialize_of found)) (batch_lies live_arguments refl) words
+    go false false false false true b6 b7 b8 = live_good words
     go false false false false false true b7 b8 = sample_good (without_marker words)
     go false false false false false false true b8 = mapped [] (λ found. Checkpoint) (λ found h. tt) words
     go false false false false false false false true = mapped [] (λ found. Check) (λ found h. tt) words

@@ -12,10 +12,10 @@ use Rattle.clap.specs.declared.error.kind.ErrorKind.{ErrorKind}
 use Rattle.clap.specs.declared.error.kind.ErrorKind.TheVariants.{InvalidSubcommand, MissingSubcommand, UnknownArgument}
 use Rattle.clap.proofs.FaultLemmas.{stopped_fault}
 use Rattle.btr_words.specs.declared.command.Command.{Command}
-use Rattle.btr_words.specs.declared.command.Command.TheVariants.{Format, Load, Ask, Distil, Live, Checkpoint, Check}
-use Rattle.btr_words.specs.Words.{Argument, Found, argument_named, batch_argument, batch_of, blocks_argument, command_of, format_of, between, live_arguments, materialize_of, number_for}
+use Rattle.btr_words.specs.declared.command.Command.TheVariants.{Format, Load, Ask, Distil, Live, LiveGroups, Checkpoint, Check}
+use Rattle.btr_words.specs.Words.{Argument, Found, argument_named, batch_argument, batch_of, blocks_argument, command_of, format_of, between, live_arguments, live_of, materialize_of, number_for}
 use Rattle.btr_words.specs.Words.{numbers_in_order, option_numbers, sample_arguments, sample_of, sampled, without_marker, workers_argument, workers_of}
-use Rattle.btr_words.specs.Program.{batch_in, command_of_rows, number_in, program_app, workers_in}
+use Rattle.btr_words.specs.Program.{batch_in, command_of_rows, flag_in, number_in, program_app, workers_in}
 use Rattle.btr_words.proofs.WordCases.{word_cases}
 use Rattle.btr_words.proofs.Turns.{Gives, IsFault, at, fault_from, is_fault, rows_from}
 use Rattle.btr_words.proofs.Found.{Reads}
@@ -115,12 +115,27 @@ distil_gives words = with_options (codes "distil") (workers_argument ∷ []) (λ
     (λ rows found reads. ap (λ (w : ℕ). Some (Distil w)) (workers_are (workers_argument ∷ []) refl rows found reads)) words
 
 abbrev live_meaning : List Text → Option Command
-live_meaning words = option_map (λ found. Live (batch_of found) (materialize_of found)) (option_numbers live_arguments words)
+live_meaning words = option_and_then live_of (option_numbers live_arguments words)
+
+-- `live` with the numbers of `--batch` and `--group`, if they are there, and with its flag or without.
+abbrev live_by : Option ℕ → Option ℕ → Bool → Option Command
+live_by batch group flag = option_map_or (λ n. cond (is_some batch) None (Some (LiveGroups n flag))) group (Some (Live (unwrap_or batch 4096) flag))
+
+live_same : (rows : List Row) (found : Found) → Reads live_arguments rows found → of_sub (codes "live") (at_end live_arguments rows) ≡ live_of found
+live_same rows found reads =
+    let end = at_end live_arguments rows in
+    let b : number_in (codes "batch") end 4294967295 ≡ number_for (codes "batch") found =
+    number_at_end (map option_rule live_arguments) live_arguments (codes "batch") 1 65536 4294967295 rows found (blank_rules live_arguments) refl (omega arith) reads in
+    let g : number_in (codes "group") end 4294967295 ≡ number_for (codes "group") found =
+    number_at_end (map option_rule live_arguments) live_arguments (codes "group") 1 65536 4294967295 rows found (blank_rules live_arguments) refl (omega arith) reads in
+    let m : flag_in (codes "materialize") end ≡ materialize_of found =
+    flag_at_end (map option_rule live_arguments) live_arguments (codes "materialize") rows found (blank_rules live_arguments) refl reads in
+    ap (λ (o : Option ℕ). live_by o (number_in (codes "group") end 4294967295) (flag_in (codes "materialize") end)) b
+    ∙ ap (λ (o : Option ℕ). live_by (number_for (codes "batch") found) o (flag_in (codes "materialize") end)) g
+    ∙ ap (λ (f : Bool). live_by (number_for (codes "batch") found) (number_for (codes "group") found) f) m
 
 live_gives : (words : List Text) → LeafGives (codes "live") (options_leaf (codes "live") live_arguments) live_meaning words
-live_gives words = with_options (codes "live") live_arguments (λ found. Live (batch_of found) (materialize_of found))
-    (λ rows found reads. ap₂ (λ (b : ℕ) (m : Bool). Some (Live b m)) (batch_is live_arguments refl rows found reads)
-    (flag_at_end (map option_rule live_arguments) live_arguments (codes "materialize") rows found (blank_rules live_arguments) refl reads)) words
+live_gives words = options_give (codes "live") live_arguments (of_sub (codes "live")) live_of live_same words
 
 abbrev sample_meaning : List Text → Option Command
 sample_meaning words = option_and_then sample_of (numbers_in_order sample_arguments (without_marker words))

@@ -1,6 +1,6 @@
 -- How the words are read: what `clap` reads of the commands and their arguments, and what is made of its answer.
 use Rattle.std.specs.Prelude.{ℕ, Bool, true, false, List, [], codes, if◌then◌else◌}
-use Rattle.std.specs.Prelude.{Option, Some, None, option_map, option_and_then, unwrap_or}
+use Rattle.std.specs.Prelude.{Option, Some, None, is_some, option_map, option_and_then, unwrap_or}
 use Rattle.std.specs.Option.{option_map_or}
 use Rattle.std.specs.Str.{bytes_eq}
 use Rattle.clap.specs.Words.{App, Row, Rule, Shape, new_app, new_rule, one_of, with_rule, with_subcommand}
@@ -8,7 +8,7 @@ use Rattle.clap.specs.Simple.{new_shape}
 use Rattle.clap.specs.declared.builder.action.ArgAction.TheVariants as action
 use Rattle.clap.specs.declared.builder.value_parser.ValueParser.TheVariants as vp
 use Rattle.btr_words.specs.declared.command.Command.{Command}
-use Rattle.btr_words.specs.declared.command.Command.TheVariants.{Format, Load, Ask, Distil, Live, Checkpoint, Check}
+use Rattle.btr_words.specs.declared.command.Command.TheVariants.{Format, Load, Ask, Distil, Live, LiveGroups, Checkpoint, Check}
 use Rattle.btr_words.specs.Words.{Text, number_of, sampled}
 
 -- An option of this name that takes a number.
@@ -29,6 +29,9 @@ workers_rule = option_in (codes "workers") 1 16
 abbrev pub batch_rule : Rule
 batch_rule = option_in (codes "batch") 1 65536
 
+abbrev pub group_rule : Rule
+group_rule = option_in (codes "group") 1 65536
+
 abbrev pub materialize_rule : Rule
 materialize_rule = flag_rule (codes "materialize")
 
@@ -45,7 +48,7 @@ abbrev pub distil_app : App
 distil_app = with_rule (new_app (codes "distil")) workers_rule
 
 abbrev pub live_app : App
-live_app = with_rule (with_rule (new_app (codes "live")) batch_rule) materialize_rule
+live_app = with_rule (with_rule (with_rule (new_app (codes "live")) batch_rule) group_rule) materialize_rule
 
 abbrev pub number_rule : Rule
 number_rule = value_in (codes "number") 0 2147483647
@@ -98,8 +101,15 @@ workers_in rows = unwrap_or (number_in (codes "workers") rows 255) 1
 abbrev pub batch_in : List Row → ℕ
 batch_in rows = unwrap_or (number_in (codes "batch") rows 4294967295) 4096
 
-abbrev pub live_in : List Row → Command
-live_in rows = Live (batch_in rows) (flag_in (codes "materialize") rows)
+-- `live --group B` with this number, if the rows have none for `--batch`.
+abbrev pub live_groups_in : List Row → ℕ → Option Command
+live_groups_in rows threshold =
+    if is_some (number_in (codes "batch") rows 4294967295) then None else Some (LiveGroups threshold (flag_in (codes "materialize") rows))
+
+abbrev pub live_in : List Row → Option Command
+live_in rows =
+    option_map_or (live_groups_in rows) (number_in (codes "group") rows 4294967295)
+    (Some (Live (batch_in rows) (flag_in (codes "materialize") rows)))
 
 abbrev pub sample_in : List Row → Option Command
 sample_in rows =
@@ -112,7 +122,7 @@ command_with_rows name rows =
     if bytes_eq name (codes "format") then option_map (λ n. Format n) (number_in (codes "blocks") rows 18446744073709551615)
     else (if bytes_eq name (codes "load") then Some (Load (workers_in rows) (batch_in rows))
     else (if bytes_eq name (codes "distil") then Some (Distil (workers_in rows))
-    else (if bytes_eq name (codes "live") then Some (live_in rows)
+    else (if bytes_eq name (codes "live") then live_in rows
     else (if bytes_eq name (codes "sample") then sample_in rows
     else (if bytes_eq name (codes "checkpoint") then Some Checkpoint
     else (if bytes_eq name (codes "check") then Some Check

@@ -8,7 +8,7 @@ use Rattle.std.specs.Str.Parse.{digits_value, without_leading_plus}
 use Rattle.clap.specs.Lexer.{long_of}
 use Rattle.clap.specs.ValueTests.{is_unsigned_in}
 use Rattle.btr_words.specs.declared.command.Command.{Command}
-use Rattle.btr_words.specs.declared.command.Command.TheVariants.{Format, Load, Ask, Distil, Live, Sample, Checkpoint, Check}
+use Rattle.btr_words.specs.declared.command.Command.TheVariants.{Format, Load, Ask, Distil, Live, LiveGroups, Sample, Checkpoint, Check}
 
 abbrev pub Text : Type 0
 Text = List ℕ
@@ -117,11 +117,14 @@ workers_argument = record { name = codes "workers"; takes = between 1 16 }
 abbrev pub batch_argument : Argument
 batch_argument = record { name = codes "batch"; takes = between 1 65536 }
 
+abbrev pub group_argument : Argument
+group_argument = record { name = codes "group"; takes = between 1 65536 }
+
 abbrev pub materialize_argument : Argument
 materialize_argument = record { name = codes "materialize"; takes = nothing }
 
 abbrev pub live_arguments : List Argument
-live_arguments = batch_argument ∷ materialize_argument ∷ []
+live_arguments = batch_argument ∷ group_argument ∷ materialize_argument ∷ []
 
 abbrev pub sample_arguments : List Argument
 sample_arguments =
@@ -140,6 +143,16 @@ batch_of found = unwrap_or (number_for (codes "batch") found) 4096
 -- `--materialize` is there.
 abbrev pub materialize_of : Found → Bool
 materialize_of found = is_found (codes "materialize") found
+
+-- `live --group B` with this number, where `--batch` must not be there.
+abbrev pub live_groups_of : Found → ℕ → Option Command
+live_groups_of found threshold =
+    if is_some (number_for (codes "batch") found) then None else Some (LiveGroups threshold (materialize_of found))
+
+-- `live`, which has shared buffers if `--group B` is there.
+abbrev pub live_of : Found → Option Command
+live_of found =
+    option_map_or (live_groups_of found) (number_for (codes "group") found) (Some (Live (batch_of found) (materialize_of found)))
 
 -- At most a million points in all.
 abbrev pub sample_within : ℕ → ℕ → ℕ → Option Command
@@ -170,8 +183,7 @@ command_with name words =
     else (if bytes_eq (codes "ask") name then option_map (λ found. Ask) (option_numbers [] words)
     else (if bytes_eq (codes "distil") name
     then option_map (λ found. Distil (workers_of found)) (option_numbers (workers_argument ∷ []) words)
-    else (if bytes_eq (codes "live") name
-    then option_map (λ found. Live (batch_of found) (materialize_of found)) (option_numbers live_arguments words)
+    else (if bytes_eq (codes "live") name then option_and_then live_of (option_numbers live_arguments words)
     else (if bytes_eq (codes "sample") name
     then option_and_then sample_of (numbers_in_order sample_arguments (without_marker words))
     else (if bytes_eq (codes "checkpoint") name then option_map (λ found. Checkpoint) (option_numbers [] words)
@@ -188,6 +200,7 @@ IsInBounds (Load workers batch) = (1 ≤ workers) × (workers ≤ 16) × (1 ≤ 
 IsInBounds Ask = Unit {0}
 IsInBounds (Distil workers) = (1 ≤ workers) × (workers ≤ 16)
 IsInBounds (Live batch materialize) = (1 ≤ batch) × (batch ≤ 65536)
+IsInBounds (LiveGroups threshold materialize) = (1 ≤ threshold) × (threshold ≤ 65536)
 IsInBounds (Sample number streams points) =
     (number ≤ 2147483647) × (1 ≤ streams) × (streams ≤ 1000) × (1 ≤ points) × (points ≤ 1000000) × (streams * points ≤ 1000000)
 IsInBounds Checkpoint = Unit {0}

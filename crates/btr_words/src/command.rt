@@ -28,6 +28,13 @@ pub enum Command {
         materialize: bool,
     },
 
+    /// `live --group B [--materialize]`: run the lines of the input on the store, with a shared buffer for each stream, and commit a
+    /// batch when it has B points, from 1 to 65,536. `--materialize`: as for `live`. There is no `--batch` beside `--group`.
+    LiveGroups {
+        threshold: u32,
+        materialize: bool,
+    },
+
     /// `sample NUMBER STREAMS POINTS`: write the rows of a sample with this number, from 0 to 2,147,483,647, of
     /// 1 to 1000 streams, each of 1 to 1,000,000 points. There are at most 1,000,000 points in all.
     Sample {

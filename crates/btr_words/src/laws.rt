@@ -1,7 +1,7 @@
 //! What the definitions entail. Each law is a function with an empty body, and its contract is the law.
 ghost use Rattle.std.specs.Prelude.{◌≡◌, List, [], ◌∷◌, ◌++◌, codes, Some, None, true, false};
 ghost use Rattle.std.specs.Option.{option_map};
-ghost use Rattle.btr_words.specs.declared.command.Command.TheVariants.{Ask, Check, Checkpoint, Distil, Format, Live, Load};
+ghost use Rattle.btr_words.specs.declared.command.Command.TheVariants.{Ask, Check, Checkpoint, Distil, Format, Live, LiveGroups, Load};
 ghost use Rattle.btr_words.specs.Words.{Text, command_of, number_of, loaded, sampled};
 
 /// The words of each command that has no flag and reads no rows, each option written as two words.
@@ -29,6 +29,20 @@ pub fn commands_with_a_flag_are_these()
         ≡ option_map (λ n. Live n true) (number_of 1 65536 b) }
     ensures twice { command_of (codes "live" ∷ codes "--materialize" ∷ codes "--materialize" ∷ []) ≡ None }
     ensures alone { (t : Text) → command_of (codes "live" ∷ (codes "--materialize=" ++ t) ∷ []) ≡ None }
+{}
+
+/// The words of `live` with shared buffers, each option written as two words. Its flag is before or after the option. `--group` and
+/// `--batch` do not go together.
+pub fn commands_with_groups_are_these()
+    ensures group { (b : Text) → command_of (codes "live" ∷ codes "--group" ∷ b ∷ [])
+        ≡ option_map (λ n. LiveGroups n false) (number_of 1 65536 b) }
+    ensures first { (b : Text) → command_of (codes "live" ∷ codes "--materialize" ∷ codes "--group" ∷ b ∷ [])
+        ≡ option_map (λ n. LiveGroups n true) (number_of 1 65536 b) }
+    ensures last { (b : Text) → command_of (codes "live" ∷ codes "--group" ∷ b ∷ codes "--materialize" ∷ [])
+        ≡ option_map (λ n. LiveGroups n true) (number_of 1 65536 b) }
+    ensures twice { (b n : Text) → command_of (codes "live" ∷ codes "--group" ∷ b ∷ codes "--group" ∷ n ∷ []) ≡ None }
+    ensures batch_first { (b n : Text) → command_of (codes "live" ∷ codes "--batch" ∷ b ∷ codes "--group" ∷ n ∷ []) ≡ None }
+    ensures batch_last { (b n : Text) → command_of (codes "live" ∷ codes "--group" ∷ b ∷ codes "--batch" ∷ n ∷ []) ≡ None }
 {}
 
 /// The words of `load`, each option written as two words, and those of `sample`.

@@ -2,7 +2,7 @@
 ghost use Rattle.std.specs.Prelude.{◌≡◌, IfOk, false};
 ghost use Rattle.clap.specs.Words.{app_of, rule_of};
 ghost use Rattle.btr_words.specs.Program.{first_app, program_app, format_app, load_app, distil_app, live_app, sample_app};
-ghost use Rattle.btr_words.specs.Program.{batch_rule, materialize_rule, workers_rule, number_rule, streams_rule, points_rule};
+ghost use Rattle.btr_words.specs.Program.{batch_rule, group_rule, materialize_rule, workers_rule, number_rule, streams_rule, points_rule};
 
 use clap::{Arg, ArgAction, Command};
 use std::alloc::{AllocError, Global};
@@ -60,12 +60,14 @@ fn distil_command<'a>(alloc: Global) -> Result<Command<'a>, AllocError>
     Command::new(alloc, "distil").arg(workers(alloc))
 }
 
-/// Returns the description of `live [--materialize] [--batch B]`. An `Err` means out of memory.
+/// Returns the description of `live [--materialize] [--batch B]` and `live --group B [--materialize]`. That `--batch` and `--group` do not
+/// go together is tested when the words have been read. An `Err` means out of memory.
 fn live_command<'a>(alloc: Global) -> Result<Command<'a>, AllocError>
     ensures { IfOk result (λ c. app_of c ≡ live_app) }
 {
     Command::new(alloc, "live")
         .arg(batch(alloc))?
+        .arg(group(alloc))?
         .arg(materialize(alloc))
 }
 
@@ -96,6 +98,16 @@ fn batch<'a>(alloc: Global) -> Arg<'a>
 {
     Arg::new(alloc, "batch")
         .long("batch")
+        .value_parser(clap::value_parser!(u64).range(1..=65536))
+}
+
+/// Returns the description of `--group B`.
+fn group<'a>(alloc: Global) -> Arg<'a>
+    ensures local { result.global ≡ false }
+    ensures rule { rule_of result ≡ group_rule }
+{
+    Arg::new(alloc, "group")
+        .long("group")
         .value_parser(clap::value_parser!(u64).range(1..=65536))
 }
 

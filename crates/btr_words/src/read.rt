@@ -45,7 +45,7 @@ fn command_in(matches: &ArgMatches) -> Option<Command>
         let workers = workers_in(arguments);
         Some(Command::Distil { workers })
     } else if name == "live" {
-        Some(live_in(arguments))
+        live_in(arguments)
     } else if name == "sample" {
         sample_in(arguments)
     } else if name == "checkpoint" {
@@ -57,13 +57,27 @@ fn command_in(matches: &ArgMatches) -> Option<Command>
     }
 }
 
-/// Returns the `live` command that was found.
-fn live_in(arguments: &ArgMatches) -> Command
+/// Returns the `live` command that was found, if it has at most one of `--batch` and `--group`.
+fn live_in(arguments: &ArgMatches) -> Option<Command>
     ensures { result ≡ spec.live_in (rows_of (found_of arguments.now)) }
 {
-    let batch = batch_in(arguments);
     let materialize = is_set(arguments, "materialize");
-    Command::Live { batch, materialize }
+    match small_number(arguments, "group") {
+        None => {
+            let batch = batch_in(arguments);
+            Some(Command::Live { batch, materialize })
+        }
+        Some(threshold) => {
+            if small_number(arguments, "batch").is_none() {
+                Some(Command::LiveGroups {
+                    threshold,
+                    materialize,
+                })
+            } else {
+                None
+            }
+        }
+    }
 }
 
 /// Returns the `sample` command that was found, if it asks for at most a million points in all.

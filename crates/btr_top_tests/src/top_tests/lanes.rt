@@ -138,7 +138,7 @@ fn eight_lanes(alloc: Global) -> Result<String, AllocError> {
 }
 
 /// Returns the version of each line of a text, if it has one.
-fn versions_in(alloc: Global, text: &[u8]) -> Result<Vec<Option<u64>>, AllocError> {
+pub(super) fn versions_in(alloc: Global, text: &[u8]) -> Result<Vec<Option<u64>>, AllocError> {
     let mut versions = Vec::new(alloc);
     let text = String::from_utf8_lossy(alloc, text)?;
     for line in text.split('\n') {

@@ -10,6 +10,6 @@ returns-in-Ok-clause-cause g c =
     inr (
       c.in-Ok.input.items,
       c.in-Ok.ensures.read,
-      subst (λ (bytes : List ℕ). ScriptCause g.D.Disk c.args.batch c.args.materialize (script_of bytes) c.args.disk c.run_script.result.disk c.run_script.result.ending)
+      subst (λ (bytes : List ℕ). ScriptCause g.D.Disk c.args.feeds c.args.materialize (script_of bytes) c.args.disk c.run_script.result.disk c.run_script.result.ending)
           c.deref.ensures.value c.run_script.ensures.cause,
     )

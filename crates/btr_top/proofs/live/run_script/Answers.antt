@@ -7,5 +7,5 @@ use Rattle.btr_top.proofs.live.run_script.Goals as goal
 
 pub returns-in-Ok-clause-cause : goal.returns-in-Ok-clause-cause
 returns-in-Ok-clause-cause g c =
-    subst (λ (lines : List ScriptLine). ScriptCause g.D.Disk c.args.batch c.args.materialize lines c.args.disk c.run_lines.result.disk c.run_lines.result.ending)
+    subst (λ (lines : List ScriptLine). ScriptCause g.D.Disk c.args.feeds c.args.materialize lines c.args.disk c.run_lines.result.disk c.run_lines.result.ending)
     (c.into_lines.ensures ∙ c.in-Ok.ensures.script) c.run_lines.ensures.cause
