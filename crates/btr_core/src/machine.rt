@@ -1,5 +1,5 @@
 //! The machine: one history for all actors.
-ghost use Rattle.std.specs.Prelude.{◌≡◌, ℕ, IfOk, OnOk, OnErr};
+ghost use Rattle.std.specs.Prelude.{◌≡◌, ℕ, length, IfOk, OnOk, OnErr};
 ghost use Rattle.btr_hist.specs.Laws.{Right};
 ghost use Rattle.btr_hist.specs.Machine as model;
 ghost use Rattle.btr_hist.specs.Machine.{Event as events};
@@ -40,6 +40,13 @@ impl Machine {
             admitted: BTreeMap::new(alloc),
             plans: BTreeMap::new(alloc),
         })
+    }
+
+    /// Returns the number of entries. It takes constant time and no memory.
+    pub fn entries(&self) -> u64
+        ensures { (m : model.Machine) → IsMachineOf m self.now → result ≡ length m.history }
+    {
+        self.board.entries()
     }
 
     /// Plays one event, and returns the reply. After an `Err`, which means out of memory, the machine is as before.

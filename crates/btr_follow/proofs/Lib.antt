@@ -1,0 +1,6 @@
+pub mod FrameLemmas
+pub mod WorldLemmas
+mod Delivering
+mod PlayLemmas
+pub mod TakingLemmas
+pub mod ShippingLemmas
