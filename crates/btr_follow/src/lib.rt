@@ -1,9 +1,9 @@
 //! A follower of a store, kept by log shipping.
 //!
 //! A leader ships the entries of its log as frames: [`ship`] writes those of a store, [`append_frame`] writes one, and [`read_frames`]
-//! finds the frames in bytes. A [`Follower`] is an engine of a store of its own that takes the entry of a frame if it is the next one and is
-//! allowed. Frames may be lost, come late, or come more than once. `specs/World.antt` has both as a machine, which [`world`] plays over the
-//! lengths of the histories: whatever happens, the follower's history is a prefix of the leader's.
+//! finds the frames in bytes. A [`Follower`] is an engine of a store of its own that takes the entry of a frame if it is the next one
+//! and is allowed. Frames may be lost, come late, or come more than once. `specs/World.antt` has both as a machine, which [`world`]
+//! plays over the lengths of the histories: whatever happens, the follower's history is a prefix of the leader's.
 #![tactic(auto)]
 
 // frames and their bytes
