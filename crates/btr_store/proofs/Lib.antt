@@ -4,7 +4,7 @@ mod Moments
 mod Rooms
 -- what work leaves
 pub mod WorkLemmas
-mod WorksOn
+pub mod WorksOn
 -- which entries are allowed
 pub mod Allowing
 -- the lines that are written

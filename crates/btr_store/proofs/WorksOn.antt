@@ -187,7 +187,7 @@ module _ {D : Type 0} (disk : Ghosts D) (only_now : disk.is_observable → (d : 
         (omega (arith, opened.synced.before.more_faults, ap disk.faults kept.synced))
         (stopped_by_fault y stopped)
 
-    works : (own : List ℕ) → ((n : ℕ) → times n own ≡ given (entries_of x) (length l) n) → Works disk (start_with h x) log own old (device y)
+    pub works : (own : List ℕ) → ((n : ℕ) → times n own ≡ given (entries_of x) (length l) n) → Works disk (start_with h x) log own old (device y)
     works own each =
         let of : IsEngineOf log.history y = engine_of_list h x l rest.of trace in
         let first : entries_of x ≡ length h = rest.of.entries in

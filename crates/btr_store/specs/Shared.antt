@@ -26,8 +26,8 @@ use Rattle.btr_store.specs.Live.{SaysScript, IsLastCurrent}
 
 -- ---- the batches of one buffer
 
--- The batches of the buffer of a stream were committed, one after another, after all of `low` had been seen: each is one entry, which adds the
--- sorted points of its offers, and has its outcome. `own` are the numbers of what they added.
+-- The batches of the buffer of a stream were committed, one after another, after all of `low` had been seen: each is one entry, which adds
+-- the sorted points of its offers, and has its outcome. `own` are the numbers of what they added.
 abbrev pub RunsBatches : StoreState → LogState → ℕ → List Entry → List SettledValue → List ℕ → Type 0
 RunsBatches start log stream low [] own = own ≡ []
 RunsBatches start log stream low (b ∷ bs) own =
@@ -35,8 +35,8 @@ RunsBatches start log stream low (b ∷ bs) own =
     × CommittedAfter start log low (entry_of_batch stream b.batch) (commit_result b.outcome) first next
     × RunsBatches start log stream next bs rest
 
--- The buffer of a stream at the end of a run, by its list: each lane has seen a beginning of the list, and each item of it is that of one line
--- of one lane. No batch is out, and each ticket is in one batch that was committed, or among those whose points are dropped.
+-- The buffer of a stream at the end of a run, by its list: each lane has seen a beginning of the list, and each item of it is that of one
+-- line of one lane. No batch is out, and each ticket is in one batch that was committed, or among those whose points are dropped.
 pub record BufferEnds (start : StoreState) (log : LogState) (low : List Entry) (stream : ℕ) (views : List Views) (items : List GroupItem)
     (own : List ℕ) : Type 0 where
   pub seen : AllByRecursion (λ (v : Views). StartsWith items (v stream).seen) views
@@ -91,7 +91,8 @@ pub record RunsInBuffers (threshold : ℕ) (materialize : Bool) (start : StoreSt
 -- A script ran; or memory ran out before any line.
 abbrev pub RunsInBuffersIf : ℕ → Bool → StoreState → LogState → List Entry → List ScriptLine → Option LiveReport → List ℕ → Type 0
 RunsInBuffersIf threshold materialize start log low script None own = own ≡ []
-RunsInBuffersIf threshold materialize start log low script (Some report) own = RunsInBuffers threshold materialize start log low script report own
+RunsInBuffersIf threshold materialize start log low script (Some report) own =
+    RunsInBuffers threshold materialize start log low script report own
 
 -- A script ran on a store that nobody else used, and this was said of it. `own` are the numbers of what was added.
 pub record SharesStore (threshold : ℕ) (materialize : Bool) (script : List ScriptLine) (start : StoreState) (log : LogState)

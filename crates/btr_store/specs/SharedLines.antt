@@ -41,7 +41,8 @@ module _ {D : Type 0} {disk : Ghosts D} where
     pub afters : List Views
     pub fresh : AllByRecursion (λ (v : Views). (stream : ℕ) → v stream ≡ no_items) befores
     pub met : HaveMet afters seats
-    pub runs : Does hall old new (λ start log low own. RunsAll (in_buffers (λ stream. nat_lt stream (length groups)) threshold befores afters)
+    pub runs : Does hall old new (λ start log low own. RunsAll
+        (in_buffers (λ stream. nat_lt stream (length groups)) threshold befores afters)
         materialize start log low script replies own)
 
   -- Or memory ran out before any line: the session is as before, and nothing was put into the buffers.

@@ -36,12 +36,12 @@ use std::sync::Wait;
 use std::thread::Threads;
 
 /// Opens the store on a device, runs the lines of a script on it, and closes the store, as [`crate::live_store`] does, but for the lines of
-/// feeds: each stream that stands at the opening has a buffer that all lanes share. `feed` puts points into it; the lane whose points are the
-/// `threshold`-th or later ones commits all that wait, in one entry, while the others go on. `flush` commits what waits. What still waits at
-/// the end is dropped.
+/// feeds: each stream that stands at the opening has a buffer that all lanes share. `feed` puts points into it; the lane whose points are
+/// the `threshold`-th or later ones commits all that wait, in one entry, while the others go on. `flush` commits what waits. What still
+/// waits at the end is dropped.
 ///
-/// Each entry since the opening is that of one line, of one batch or of one landing, for every schedule of the threads. If the device does not
-/// fail, each output that the last round did not refuse is up to date.
+/// Each entry since the opening is that of one line, of one batch or of one landing, for every schedule of the threads. If the device does
+/// not fail, each output that the last round did not refuse is up to date.
 ///
 /// It costs as [`crate::live_store`] does, and memory for a buffer of each stream.
 pub fn share_store<R: Threads + Wait + Sync, D: Disk + Send, P: Pace + Sync>(
@@ -95,7 +95,8 @@ fn share<R: Threads + Wait + Sync, D: Disk + Send, P: Pace + Sync>(
     ensures alone { IsAlone session.new }
     ensures says { IfOk result (SaysSomeScript script.entry.beside.materialize script.entry.lines.items) }
     ensures does { Does hall.now session.old session.new
-        (λ start log low own. SharesFrom script.entry.threshold script.entry.beside.materialize script.entry.lines.items start log low result own) }
+        (λ start log low own. SharesFrom script.entry.threshold script.entry.beside.materialize script.entry.lines.items
+        start log low result own) }
 {
     match run_shared(system, hall, session, script) {
         Ok(report) => say_live(system, hall, session, &report),
@@ -171,7 +172,8 @@ fn share_lanes<R: Threads + Wait + Sync, D: Disk + Send, P: Pace + Sync>(
     requires seats { AreSeatsOf groups.now seats.items × AllByRecursion IsFirstSeat seats.items }
     ensures at { IsAt hall.now session.new }
     ensures seats { AreSeatsOf groups.now result.1.items × AllByRecursion HasWholeShare result.1.items }
-    ensures runs { LanesShared hall.now groups.now script.entry.threshold script.entry.beside.materialize script.entry.lines.items session.old session.new result.0 result.1.items }
+    ensures runs { LanesShared hall.now groups.now script.entry.threshold script.entry.beside.materialize script.entry.lines.items
+        session.old session.new result.0 result.1.items }
 {
     let SharedScript {
         lines,
