@@ -7,13 +7,21 @@
 make_store store
 cp store before.ask
 cp store before.live
+cp store before.ship
+play before.hear format --blocks 64 </dev/null
 
 # The input of each command, and its words.
 : >input.format
+: >input.ship
 cp one_more input.live
 cp questions input.ask
+"$program" store ship 1 >input.hear 2>err </dev/null
 words() {
-    if [ "$1" = format ]; then echo format --blocks 64; else echo "$1"; fi
+    case $1 in
+        format) echo format --blocks 64 ;;
+        ship) echo ship 1 ;;
+        *) echo "$1" ;;
+    esac
 }
 
 # Puts the device of a run to what it is before a command. `format` begins without a file.
@@ -23,7 +31,7 @@ reset() {
 }
 
 # What each command leaves and writes when all three are open.
-for command in format live ask; do
+for command in format live ask ship hear; do
     reset "$command"
     # shellcheck disable=SC2046
     play device $(words "$command") <"input.$command"
@@ -32,6 +40,8 @@ for command in format live ask; do
     cp out "out.$command"
 done
 expect 'ask writes nothing on the device' "$(compared before.ask after.ask)" same
+expect 'ship writes nothing on the device' "$(compared before.ship after.ship)" same
+expect 'hear takes both entries' "$(cat out.hear)" 'heard 2 stale 0 early 0 bad 0 rest 0'
 
 # Runs a command with some of the descriptors 0, 1 and 2 closed.
 run_closed() {
@@ -49,8 +59,8 @@ run_closed() {
 # The status, the output and the device that a command is to give when some of the three are closed.
 wanted_closed() {
     case "$1 $2" in
-        format\ *1* | live\ *1* | ask\ *1*) echo "4, no output, $(left_closed "$1" "$2")" ;;
-        live\ *0* | ask\ *0*) echo "3, no source, $(left_closed "$1" "$2")" ;;
+        format\ *1* | live\ *1* | ask\ *1* | ship\ *1* | hear\ *1*) echo "4, no output, $(left_closed "$1" "$2")" ;;
+        live\ *0* | ask\ *0* | hear\ *0*) echo "3, no source, $(left_closed "$1" "$2")" ;;
         *) echo "0, all output, $(left_closed "$1" "$2")" ;;
     esac
 }
@@ -58,7 +68,7 @@ wanted_closed() {
 # Whether the device is then as before the command or as after it.
 left_closed() {
     case "$1 $2" in
-        live\ *0*) echo 'device as before' ;;
+        live\ *0* | hear\ *0*) echo 'device as before' ;;
         *) echo 'device as after' ;;
     esac
 }
@@ -67,7 +77,7 @@ left_closed() {
 found_closed() {
     local output='other output' device='device spoilt'
     [ -s out ] || output='no output'
-    [ "$(cat out)" != 'no source' ] || output='no source'
+    ! echo 'no source' | cmp -s - out || output='no source'
     ! cmp -s out "out.$1" || output='all output'
     ! [ -e "before.$1" ] || ! cmp -s device "before.$1" || device='device as before'
     ! cmp -s device "after.$1" || device='device as after'
@@ -75,7 +85,7 @@ found_closed() {
 }
 
 for which in 0 1 2 01 02 12 012; do
-    for command in format live ask; do
+    for command in format live ask ship hear; do
         reset "$command"
         run_closed "$command" "$which"
         found=$(found_closed "$command")

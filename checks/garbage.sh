@@ -146,6 +146,14 @@ refused live --batch 1 --group 1
 refused live --blocks 64
 refused ask --batch 5
 refused load --group 5
+refused ship
+refused ship 0
+refused ship -1
+refused ship one
+refused ship 1 2
+refused ship 18446744073709551616
+refused hear 1
+refused hear --from 1
 refused -- ask
 refused ask -- --
 refused format --Blocks 64

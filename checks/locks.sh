@@ -1,5 +1,5 @@
 #!/usr/bin/env bash
-# Two processes on one device: the second is refused, unless both are `ask`.
+# Two processes on one device: the second is refused, unless both only read.
 # shellcheck source=checks/common.sh
 . "$(dirname "$0")/common.sh"
 
@@ -39,6 +39,8 @@ second() {
 hold live
 expect 'ask beside live' "$(second ask)" '5: no device/'
 expect 'live beside live' "$(second live)" '5: no device/'
+expect 'ship beside live' "$(second ship 1)" '5: no device/'
+expect 'hear beside live' "$(second hear)" '5: no device/'
 expect 'format beside live' "$(second format --blocks 64)" '5: no device/'
 expect 'no command beside live' "$(second bogus)" '2: no usage/'
 expect 'the device beside live is as before' "$(compared device before)" same
@@ -52,11 +54,21 @@ expect 'ask after live' "$(ended)" '0: ok 2 4/0 5/3 7/4 -2/9 9/'
 cp before device
 hold ask
 expect 'ask beside ask' "$(second ask)" "0: $answer"
+expect 'ship beside ask' "$(second ship 3)" '0: '
 expect 'live beside ask' "$(second live)" '5: no device/'
+expect 'hear beside ask' "$(second hear)" '5: no device/'
 expect 'format beside ask' "$(second format --blocks 64)" '5: no device/'
 release questions
 cp held out
 expect 'ask beside the others' "$(ended), $(compared device before)" "0: $answer, same"
+
+# A `hear` that waits for its input keeps all others out.
+hold hear
+expect 'ask beside hear' "$(second ask)" '5: no device/'
+expect 'ship beside hear' "$(second ship 3)" '5: no device/'
+release /dev/null
+expect 'hear of lines that are no frames' "$status, $(sed 's/[0-9]*$/R/' held), $(compared device before)" \
+    '1, heard 0 stale 0 early 0 bad 0 rest R, same'
 
 # A holder that is killed keeps nothing.
 hold live

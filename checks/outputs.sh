@@ -6,6 +6,8 @@
 make_store before
 cp before after
 play after live <one_more
+play after ship 1 </dev/null
+cp out frames
 play formatted format --blocks 64 </dev/null
 
 # Runs a command on the device, with its output at descriptor 4.
@@ -25,6 +27,11 @@ over_4() {
     cp before device
     play_to_4 device ask <questions
     expect "ask, and $1" "$status, $(compared device before)" '4, same'
+    cp before device
+    play_to_4 device ship 1 </dev/null
+    expect "ship, and $1" "$status, $(compared device before)" '4, same'
+    play_to_4 device hear <frames
+    expect "hear, and $1" "$status, $(compared device after)" '4, same'
     play_to_4 device bogus <questions
     expect "no command, and $1" "$status" 4
 }

@@ -118,3 +118,37 @@ play device live <line
 printf 'feed %s 0 1\nfeed %s 1 2 2 3\nfeed %s 3 4\n' "$id" "$id" "$id" >script
 traced live --group 4 <script
 expect 'the calls of a batch of a shared buffer' "$(ended) $calls" "0: held 0/held 1/ok 1 0/ $open$commit"
+
+# `ship` syncs once, and writes nothing. `hear` commits each entry as a line does, and opens the store for frames that it has.
+traced ship 1 </dev/null
+expect 'the calls of ship' "$status $calls" '0 S'
+cp out frames
+: >device
+play device format --blocks 64 </dev/null
+cp device before
+traced hear <frames
+expect 'the calls of hear' "$(ended) $calls" "0: heard 2 stale 0 early 0 bad 0 rest 0/ $open$commit$commit"
+traced hear <frames
+expect 'the calls of hear of the same frames' "$(ended) $calls" "0: heard 0 stale 2 early 0 bad 0 rest 0/ $open"
+wrong=
+for k in $(seq 20); do
+    cp before device
+    inject=(-e "inject=fdatasync:error=EIO:when=$k")
+    traced hear <frames
+    inject=()
+    [ "$status" != 0 ] || break
+    case "$(ended) $calls" in
+        '5: no device/ '*X) ;;
+        *) wrong="sync $k: $(ended) $calls" ;;
+    esac
+    play device hear <frames
+    case $(ended) in
+        '0: heard 2 stale 0 '* | '0: heard 1 stale 1 '* | '0: heard 0 stale 2 '*) ;;
+        *) wrong="after sync $k: $(ended)" ;;
+    esac
+    play device check </dev/null
+    [ "$(ended)" = '0: stands 2/' ] || wrong="after sync $k: $(ended)"
+    [ -z "$wrong" ] || break
+done
+[ -n "$wrong" ] || wrong="syncs that failed: $((k - 1))"
+expect 'each sync of a hear that fails' "$wrong" 'syncs that failed: 5'

@@ -1,6 +1,6 @@
 pub mod FrameLemmas
 pub mod WorldLemmas
-mod Delivering
+pub mod Delivering
 mod PlayLemmas
 pub mod TakingLemmas
 pub mod ShippingLemmas

@@ -53,6 +53,7 @@ use Rattle.btr_follow.specs.declared.shipping.ShipFault.TheVariants.{NotAStore, 
 use Rattle.btr_follow.specs.Frames.{frame_bytes}
 use Rattle.btr_follow.specs.Shipping.{frames_numbered, is_from, frames_from, head_in, frame_in, is_sent, frames_in, bytes_in}
 use Rattle.btr_follow.specs.Shipping.{HasSentPart, BodyCause, fault_of_extent, IsAfterCheckpoint, IsShipStart, IsFirstDamage, IsLogDamage, IsShipDamage, IsNoDamage, ShipsHistory}
+use Rattle.btr_follow.specs.Shipping.{CountsSent, CountsShipped}
 use Rattle.btr_follow.specs.Shipping.{ChoiceCause, GateCause, ShipsTo, ShipsLog, StopsIn, ShipsStore, StopsStore, ShipsDurable, SendCause, ShipCause}
 
 pub on-err : {T E : Type 0} (r : Result T E) (P : Type 0) → P → OnErr r P
@@ -151,6 +152,7 @@ module _ {D : Type 0} (disk : Ghosts D) {K : Type 0} (sink : Sinking K) where
     pub few : count ≤ gate
     pub later : sink.faults old ≤ sink.faults new
     pub ships : disk.is_observable → ShipsTo disk sink from start begun old new gate count
+    pub unsent : count ≡ 0 → new ≡ old
 
   -- Nothing was shipped yet.
   pub sent-first : (from blocks start : ℕ) (d : D) (old : K) → start < blocks → (disk.is_observable → (c : Image) → disk.images_since d (disk.calls d) c → disk.images_now d c) → IsSentSince from blocks start d d old old start 0
@@ -160,6 +162,7 @@ module _ {D : Type 0} (disk : Ghosts D) {K : Type 0} (sink : Sinking K) where
     few = omega arith;
     later = omega arith;
     ships = λ seen. record { bodies = []; extents = refl; counted = refl; sent = λ told. sym (append-nil (sink.written old)) };
+    unsent = λ none. refl;
   }
 
   module _ (from blocks start : ℕ) (begun d e : D) (old k l : K) (gate count : ℕ) (since : IsSentSince from blocks start begun d old k gate count) (on : OnlyReads disk d e) where
@@ -176,6 +179,15 @@ module _ {D : Type 0} (disk : Ghosts D) {K : Type 0} (sink : Sinking K) where
           extents = ships.extents;
           sent = λ told. record { sent = bytes_in from ships.bodies; more = []; parts = sym (append-nil (bytes_in from ships.bodies)); written = ships.sent told };
         }
+
+    -- What was counted before a frame that was not sent.
+    pub counts-part : (why : ShipFault) → ((why ≡ SinkFault → ⊥) → l ≡ k) → sink.faults k ≤ sink.faults l → CountsSent disk sink from start begun old l count (Err why)
+    counts-part why same later = record {
+      all = λ n is. absurd (cc);
+      later = omega (arith, since.later, later);
+      none = λ works none. same (λ is. works (ap Err is)) ∙ since.unsent none;
+      some = λ seen works. (gate, subst (λ (x : K). ShipsTo disk sink from start begun old x gate count) (sym (same (λ is. works (ap Err is)))) (since.ships seen));
+    }
 
     pub find-cause : (fault : ExtentFault) → FindCause disk.is_observable (disk.contents d) blocks gate (disk.faults d) (disk.faults e) fault → SendCause disk sink blocks start begun e old k (fault_of_extent fault)
     find-cause (extent.Damaged block) cause = λ seen.
@@ -204,8 +216,8 @@ module _ {D : Type 0} (disk : Ghosts D) {K : Type 0} (sink : Sinking K) where
           let at = subst (λ image. IsOpen image gate × Has image (4096 * (gate + 1)) body) (sym (same-bytes begun d since.reads seen)) (there seen) in
           Extents-found (disk.contents begun) blocks gate head body next whole start (since.ships seen).bodies (since.ships seen).extents at
 
-      pub sent-more : (n : ℕ) → n ≡ length (frames_in from (body ∷ [])) → n ≤ 1 → (sink.is_observable → sink.written l ≡ sink.written k ++ bytes_in from (body ∷ [])) → sink.faults k ≤ sink.faults l → IsSentSince from blocks start begun e old l next (count + n)
-      sent-more n counted few sent later = record {
+      pub sent-more : (n : ℕ) → n ≡ length (frames_in from (body ∷ [])) → n ≤ 1 → (sink.is_observable → sink.written l ≡ sink.written k ++ bytes_in from (body ∷ [])) → sink.faults k ≤ sink.faults l → (n ≡ 0 → l ≡ k) → IsSentSince from blocks start begun e old l next (count + n)
+      sent-more n counted few sent later same = record {
         reads = reads-on;
         below = whole.inside;
         few = omega (arith, since.few, few, whole.follows);
@@ -223,6 +235,7 @@ module _ {D : Type 0} (disk : Ghosts D) {K : Type 0} (sink : Sinking K) where
                   ∙ append_assoc (sink.written old) (bytes_in from ships.bodies) (bytes_in from (body ∷ []))
                   ∙ ap (λ (x : List ℕ). sink.written old ++ x) (sym (bytes-append from ships.bodies (body ∷ [])));
             };
+        unsent = λ none. same (omega (arith, none)) ∙ since.unsent (omega (arith, none));
       }
 
       -- Its frame was written in part.
@@ -565,6 +578,29 @@ module _ {D : Type 0} (disk : Ghosts D) where
         };
         closed = subst (λ i. IsClosed i log.gate) (its-bytes seen) log.closed;
       };
+    }
+
+    -- What was counted of the log was shipped of the store.
+    pub counts-back : (count : ℕ) (result : Result ℕ ShipFault) → CountsSent disk sink from start d before after count result → CountsShipped disk sink from old before after count result
+    counts-back count result sent = record {
+      all = sent.all;
+      later = sent.later;
+      none = sent.none;
+      some = λ seen works more.
+          let ships = (sent.some seen works).1 in
+          record {
+            super = s;
+            chosen = chosen seen;
+            start = start;
+            begins = its-start seen;
+            gate = (sent.some seen works).0;
+            ships = record {
+              bodies = ships.bodies;
+              extents = subst (λ i. Extents i start ships.bodies (sent.some seen works).0) (its-bytes seen) ships.extents;
+              counted = ships.counted;
+              sent = ships.sent;
+            };
+          };
     }
 
     pub stop-back : disk.is_observable → StopsIn disk sink from start d before after → StopsStore disk sink from old before after

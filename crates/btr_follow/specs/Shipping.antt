@@ -1,6 +1,6 @@
 -- Which frames a store ships, of its history and of its log, and why not all.
-use Rattle.std.specs.Prelude.{◌≡◌, ◌⊎◌, ℕ, ◌+◌, ◌<◌, ◌==◌, nat_le, Bool, ◌&&◌, List, [], ◌∷◌, ◌++◌, map, length, take, drop}
-use Rattle.std.specs.Prelude.{Result, Ok, Err}
+use Rattle.std.specs.Prelude.{◌≡◌, ◌⊎◌, ℕ, ◌+◌, ◌<◌, ◌≤◌, ◌==◌, nat_le, Bool, ◌&&◌, List, [], ◌∷◌, ◌++◌, map, length, take, drop}
+use Rattle.std.specs.Prelude.{Result, Ok, Err, IfOk, IfErr}
 use Rattle.std.specs.List.{filter, flat_map}
 use Rattle.btr_disk.specs.declared.disk.Disk.{Ghosts}
 use Rattle.btr_disk.specs.Bytes.{Image}
@@ -69,6 +69,15 @@ pub record HasSentPart (bytes before now : List ℕ) : Type 0 where
   pub more : List ℕ
   pub parts : bytes ≡ sent ++ more
   pub written : now ≡ before ++ sent
+
+-- Without a frame the sink was not called; nor was it before a fault that is not its own.
+abbrev pub SendsNothingElse : {K : Type 0} → K → K → Result ℕ ShipFault → Type 0
+SendsNothingElse old new result =
+    IfOk result (λ n. n ≡ 0 → new ≡ old) × IfErr result (λ why. (why ≡ SinkFault → ⊥) → new ≡ old)
+
+-- The sink did not fail in a frame.
+abbrev pub IsNoSinkFault : Result ℕ ShipFault → Type 0
+IsNoSinkFault result = result ≡ Err SinkFault → ⊥
 
 -- Why the frame of a body was not written.
 abbrev pub BodyCause : ℕ → ℕ → ShipFault → Type 0
@@ -176,6 +185,13 @@ module _ {D : Type 0} (disk : Ghosts D) where
       pub extents : Extents (disk.contents d) start bodies gate
       pub sent : sink.is_observable → HasSentPart (bytes_in from bodies) (sink.written old) (sink.written new)
 
+    -- So many whole frames were sent of a log, from this gate on. If there was none, and the sink did not fail, the sink was not called.
+    pub record CountsSent (from start : ℕ) (d : D) (old new : K) (count : ℕ) (result : Result ℕ ShipFault) : Type 0 where
+      pub all : (n : ℕ) → result ≡ Ok n → n ≡ count
+      pub later : sink.faults old ≤ sink.faults new
+      pub none : IsNoSinkFault result → count ≡ 0 → new ≡ old
+      pub some : disk.is_observable → IsNoSinkFault result → (gate : ℕ) × ShipsTo from start d old new gate count
+
     -- The log of the chosen superblock was shipped.
     pub record ShipsStore (from : ℕ) (d : D) (old new : K) (count : ℕ) : Type 0 where
       pub super : Super
@@ -191,6 +207,23 @@ module _ {D : Type 0} (disk : Ghosts D) where
       pub start : ℕ
       pub begins : IsShipStart (disk.contents d) super from start
       pub stops : StopsIn from start d old new
+
+    -- So many whole frames of the log of the chosen superblock were shipped, up to a gate.
+    pub record ShipsSome (from : ℕ) (d : D) (old new : K) (count : ℕ) : Type 0 where
+      pub super : Super
+      pub chosen : IsChosen (disk.size d) (disk.contents d) super
+      pub start : ℕ
+      pub begins : IsShipStart (disk.contents d) super from start
+      pub gate : ℕ
+      pub ships : ShipsTo from start d old new gate count
+
+    -- So many whole frames were shipped of a store. If there was none, and the sink did not fail, the sink was not called. If there was
+    -- one or more, they are those of the log, in order from its first one on, and the sink took nothing else.
+    pub record CountsShipped (from : ℕ) (d : D) (old new : K) (count : ℕ) (result : Result ℕ ShipFault) : Type 0 where
+      pub all : (n : ℕ) → result ≡ Ok n → n ≡ count
+      pub later : sink.faults old ≤ sink.faults new
+      pub none : IsNoSinkFault result → count ≡ 0 → new ≡ old
+      pub some : disk.is_observable → IsNoSinkFault result → 0 < count → ShipsSome from d old new count
 
     -- Nothing was written to the sink, or a log was shipped in part.
     abbrev pub StopsStore : ℕ → D → K → K → Type 0

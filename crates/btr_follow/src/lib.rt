@@ -35,5 +35,5 @@ pub use laws::{
 };
 pub use playing::world;
 pub use reading::read_frames;
-pub use shipping::{ShipFault, ship};
+pub use shipping::{ShipFault, ship, ship_counted};
 pub use writing::append_frame;

@@ -4,6 +4,7 @@ ghost use Rattle.btr_log.specs.Extents.{IsBody};
 ghost use Rattle.btr_log.specs.Log.{FitsDevice};
 ghost use Rattle.btr_log.specs.Reads.{OnlyReads};
 ghost use Rattle.btr_follow.specs.Shipping.{frames_in, bytes_in, ShipsLog, StopsIn, HasSentPart, SendCause, BodyCause};
+ghost use Rattle.btr_follow.specs.Shipping.{CountsSent, SendsNothingElse};
 
 use crate::shipping::ShipFault;
 use crate::writing::append_frame;
@@ -12,30 +13,46 @@ use btr_io::{Sink, write_all};
 use btr_log::{Found, HEAD_BYTES, Head, find_extent};
 use std::alloc::Global;
 
-/// Writes the frames of all entries with number at least `from` of a log of this many blocks, from this gate on, and returns their number.
+/// The part of a log that is sent.
+#[derive(Clone, Copy)]
+pub(crate) struct Part {
+    /// The blocks of the store.
+    pub(crate) blocks: u64,
+
+    /// The gate from which the log is read.
+    pub(crate) start: u64,
+
+    /// The least number of an entry that is sent.
+    pub(crate) from: u64,
+}
+
+/// Writes the frames of a part of a log, and returns their number. `count` is the number of whole frames that were written, also if the
+/// rest is not.
 pub(crate) fn send_log<D: Disk, K: Sink>(
     alloc: Global,
     disk: &mut D,
-    blocks: u64,
-    start: u64,
-    from: u64,
+    part: Part,
     sink: &mut K,
+    count: &mut u64,
 ) -> Result<u64, ShipFault>
-    requires device { FitsDevice blocks (D.size disk.old) }
-    requires start { start < blocks }
+    requires device { FitsDevice part.blocks (D.size disk.old) }
+    requires start { part.start < part.blocks }
     ensures reads { OnlyReads ⟦<D as Disk>⟧ disk.old disk.new }
-    ensures log { D.is_observable → IfOk result (ShipsLog ⟦<D as Disk>⟧ ⟦<K as Sink>⟧ from start disk.old sink.old sink.new) }
-    ensures part { D.is_observable → OnErr result (StopsIn ⟦<D as Disk>⟧ ⟦<K as Sink>⟧ from start disk.old sink.old sink.new) }
-    ensures cause { IfErr result (SendCause ⟦<D as Disk>⟧ ⟦<K as Sink>⟧ blocks start disk.old disk.new sink.old sink.new) }
+    ensures log { D.is_observable
+        → IfOk result (ShipsLog ⟦<D as Disk>⟧ ⟦<K as Sink>⟧ part.from part.start disk.old sink.old sink.new) }
+    ensures part { D.is_observable
+        → OnErr result (StopsIn ⟦<D as Disk>⟧ ⟦<K as Sink>⟧ part.from part.start disk.old sink.old sink.new) }
+    ensures cause { IfErr result (SendCause ⟦<D as Disk>⟧ ⟦<K as Sink>⟧ part.blocks part.start disk.old disk.new sink.old sink.new) }
+    ensures counts { CountsSent ⟦<D as Disk>⟧ ⟦<K as Sink>⟧ part.from part.start disk.old sink.old sink.new count.new result }
 {
     let mut buffer = Vec::new(alloc);
-    let mut gate = start;
-    let mut count = 0;
-    while let Found::Extent { head, body, next } = find_extent(alloc, disk, blocks, gate)? {
-        count += send_body(&mut buffer, &head, &body, from, sink)?;
+    let mut gate = part.start;
+    *count = 0;
+    while let Found::Extent { head, body, next } = find_extent(alloc, disk, part.blocks, gate)? {
+        *count += send_body(&mut buffer, &head, &body, part.from, sink)?;
         gate = next;
     }
-    Ok(count)
+    Ok(*count)
 }
 
 /// Writes the frame of the entry with this body, if its number is at least `from`, and returns the number of frames: 1 or 0. The body of a
@@ -54,6 +71,7 @@ fn send_body<K: Sink>(
     ensures part { K.is_observable
         → OnErr result (HasSentPart (bytes_in from (body.now ∷ [])) (K.written sink.old) (K.written sink.new)) }
     ensures later { K.faults sink.old ≤ K.faults sink.new }
+    ensures unsent { SendsNothingElse sink.old sink.new result }
     ensures cause { IfErr result (BodyCause (K.faults sink.old) (K.faults sink.new)) }
 {
     if !is_entry_from(head, from) {

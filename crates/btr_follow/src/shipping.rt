@@ -8,9 +8,9 @@ ghost use Rattle.btr_hist.specs.declared.entry.Entry.{Entry as EntrySpec};
 ghost use Rattle.btr_engine.specs.Holds.{HoldsHistory};
 ghost use Rattle.btr_open.specs.Opening.{KeepsDisk};
 ghost use Rattle.btr_follow.specs.Shipping.{ShipsStore, StopsStore, ShipsDurable, ShipsHistory, ShipCause};
-ghost use Rattle.btr_follow.specs.Shipping.{ChoiceCause, GateCause, IsShipStart};
+ghost use Rattle.btr_follow.specs.Shipping.{ChoiceCause, GateCause, IsShipStart, CountsShipped};
 
-use crate::sending::send_log;
+use crate::sending::{Part, send_log};
 use btr_disk::{Disk, Failed};
 use btr_io::{Failed as SinkFailed, Sink};
 use btr_log::{ExtentFault, Found, find_extent};
@@ -63,9 +63,41 @@ pub fn ship<D: Disk, K: Sink>(
         → ShipsHistory ⟦<K as Sink>⟧ from h sink.old sink.new result }
     ensures cause { IfErr result (ShipCause ⟦<D as Disk>⟧ ⟦<K as Sink>⟧ from disk.old disk.new sink.old sink.new) }
 {
+    let mut frames = 0;
+    ship_counted(alloc, disk, from, sink, &mut frames)
+}
+
+/// Ships a store, as [`ship`] does. `frames` is the number of whole frames that were written, also if the rest is not. If there is none,
+/// and the sink did not fail, the sink was not called.
+pub fn ship_counted<D: Disk, K: Sink>(
+    alloc: Global,
+    disk: &mut D,
+    from: u64,
+    sink: &mut K,
+    frames: &mut u64,
+) -> Result<u64, ShipFault>
+    ensures kept { KeepsDisk ⟦<D as Disk>⟧ disk.old disk.new }
+    // A crash leaves what was read, unless nothing was written to the sink: no entry that was shipped is lost.
+    ensures durable { D.is_observable → ShipsDurable ⟦<D as Disk>⟧ ⟦<K as Sink>⟧ disk.new sink.old sink.new result }
+    // Whatever the device has, the frames are those of the log, or a prefix of them.
+    ensures log { D.is_observable → IfOk result (ShipsStore ⟦<D as Disk>⟧ ⟦<K as Sink>⟧ from disk.old sink.old sink.new) }
+    ensures part { D.is_observable → OnErr result (StopsStore ⟦<D as Disk>⟧ ⟦<K as Sink>⟧ from disk.old sink.old sink.new) }
+    // If the device holds a history, they are those of its entries, and no block is damaged.
+    ensures history { D.is_observable → (h : List EntrySpec) → HoldsHistory (D.size disk.old) (D.contents disk.old) h
+        → ShipsHistory ⟦<K as Sink>⟧ from h sink.old sink.new result }
+    ensures cause { IfErr result (ShipCause ⟦<D as Disk>⟧ ⟦<K as Sink>⟧ from disk.old disk.new sink.old sink.new) }
+    // How many frames were written.
+    ensures counts { CountsShipped ⟦<D as Disk>⟧ ⟦<K as Sink>⟧ from disk.old sink.old sink.new frames.new result }
+{
+    *frames = 0;
     let found = read_super(disk)?;
-    let gate = start_gate(alloc, disk, &found, from)?;
-    send_log(alloc, disk, found.blocks, gate, from, sink)
+    let start = start_gate(alloc, disk, &found, from)?;
+    let part = Part {
+        blocks: found.blocks,
+        start,
+        from,
+    };
+    send_log(alloc, disk, part, sink, frames)
 }
 
 /// Syncs the device and chooses its superblock.

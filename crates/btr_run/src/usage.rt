@@ -1,7 +1,7 @@
 //! What is said on standard error of words that are refused.
 
 /// The commands, with their options and numbers, as COMMANDS has them.
-const COMMANDS: [&str; 9] = [
+const COMMANDS: [&str; 11] = [
     "format --blocks N",
     "live [--materialize] [--batch B]",
     "live --group B [--materialize]",
@@ -11,6 +11,8 @@ const COMMANDS: [&str; 9] = [
     "checkpoint",
     "check",
     "sample NUMBER STREAMS POINTS",
+    "ship FROM",
+    "hear",
 ];
 
 /// Says on standard error what is wrong with the words of a command line, of which the first is the program's name, and which

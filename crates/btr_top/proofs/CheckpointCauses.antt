@@ -22,7 +22,7 @@ use Rattle.btr_streams.proofs.RollingLemmas.{rolled-is}
 use Rattle.btr_streams.proofs.StreamsLemmas.{has-streams}
 use Rattle.btr_open.specs.Opening.{IsOpenedEngine}
 use Rattle.btr_top.specs.declared.ending.Ending.{Ending}
-use Rattle.btr_top.specs.declared.ending.Ending.TheVariants.{Usage, NoSource, TooLong, OutOfMemory, NoDevice, NoStore, Damaged, Occupied, TooSmall, Formatted, Checkpointed, Stands, Full, Replied}
+use Rattle.btr_top.specs.declared.ending.Ending.TheVariants.{Usage, NoSource, TooLong, OutOfMemory, NoDevice, NoStore, Damaged, Occupied, TooSmall, Formatted, Checkpointed, Stands, Full, Shipped, CutShort, Replied}
 use Rattle.btr_top.specs.Command.{IsKept, OpeningCause}
 use Rattle.btr_top.specs.Checkpoint.{need_of_checkpoint, Lasts, AddsCheckpoint, CheckpointEnds}
 use Rattle.btr_top.proofs.OneStore.{AreOne, one_store, one_super}
@@ -57,6 +57,8 @@ module _ {D : Type 0} (disk : Ghosts D) where
     refused_cause (Checkpointed entries) why kept = absurd why
     refused_cause (Stands entries) why kept = absurd why
     refused_cause (Full need room) why kept = absurd why
+    refused_cause (Shipped frames) why kept = absurd why
+    refused_cause (CutShort cut) why kept = absurd why
     refused_cause (Replied transcript) why kept = absurd why
 
 module _ {D : Type 0} (disk : Ghosts D) (counts_now : CountsNow disk) (old : D) (engine : Engine D disk) (opened : IsOpenedEngine disk old engine) where

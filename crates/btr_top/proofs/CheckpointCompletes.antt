@@ -5,7 +5,7 @@ use Rattle.btr_disk.specs.Causes.{Rose}
 use Rattle.btr_engine.specs.Holds.{HoldsHistory}
 use Rattle.btr_open.specs.Laws.{HeldIsSound}
 use Rattle.btr_top.specs.declared.ending.Ending.{Ending}
-use Rattle.btr_top.specs.declared.ending.Ending.TheVariants.{Usage, NoSource, TooLong, OutOfMemory, NoDevice, NoStore, Damaged, Occupied, TooSmall, Formatted, Checkpointed, Stands, Full, Replied}
+use Rattle.btr_top.specs.declared.ending.Ending.TheVariants.{Usage, NoSource, TooLong, OutOfMemory, NoDevice, NoStore, Damaged, Occupied, TooSmall, Formatted, Checkpointed, Stands, Full, Shipped, CutShort, Replied}
 use Rattle.btr_top.specs.Ending.{status_of}
 use Rattle.btr_top.specs.Checkpoint.{CheckpointEnds, CanCheckpoint}
 use Rattle.btr_top.specs.Run.{IsPlainStatus}
@@ -30,4 +30,6 @@ module _ {D : Type 0} (disk : Ghosts D) (old new : D) (sound : HeldIsSound) (can
   benign_checkpoint (Full need room) why =
       let is = why.3 reported can.history can.blocks can.tail can.holds in
       absurd (omega (arith, why.1, is.0, is.1, can.fits))
+  benign_checkpoint (Shipped frames) why = absurd why.0
+  benign_checkpoint (CutShort cut) why = absurd why.0
   benign_checkpoint (Replied transcript) why = absurd why.0

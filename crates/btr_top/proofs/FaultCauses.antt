@@ -6,7 +6,7 @@ use Rattle.btr_io.specs.declared.sink.Sink.{Ghosts as SinkGhosts}
 use Rattle.btr_disk.specs.declared.disk.Disk.{Ghosts}
 use Rattle.btr_disk.specs.Causes.{Rose}
 use Rattle.btr_words.specs.declared.command.Command.{Command}
-use Rattle.btr_words.specs.declared.command.Command.TheVariants.{Format, Load, Ask, Distil, Live, LiveGroups, Sample, Checkpoint, Check}
+use Rattle.btr_words.specs.declared.command.Command.TheVariants.{Format, Load, Ask, Distil, Live, LiveGroups, Sample, Checkpoint, Check, Ship, Hear}
 use Rattle.btr_rows.specs.Rows.{rows_of}
 use Rattle.btr_rows.specs.Streams.{list_of}
 use Rattle.btr_text.specs.Input.{questions_of, script_of}
@@ -22,7 +22,7 @@ use Rattle.btr_top.specs.declared.live.FeedKind.TheVariants.{Own, Shared}
 use Rattle.btr_store.specs.Distil.{DistilsStore}
 use Rattle.btr_store.specs.SampleLaw.{SamplesStore}
 use Rattle.btr_top.specs.declared.ending.Ending.{Ending}
-use Rattle.btr_top.specs.declared.ending.Ending.TheVariants.{Usage, NoSource, TooLong, OutOfMemory, NoDevice, NoStore, Damaged, Occupied, TooSmall, Formatted, Checkpointed, Stands, Full, Replied}
+use Rattle.btr_top.specs.declared.ending.Ending.TheVariants.{Usage, NoSource, TooLong, OutOfMemory, NoDevice, NoStore, Damaged, Occupied, TooSmall, Formatted, Checkpointed, Stands, Full, Shipped, CutShort, Replied}
 use Rattle.btr_top.specs.Ending.{status_of, text_of, Writes, Shows}
 use Rattle.btr_top.specs.Command.{InputCause, CommandCause}
 use Rattle.btr_top.specs.Format.{FormatCause}
@@ -31,7 +31,9 @@ use Rattle.btr_top.specs.Check.{CheckCause}
 use Rattle.btr_top.specs.Work.{WorkSays, WorkCause, RowsCause}
 use Rattle.btr_top.specs.Ask.{QuestionsCause}
 use Rattle.btr_top.specs.Live.{ScriptCause}
+use Rattle.btr_top.specs.Hear.{HearsFrames, HearingCause}
 use Rattle.btr_top.specs.Run.{Cause, RunCause}
+use Rattle.btr_top.proofs.ShipCauses.{ship_fault}
 
 -- ---- statuses
 
@@ -81,6 +83,8 @@ module _ {D : Type 0} (disk : Ghosts D) (old new : D) where
   work_fault What (Checkpointed entries) why five = absurd why.0
   work_fault What (Stands entries) why five = absurd why.0
   work_fault What (Full need room) why five = absurd why.0
+  work_fault What (Shipped frames) why five = absurd why.0
+  work_fault What (CutShort cut) why five = absurd why.0
   work_fault What (Replied transcript) why five = why.1.plain.faulted (fault_of_code transcript.status five)
 
   asked_fault : (lines : List ScriptLine) (e : Ending) → QuestionsCause disk lines old new e → status_of e ≡ 5 → Failed
@@ -97,6 +101,8 @@ module _ {D : Type 0} (disk : Ghosts D) (old new : D) where
   asked_fault lines (Checkpointed entries) why five = absurd why.0
   asked_fault lines (Stands entries) why five = absurd why.0
   asked_fault lines (Full need room) why five = absurd why.0
+  asked_fault lines (Shipped frames) why five = absurd why.0
+  asked_fault lines (CutShort cut) why five = absurd why.0
   asked_fault lines (Replied transcript) why five = why.plain.faulted (fault_of_code transcript.status five)
 
   format_fault : (blocks : ℕ) (e : Ending) → FormatCause disk blocks old new e → status_of e ≡ 5 → Failed
@@ -113,6 +119,8 @@ module _ {D : Type 0} (disk : Ghosts D) (old new : D) where
   format_fault blocks (Checkpointed entries) why five = absurd why
   format_fault blocks (Stands entries) why five = absurd why
   format_fault blocks (Full need room) why five = absurd why
+  format_fault blocks (Shipped frames) why five = absurd why
+  format_fault blocks (CutShort cut) why five = absurd why
   format_fault blocks (Replied transcript) why five = absurd why
 
   checkpoint_fault : (e : Ending) → CheckpointEnds disk old new e → status_of e ≡ 5 → Failed
@@ -129,6 +137,8 @@ module _ {D : Type 0} (disk : Ghosts D) (old new : D) where
   checkpoint_fault (Checkpointed entries) why five = absurd (omega (arith, five))
   checkpoint_fault (Stands entries) why five = absurd why.0
   checkpoint_fault (Full need room) why five = absurd (omega (arith, five))
+  checkpoint_fault (Shipped frames) why five = absurd why.0
+  checkpoint_fault (CutShort cut) why five = absurd why.0
   checkpoint_fault (Replied transcript) why five = absurd why.0
 
   check_fault : (e : Ending) → CheckCause disk old new e → status_of e ≡ 5 → Failed
@@ -145,6 +155,8 @@ module _ {D : Type 0} (disk : Ghosts D) (old new : D) where
   check_fault (Checkpointed entries) why five = absurd why
   check_fault (Stands entries) why five = absurd (omega (arith, five))
   check_fault (Full need room) why five = absurd why
+  check_fault (Shipped frames) why five = absurd why
+  check_fault (CutShort cut) why five = absurd why
   check_fault (Replied transcript) why five = absurd why
 
 -- An input that was not read is no fault of the device.
@@ -162,11 +174,13 @@ input_five source given rest (Formatted made) why five = why
 input_five source given rest (Checkpointed entries) why five = why
 input_five source given rest (Stands entries) why five = why
 input_five source given rest (Full need room) why five = why
+input_five source given rest (Shipped frames) why five = why
+input_five source given rest (CutShort cut) why five = why
 input_five source given rest (Replied transcript) why five = why
 
 -- ---- runs
 
-module _ {S D : Type 0} (source : SourceGhosts S) (disk : Ghosts D) (given rest : S) (old new : D) where
+module _ {S K D : Type 0} (source : SourceGhosts S) (sink : SinkGhosts K) (disk : Ghosts D) (given rest : S) (before sent : K) (old new : D) where
   read_fault : (cause : List ℕ → D → D → Ending → Type 0) (e : Ending) → ((input : List ℕ) → cause input old new e → status_of e ≡ 5 → Failed disk old new) → CommandCause source cause given rest old new e → status_of e ≡ 5 → Failed disk old new
   read_fault cause e each why five =
       ⊎_elim
@@ -174,7 +188,14 @@ module _ {S D : Type 0} (source : SourceGhosts S) (disk : Ghosts D) (given rest 
       (λ read. each read.0 read.2 five)
       why
 
-  cause_fault : (command : Option Command) (e : Ending) → Cause source disk command given rest old new e → status_of e ≡ 5 → Failed disk old new
+  heard_fault : (input : List ℕ) (e : Ending) → HearingCause disk input old new e → status_of e ≡ 5 → Failed disk old new
+  heard_fault input e why five =
+      ⊎_elim
+      (λ lacks. let nine : status_of e ≡ 9 = ap status_of lacks.0 in absurd (omega (arith, nine, five)))
+      (λ heard. work_fault disk old new (λ said start log own. HearsFrames heard.0 start log said) e heard.2.0 five)
+      why
+
+  cause_fault : (command : Option Command) (e : Ending) → Cause source sink disk command given rest before sent old new e → status_of e ≡ 5 → Failed disk old new
   cause_fault None e why five = let two : status_of e ≡ 2 = ap status_of why.0 in absurd (omega (arith, two, five))
   cause_fault (Some (Format blocks)) e why five = format_fault disk old new blocks e why.1 five
   cause_fault (Some (Live batch materialize)) e why five =
@@ -196,8 +217,10 @@ module _ {S D : Type 0} (source : SourceGhosts S) (disk : Ghosts D) (given rest 
       work_fault disk old new (λ said start log own. SamplesStore number streams points start log said own) e why.1.0 five
   cause_fault (Some Checkpoint) e why five = checkpoint_fault disk old new e why.1 five
   cause_fault (Some Check) e why five = check_fault disk old new e why.1.cause five
+  cause_fault (Some (Ship from)) e why five = ship_fault sink disk from before sent old new e why.1 five
+  cause_fault (Some Hear) e why five = read_fault (HearingCause disk) e (λ input. heard_fault input e) why five
 
-  run_fault : (command : Option Command) (e : Ending) → RunCause source disk command given rest old new e → status_of e ≡ 5 → Failed disk old new
+  run_fault : (command : Option Command) (e : Ending) → RunCause source sink disk command given rest before sent old new e → status_of e ≡ 5 → Failed disk old new
   run_fault command e why five =
       ⊎_elim
       (λ cause. cause_fault command e cause five)
@@ -205,5 +228,5 @@ module _ {S D : Type 0} (source : SourceGhosts S) (disk : Ghosts D) (given rest 
       why
 
   -- The status that was shown is 5 only if the count of faults of the device rose.
-  pub fault_shown : {K : Type 0} (sink : SinkGhosts K) (before after : K) (command : Option Command) (e : Ending) (status : ℕ) → RunCause source disk command given rest old new e → Shows sink e before after status → status ≡ 5 → Rose (disk.faults old) (disk.faults new)
-  fault_shown sink before after command e status why shows five = run_fault command e why (shown_five sink before after e status shows five)
+  pub fault_shown : (after : K) (command : Option Command) (e : Ending) (status : ℕ) → RunCause source sink disk command given rest before sent old new e → Shows sink e sent after status → status ≡ 5 → Rose (disk.faults old) (disk.faults new)
+  fault_shown after command e status why shows five = run_fault command e why (shown_five sink sent after e status shows five)

@@ -7,6 +7,10 @@ mod CheckpointCauses
 -- why a command ends so
 mod LineLists
 mod AskedLines
+mod ShipCauses
+mod HeardLemmas
+mod HeardCauses
+mod SinkFaults
 mod UnsoundKept
 mod WorkCauses
 mod FaultCauses
@@ -37,4 +41,5 @@ mod AskCompletes
 mod FormatCompletes
 mod CheckpointCompletes
 mod CheckCompletes
+mod HearCompletes
 mod RunCompletes

@@ -13,7 +13,7 @@ use Rattle.btr_store.specs.declared.transcript.Transcript.{Transcript}
 use Rattle.btr_store.specs.Completes.{IsBenign}
 use Rattle.btr_store.specs.Work.{HoldsStart, DoesRightly}
 use Rattle.btr_top.specs.declared.ending.Ending.{Ending}
-use Rattle.btr_top.specs.declared.ending.Ending.TheVariants.{Usage, NoSource, TooLong, OutOfMemory, NoDevice, NoStore, Damaged, Occupied, TooSmall, Formatted, Checkpointed, Stands, Full, Replied}
+use Rattle.btr_top.specs.declared.ending.Ending.TheVariants.{Usage, NoSource, TooLong, OutOfMemory, NoDevice, NoStore, Damaged, Occupied, TooSmall, Formatted, Checkpointed, Stands, Full, Shipped, CutShort, Replied}
 use Rattle.btr_top.specs.Ending.{status_of}
 use Rattle.btr_top.specs.Work.{WorkSays, WorkCause}
 use Rattle.btr_top.specs.Run.{IsPlainStatus}
@@ -72,4 +72,6 @@ module _ {D : Type 0} (disk : Ghosts D) (old new : D) (history : List Entry) (bl
   plain_work What benign (Checkpointed entries) why = absurd why.0
   plain_work What benign (Stands entries) why = absurd why.0
   plain_work What benign (Full need room) why = absurd why.0
+  plain_work What benign (Shipped frames) why = absurd why.0
+  plain_work What benign (CutShort cut) why = absurd why.0
   plain_work What benign (Replied transcript) why = benign_code transcript.status (benign transcript why.0 (why.1.rightly reported history held))

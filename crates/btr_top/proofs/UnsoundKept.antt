@@ -20,15 +20,16 @@ use Rattle.btr_top.specs.declared.live.FeedKind.TheVariants.{Own, Shared}
 use Rattle.btr_store.specs.Distil.{DistilsStore}
 use Rattle.btr_store.specs.SampleLaw.{SamplesStore}
 use Rattle.btr_words.specs.declared.command.Command.{Command}
-use Rattle.btr_words.specs.declared.command.Command.TheVariants.{Format, Load, Ask, Distil, Live, LiveGroups, Sample, Checkpoint, Check}
+use Rattle.btr_words.specs.declared.command.Command.TheVariants.{Format, Load, Ask, Distil, Live, LiveGroups, Sample, Checkpoint, Check, Ship, Hear}
 use Rattle.btr_top.specs.declared.ending.Ending.{Ending}
-use Rattle.btr_top.specs.declared.ending.Ending.TheVariants.{Usage, NoSource, TooLong, OutOfMemory, NoDevice, NoStore, Damaged, Occupied, TooSmall, Formatted, Checkpointed, Stands, Full, Replied}
+use Rattle.btr_top.specs.declared.ending.Ending.TheVariants.{Usage, NoSource, TooLong, OutOfMemory, NoDevice, NoStore, Damaged, Occupied, TooSmall, Formatted, Checkpointed, Stands, Full, Shipped, CutShort, Replied}
 use Rattle.btr_top.specs.Ending.{status_of, text_of, Writes, Shows}
 use Rattle.btr_top.specs.Command.{InputCause, CommandCause, IsKept}
 use Rattle.btr_top.specs.Checkpoint.{CheckpointEnds}
 use Rattle.btr_top.specs.Work.{WorkSays, WorkCause, RowsCause}
 use Rattle.btr_top.specs.Ask.{QuestionsCause}
 use Rattle.btr_top.specs.Live.{ScriptCause}
+use Rattle.btr_top.specs.Hear.{HearsFrames, HearingCause}
 use Rattle.btr_top.specs.Run.{Cause, RunCause, OpensStore, IsRefusal, IsRefused}
 
 -- ---- statuses
@@ -85,6 +86,8 @@ input_refused source given rest (Formatted made) why = absurd why
 input_refused source given rest (Checkpointed entries) why = absurd why
 input_refused source given rest (Stands entries) why = absurd why
 input_refused source given rest (Full need room) why = absurd why
+input_refused source given rest (Shipped frames) why = absurd why
+input_refused source given rest (CutShort cut) why = absurd why
 input_refused source given rest (Replied transcript) why = absurd why
 
 -- ---- endings
@@ -116,6 +119,8 @@ module _ {D : Type 0} (disk : Ghosts D) (only_now : disk.is_observable → (d : 
   work_refused What (Checkpointed entries) why = absurd why.0
   work_refused What (Stands entries) why = absurd why.0
   work_refused What (Full need room) why = absurd why.0
+  work_refused What (Shipped frames) why = absurd why.0
+  work_refused What (CutShort cut) why = absurd why.0
   work_refused What (Replied transcript) why = absurd (unsound (why.1.plain.sound reported))
 
   asked_refused : (lines : List ScriptLine) (e : Ending) → QuestionsCause disk lines old new e → Refused e
@@ -132,6 +137,8 @@ module _ {D : Type 0} (disk : Ghosts D) (only_now : disk.is_observable → (d : 
   asked_refused lines (Checkpointed entries) why = absurd why.0
   asked_refused lines (Stands entries) why = absurd why.0
   asked_refused lines (Full need room) why = absurd why.0
+  asked_refused lines (Shipped frames) why = absurd why.0
+  asked_refused lines (CutShort cut) why = absurd why.0
   asked_refused lines (Replied transcript) why = absurd (unsound (why.plain.sound reported))
 
   checkpoint_refused : (e : Ending) → CheckpointEnds disk old new e → Refused e
@@ -148,11 +155,13 @@ module _ {D : Type 0} (disk : Ghosts D) (only_now : disk.is_observable → (d : 
   checkpoint_refused (Checkpointed entries) why = absurd (unsound (why.0 reported))
   checkpoint_refused (Stands entries) why = absurd why.0
   checkpoint_refused (Full need room) why = absurd (unsound (why.0 reported))
+  checkpoint_refused (Shipped frames) why = absurd why.0
+  checkpoint_refused (CutShort cut) why = absurd why.0
   checkpoint_refused (Replied transcript) why = absurd why.0
 
   -- ---- runs
 
-  module _ {S : Type 0} (source : SourceGhosts S) (given rest : S) where
+  module _ {S K : Type 0} (source : SourceGhosts S) (sink : SinkGhosts K) (given rest : S) (before sent : K) where
     read_refused : (cause : List ℕ → D → D → Ending → Type 0) (e : Ending) → ((input : List ℕ) → cause input old new e → Refused e) → CommandCause source cause given rest old new e → Refused e
     read_refused cause e each why =
         ⊎_elim
@@ -160,7 +169,14 @@ module _ {D : Type 0} (disk : Ghosts D) (only_now : disk.is_observable → (d : 
         (λ read. each read.0 read.2)
         why
 
-    cause_refused : (command : Option Command) (e : Ending) → OpensStore command → Cause source disk command given rest old new e → Refused e
+    heard_refused : (input : List ℕ) (e : Ending) → HearingCause disk input old new e → Refused e
+    heard_refused input e why =
+        ⊎_elim
+        (λ lacks. (lacks.1, subst (λ (x : Ending). IsRefusal (status_of x)) (sym lacks.0) without_memory))
+        (λ heard. work_refused (λ said start log own. HearsFrames heard.0 start log said) e heard.2.0)
+        why
+
+    cause_refused : (command : Option Command) (e : Ending) → OpensStore command → Cause source sink disk command given rest before sent old new e → Refused e
     cause_refused None e opens why = absurd opens
     cause_refused (Some (Format blocks)) e opens why = absurd opens
     cause_refused (Some (Live batch materialize)) e opens why =
@@ -182,16 +198,18 @@ module _ {D : Type 0} (disk : Ghosts D) (only_now : disk.is_observable → (d : 
         work_refused (λ said start log own. SamplesStore number streams points start log said own) e why.1.0
     cause_refused (Some Checkpoint) e opens why = checkpoint_refused e why.1
     cause_refused (Some Check) e opens why = absurd opens
+    cause_refused (Some (Ship from)) e opens why = absurd opens
+    cause_refused (Some Hear) e opens why = read_refused (HearingCause disk) e (λ input. heard_refused input e) why
 
-    run_refused : (command : Option Command) (e : Ending) → OpensStore command → RunCause source disk command given rest old new e → Refused e
+    run_refused : (command : Option Command) (e : Ending) → OpensStore command → RunCause source sink disk command given rest before sent old new e → Refused e
     run_refused command e opens why =
         ⊎_elim
         (λ cause. cause_refused command e opens cause)
-        (λ lacks. (same_kept lacks.2, subst (λ (x : Ending). IsRefusal (status_of x)) (sym lacks.0) without_memory))
+        (λ lacks. (same_kept lacks.3, subst (λ (x : Ending). IsRefusal (status_of x)) (sym lacks.0) without_memory))
         why
 
     -- What the run did, and what was shown of it.
-    pub refused_shown : {K : Type 0} (sink : SinkGhosts K) (before after : K) (command : Option Command) (e : Ending) (status : ℕ) → OpensStore command → RunCause source disk command given rest old new e → Shows sink e before after status → IsRefused disk old new status
-    refused_shown sink before after command e status opens why shows =
+    pub refused_shown : (after : K) (command : Option Command) (e : Ending) (status : ℕ) → OpensStore command → RunCause source sink disk command given rest before sent old new e → Shows sink e sent after status → IsRefused disk old new status
+    refused_shown after command e status opens why shows =
         let refused = run_refused command e opens why in
-        record { kept = refused.0; refusal = refusal_shown sink before after e status refused.1 shows }
+        record { kept = refused.0; refusal = refusal_shown sink sent after e status refused.1 shows }

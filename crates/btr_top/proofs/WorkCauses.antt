@@ -6,7 +6,7 @@ use Rattle.btr_disk.specs.declared.disk.Disk.{Ghosts}
 use Rattle.btr_store.specs.declared.transcript.Transcript.{Transcript}
 use Rattle.btr_store.specs.Work.{DoesRightly, IfHolds, IsPlainWork}
 use Rattle.btr_top.specs.declared.ending.Ending.{Ending}
-use Rattle.btr_top.specs.declared.ending.Ending.TheVariants.{Usage, NoSource, TooLong, OutOfMemory, NoDevice, NoStore, Damaged, Occupied, TooSmall, Formatted, Checkpointed, Stands, Full, Replied}
+use Rattle.btr_top.specs.declared.ending.Ending.TheVariants.{Usage, NoSource, TooLong, OutOfMemory, NoDevice, NoStore, Damaged, Occupied, TooSmall, Formatted, Checkpointed, Stands, Full, Shipped, CutShort, Replied}
 use Rattle.btr_top.specs.Command.{IsKept, OpeningCause}
 use Rattle.btr_top.specs.Work.{IfReplied, WorkSays, WorkDid, WorkCause, ending_of}
 
@@ -35,6 +35,8 @@ unopened_cause disk What old new (Formatted made) why kept = absurd why
 unopened_cause disk What old new (Checkpointed entries) why kept = absurd why
 unopened_cause disk What old new (Stands entries) why kept = absurd why
 unopened_cause disk What old new (Full need room) why kept = absurd why
+unopened_cause disk What old new (Shipped frames) why kept = absurd why
+unopened_cause disk What old new (CutShort cut) why kept = absurd why
 unopened_cause disk What old new (Replied transcript) why kept = absurd why
 
 -- ---- what is said
@@ -62,4 +64,6 @@ unopened_says disk Says old new (Formatted made) why = tt
 unopened_says disk Says old new (Checkpointed entries) why = tt
 unopened_says disk Says old new (Stands entries) why = tt
 unopened_says disk Says old new (Full need room) why = tt
+unopened_says disk Says old new (Shipped frames) why = tt
+unopened_says disk Says old new (CutShort cut) why = tt
 unopened_says disk Says old new (Replied transcript) why = absurd why

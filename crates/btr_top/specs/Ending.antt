@@ -5,9 +5,20 @@ use Rattle.btr_io.specs.Faults.{Rose}
 use Rattle.btr_text.specs.Text.{line_text}
 use Rattle.btr_top.specs.declared.ending.Ending.{Ending}
 use Rattle.btr_top.specs.declared.ending.Ending.TheVariants.{Usage, NoSource, TooLong, OutOfMemory, NoDevice, NoStore}
-use Rattle.btr_top.specs.declared.ending.Ending.TheVariants.{Damaged, Occupied, TooSmall, Formatted, Checkpointed, Stands, Full, Replied}
+use Rattle.btr_top.specs.declared.ending.Ending.TheVariants.{Damaged, Occupied, TooSmall, Formatted, Checkpointed, Stands, Full}
+use Rattle.btr_top.specs.declared.ending.Ending.TheVariants.{Shipped, CutShort, Replied}
 use Rattle.btr_top.specs.declared.command.TheConstants.{MAX_INPUT}
 use Rattle.btr_store.specs.Status.{code_of}
+use Rattle.btr_follow.specs.declared.shipping.ShipFault.{ShipFault}
+use Rattle.btr_follow.specs.declared.shipping.ShipFault.TheVariants as fault
+
+-- The status of a run that ended by this fault after a frame, or in one.
+abbrev pub status_of_cut : ShipFault → ℕ
+status_of_cut fault.NotAStore = 6
+status_of_cut (fault.Damaged block) = 7
+status_of_cut fault.Fault = 5
+status_of_cut fault.SinkFault = 4
+status_of_cut fault.Want = 9
 
 -- The status of an ending whose text is written.
 abbrev pub status_of : Ending → ℕ
@@ -24,9 +35,11 @@ status_of (Formatted blocks) = 0
 status_of (Checkpointed entries) = 0
 status_of (Stands entries) = 0
 status_of (Full need left) = 8
+status_of (Shipped frames) = 0
+status_of (CutShort why) = status_of_cut why
 status_of (Replied transcript) = code_of transcript.status
 
--- The text of an ending: one line, or the replies.
+-- The text of an ending: one line, or the replies, or nothing after frames.
 abbrev pub text_of : Ending → List ℕ
 text_of Usage = line_text (codes "no" ∷ codes "usage" ∷ [])
 text_of NoSource = line_text (codes "no" ∷ codes "source" ∷ [])
@@ -41,12 +54,16 @@ text_of (Formatted blocks) = line_text (codes "formatted" ∷ decimal blocks ∷
 text_of (Checkpointed entries) = line_text (codes "checkpoint" ∷ decimal entries ∷ [])
 text_of (Stands entries) = line_text (codes "stands" ∷ decimal entries ∷ [])
 text_of (Full need left) = line_text (codes "no" ∷ codes "full" ∷ decimal need ∷ decimal left ∷ [])
+text_of (Shipped frames) = []
+text_of (CutShort why) = []
 text_of (Replied transcript) = transcript.text.items
 
 -- The line of an ending is made for it, which takes memory. The replies of a script are there already, and so is the line of a device
--- that failed.
+-- that failed. After frames there is none.
 abbrev pub NeedsLine : Ending → Type 0
 NeedsLine NoDevice = ⊥
+NeedsLine (Shipped frames) = ⊥
+NeedsLine (CutShort why) = ⊥
 NeedsLine (Replied transcript) = ⊥
 NeedsLine e = Unit {0}
 

@@ -8,6 +8,8 @@ pub mod Ask
 pub mod Format
 pub mod Checkpoint
 pub mod Check
+pub mod Ship
+pub mod Hear
 -- the whole run
 pub mod Ending
 pub mod Run

@@ -9,6 +9,7 @@ use Rattle.btr_disk.specs.Causes.{Rose}
 use Rattle.btr_open.specs.Damage.{IsUndamaged}
 use Rattle.btr_words.specs.declared.command.Command.{Command}
 use Rattle.btr_words.specs.declared.command.Command.TheVariants.{Format, Load, Ask, Distil, Live, LiveGroups, Sample, Checkpoint, Check}
+use Rattle.btr_words.specs.declared.command.Command.TheVariants.{Ship, Hear}
 use Rattle.btr_top.specs.declared.ending.Ending.{Ending}
 use Rattle.btr_top.specs.declared.ending.Ending.TheVariants.{Usage, OutOfMemory}
 use Rattle.btr_top.specs.declared.command.TheConstants.{MAX_INPUT}
@@ -19,33 +20,45 @@ use Rattle.btr_top.specs.Ask.{AskCause, CanAsk}
 use Rattle.btr_top.specs.Format.{FormatCause, FormatLeaves, CanFormat}
 use Rattle.btr_top.specs.Checkpoint.{CheckpointEnds, CanCheckpoint}
 use Rattle.btr_top.specs.Check.{CheckEnds, HoldsLegalStore}
+use Rattle.btr_top.specs.Ship.{ShipEnds, CanShip}
+use Rattle.btr_top.specs.Hear.{HearEnds, CanHear}
 use Rattle.btr_top.specs.Work.{LoadCause, DistilCause, SampleCause, CanLoad, CanDistil, CanSample}
 use Rattle.btr_top.specs.Ending.{Shows}
 
--- Why a run with this command ends so. `given` and `rest` are the source before and after it, `old` and `new` the device. What is
--- said of bytes holds of a source and a device that can be observed, and what is said of a history of each that the device held.
-abbrev pub Cause : {S D : Type 0} → SourceGhosts S → Ghosts D → Option Command → S → S → D → D → Ending → Type 0
-Cause source disk None given rest old new e = (e ≡ Usage) × (rest ≡ given) × (new ≡ old)
-Cause source disk (Some (Format blocks)) given rest old new e = (rest ≡ given) × FormatCause disk blocks old new e
-Cause source disk (Some (Live batch materialize)) given rest old new e = LiveCause source disk (Own batch) materialize given rest old new e
-Cause source disk (Some (LiveGroups threshold materialize)) given rest old new e =
+-- Why a run with this command ends so. `given` and `rest` are the source before and after it, `before` and `sent` the sink before it and
+-- before the text of the ending, `old` and `new` the device. What is said of bytes holds of a source, a sink and a device that can be
+-- observed, and what is said of a history of each that the device held.
+abbrev pub Cause : {S K D : Type 0} → SourceGhosts S → SinkGhosts K → Ghosts D → Option Command → S → S → K → K → D → D → Ending → Type 0
+Cause source sink disk None given rest before sent old new e = (e ≡ Usage) × (rest ≡ given) × (new ≡ old)
+Cause source sink disk (Some (Format blocks)) given rest before sent old new e = (rest ≡ given) × FormatCause disk blocks old new e
+Cause source sink disk (Some (Live batch materialize)) given rest before sent old new e =
+    LiveCause source disk (Own batch) materialize given rest old new e
+Cause source sink disk (Some (LiveGroups threshold materialize)) given rest before sent old new e =
     LiveCause source disk (Shared threshold) materialize given rest old new e
-Cause source disk (Some Ask) given rest old new e = AskCause source disk given rest old new e
-Cause source disk (Some (Load workers batch)) given rest old new e = LoadCause source disk workers batch given rest old new e
-Cause source disk (Some (Distil workers)) given rest old new e = (rest ≡ given) × DistilCause disk workers old new e
-Cause source disk (Some (Sample number streams points)) given rest old new e =
+Cause source sink disk (Some Ask) given rest before sent old new e = AskCause source disk given rest old new e
+Cause source sink disk (Some (Load workers batch)) given rest before sent old new e =
+    LoadCause source disk workers batch given rest old new e
+Cause source sink disk (Some (Distil workers)) given rest before sent old new e = (rest ≡ given) × DistilCause disk workers old new e
+Cause source sink disk (Some (Sample number streams points)) given rest before sent old new e =
     (rest ≡ given) × SampleCause disk number streams points old new e
-Cause source disk (Some Checkpoint) given rest old new e = (rest ≡ given) × CheckpointEnds disk old new e
-Cause source disk (Some Check) given rest old new e = (rest ≡ given) × CheckEnds disk old new e
+Cause source sink disk (Some Checkpoint) given rest before sent old new e = (rest ≡ given) × CheckpointEnds disk old new e
+Cause source sink disk (Some Check) given rest before sent old new e = (rest ≡ given) × CheckEnds disk old new e
+Cause source sink disk (Some (Ship from)) given rest before sent old new e = (rest ≡ given) × ShipEnds sink disk from before sent old new e
+Cause source sink disk (Some Hear) given rest before sent old new e = HearEnds source disk given rest old new e
 
 -- There was no memory to read the words, and nothing was done.
-abbrev pub WordsLackMemory : {S D : Type 0} → S → S → D → D → Ending → Type 0
-WordsLackMemory given rest old new e = (e ≡ OutOfMemory) × (rest ≡ given) × (new ≡ old)
+abbrev pub WordsLackMemory : {S K D : Type 0} → S → S → K → K → D → D → Ending → Type 0
+WordsLackMemory given rest before sent old new e = (e ≡ OutOfMemory) × (rest ≡ given) × (sent ≡ before) × (new ≡ old)
 
 -- Why a run with these words ends so.
-abbrev pub RunCause : {S D : Type 0} → SourceGhosts S → Ghosts D → Option Command → S → S → D → D → Ending → Type 0
-RunCause source disk command given rest old new e =
-    Cause source disk command given rest old new e ⊎ WordsLackMemory given rest old new e
+abbrev pub RunCause : {S K D : Type 0} → SourceGhosts S → SinkGhosts K → Ghosts D → Option Command → S → S → K → K → D → D → Ending → Type 0
+RunCause source sink disk command given rest before sent old new e =
+    Cause source sink disk command given rest before sent old new e ⊎ WordsLackMemory given rest before sent old new e
+
+-- The command writes nothing to the sink but the text of its ending.
+abbrev pub WritesAtEnd : Option Command → Type 0
+WritesAtEnd (Some (Ship from)) = ⊥
+WritesAtEnd command = Unit {0}
 
 -- The device and the input are such that the command comes to its end if nothing fails: there is a store, with room for all that the
 -- command may add; for `check`, one with a legal history. Of `format` it is said by `CanFormat`.
@@ -60,16 +73,19 @@ CanRun source disk (Some (Distil workers)) given old = CanDistil disk old
 CanRun source disk (Some (Sample number streams points)) given old = CanSample disk number streams points old
 CanRun source disk (Some Checkpoint) given old = CanCheckpoint disk old
 CanRun source disk (Some Check) given old = HoldsLegalStore disk old
+CanRun source disk (Some (Ship from)) given old = CanShip disk old
+CanRun source disk (Some Hear) given old = CanHear source disk given old
 
 -- The command only reads the device.
 abbrev pub IsReader : Option Command → Type 0
-IsReader command = (command ≡ Some Ask) ⊎ (command ≡ Some Check)
+IsReader command = (command ≡ Some Ask) ⊎ (command ≡ Some Check) ⊎ ((from : ℕ) × (command ≡ Some (Ship from)))
 
--- The command opens a store, and works on it or asks it.
+-- The command opens a store, and works on it or asks it. `check` and `ship` open none.
 abbrev pub OpensStore : Option Command → Type 0
 OpensStore None = ⊥
 OpensStore (Some (Format blocks)) = ⊥
 OpensStore (Some Check) = ⊥
+OpensStore (Some (Ship from)) = ⊥
 OpensStore command = Unit {0}
 
 -- The status of a refusal: the source, the sink or the device failed; there was no store, or a damaged one; memory ran out; or the input
@@ -96,8 +112,11 @@ module _ {S K D : Type 0} (source : SourceGhosts S) (sink : SinkGhosts K) (disk 
   -- The run ended in one of the ways above, and what it says of that was written to the sink.
   pub record Ends (command : Option Command) (given rest : S) (before after : K) (old new : D) (status : ℕ) : Type 0 where
     pub ending : Ending
-    pub cause : RunCause source disk command given rest old new ending
-    pub shown : Shows sink ending before after status
+    -- the sink before the text of the ending
+    pub sent : K
+    pub cause : RunCause source sink disk command given rest before sent old new ending
+    pub at_end : WritesAtEnd command → sent ≡ before
+    pub shown : Shows sink ending sent after status
 
   -- No call of the source, the device or the sink failed.
   pub record AllWork (given rest : S) (before after : K) (old new : D) : Type 0 where
@@ -123,5 +142,5 @@ module _ {S K D : Type 0} (source : SourceGhosts S) (sink : SinkGhosts K) (disk 
     -- on a device that can be observed, and that has no store or a damaged block, a command that opens a store does nothing
     pub unsound : disk.is_observable → OpensStore command → (IsUndamaged (disk.size old) (disk.contents old) → ⊥)
         → IsRefused disk old new status
-    -- however `ask` or `check` ends, nothing is written
+    -- however `ask`, `check` or `ship` ends, nothing is written on the device
     pub kept : IsReader command → IsKept disk old new

@@ -2,9 +2,10 @@
 ghost use Rattle.std.specs.Prelude.{◌≡◌, ◌++◌, [], ◌∷◌, map, codes, decimal, IfOk, OnErr, OnOk};
 ghost use Rattle.btr_io.specs.Faults.{Rose};
 ghost use Rattle.btr_text.specs.Text.{line_text};
-ghost use Rattle.btr_top.specs.Ending.{NeedsLine, Shows, WrotePrefix, Writes, status_of, text_of};
+ghost use Rattle.btr_top.specs.Ending.{NeedsLine, Shows, WrotePrefix, Writes, status_of, status_of_cut, text_of};
 
 use crate::command::MAX_INPUT;
+use btr_follow::ShipFault;
 use btr_io::{Failed, Sink, write_all};
 use btr_store::Transcript;
 use btr_text::append_line;
@@ -54,19 +55,28 @@ pub enum Ending {
     /// A checkpoint needs more blocks than are left.
     Full { need: u64, left: u64 },
 
+    /// All frames were written, as many as this.
+    Shipped { frames: u64 },
+
+    /// The frames were written in part, and then this fault came. No line follows.
+    CutShort { fault: ShipFault },
+
     /// The command did its work, and says this of it: a reply to each line of the input, lines of its own, or both.
     Replied(Transcript),
 }
 
 /// Writes the text of an ending, and returns the status of the run. It is 4 if the sink fails, 9 if there is no memory
 /// for the line (which is then that of [`Ending::OutOfMemory`]), and else that of the ending. The line of a device that failed
-/// takes no memory. The replies to a script are handed to the sink without a copy.
+/// takes no memory. The replies to a script are handed to the sink without a copy. After frames nothing is written, but the sink passes
+/// them on.
 pub(crate) fn show<K: Sink>(alloc: Global, sink: &mut K, ending: &Ending) -> u8
     ensures { Shows ⟦<K as Sink>⟧ ending.now sink.old sink.new result }
 {
     match ending {
         Ending::Replied(Transcript { status, text }) => write_text(sink, text, status.code()),
         Ending::NoDevice => write_text(sink, b"no device\n", 5),
+        Ending::Shipped { .. } => write_text(sink, b"", 0),
+        Ending::CutShort { fault } => write_text(sink, b"", status_of_cut(*fault)),
         _ => show_line(alloc, sink, ending),
     }
 }
@@ -104,6 +114,19 @@ fn write_and_flush<K: Sink>(sink: &mut K, text: &[u8]) -> Result<(), Failed>
     sink.flush()
 }
 
+/// Returns the status of a run whose frames were cut short by this fault.
+fn status_of_cut(fault: ShipFault) -> u8
+    ensures { result ≡ status_of_cut fault }
+{
+    match fault {
+        ShipFault::NotAStore => 6,
+        ShipFault::Damaged { .. } => 7,
+        ShipFault::Fault => 5,
+        ShipFault::SinkFault => 4,
+        ShipFault::Want => 9,
+    }
+}
+
 /// Returns the status of an ending whose text is written.
 fn status_of(ending: &Ending) -> u8
     ensures { result ≡ status_of ending.now }
@@ -122,6 +145,8 @@ fn status_of(ending: &Ending) -> u8
         Ending::Checkpointed { .. } => 0,
         Ending::Stands { .. } => 0,
         Ending::Full { .. } => 8,
+        Ending::Shipped { .. } => 0,
+        Ending::CutShort { fault } => status_of_cut(*fault),
         Ending::Replied(transcript) => transcript.status.code(),
     }
 }
@@ -145,7 +170,8 @@ fn text_of(alloc: Global, ending: &Ending) -> Result<Vec<u8>, AllocError>
         Ending::Checkpointed { entries } => done_text(alloc, b"checkpoint", *entries),
         Ending::Stands { entries } => done_text(alloc, b"stands", *entries),
         Ending::Full { need, left } => two_numbers_text(alloc, b"full", *need, *left),
-        Ending::NoDevice | Ending::Replied(_) => Ok(Vec::new(alloc)),
+        Ending::NoDevice | Ending::Shipped { .. } | Ending::CutShort { .. } | Ending::Replied(_) =>
+            Ok(Vec::new(alloc)),
     }
 }
 
@@ -158,7 +184,7 @@ fn numbered_text(alloc: Global, word: &[u8], number: u64) -> Result<Vec<u8>, All
 }
 
 /// Returns the line of a refusal with two numbers, which are in blocks: those that were wanted, and those that there are.
-fn two_numbers_text(
+pub(crate) fn two_numbers_text(
     alloc: Global,
     word: &[u8],
     wanted: u64,
@@ -188,7 +214,7 @@ fn done_text(alloc: Global, word: &[u8], number: u64) -> Result<Vec<u8>, AllocEr
 }
 
 /// Returns a line of these words.
-fn line(alloc: Global, first: &[u8], rest: &[&[u8]]) -> Result<Vec<u8>, AllocError>
+pub(crate) fn line(alloc: Global, first: &[u8], rest: &[&[u8]]) -> Result<Vec<u8>, AllocError>
     ensures { IfOk result (λ t. t.items ≡ line_text (first.now ∷ map (λ w. w.now) rest.now)) }
 {
     let mut out = Vec::new(alloc);

@@ -10,9 +10,11 @@ mod check;
 mod checkpoint;
 mod distil;
 mod format_store;
+mod hear;
 mod live;
 mod load;
 mod sample;
+mod ship;
 // what the commands share
 mod command;
 mod remains;

@@ -3,10 +3,10 @@ ghost use Rattle.std.specs.Prelude.{◌≡◌, ℕ, ◌+◌, ◌≤◌, ◌^◌,
 ghost use Rattle.btr_io.specs.Bytes.{Gives};
 ghost use Rattle.btr_words.specs.declared.command.Command.TheVariants.{Format};
 ghost use Rattle.btr_top.specs.declared.command.TheConstants.{MAX_INPUT};
-ghost use Rattle.btr_words.specs.Words.{command_of};
+ghost use Rattle.btr_words.specs.Words.{command_of, IsInBounds};
 ghost use Rattle.btr_top.specs.Command.{IsKept};
 ghost use Rattle.btr_top.specs.Format.{FormatCause, FormatLeaves};
-ghost use Rattle.btr_top.specs.Run.{IsReader, RunCause, Runs};
+ghost use Rattle.btr_top.specs.Run.{IsReader, RunCause, Runs, WritesAtEnd};
 
 use crate::ask::run_ask;
 use crate::check::run_check;
@@ -15,10 +15,12 @@ use crate::command::CommandResult;
 use crate::distil::run_distil;
 use crate::ending::{Ending, show};
 use crate::format_store::format_store;
+use crate::hear::run_hear;
 use crate::live::{FeedKind, run_live};
 use crate::load::run_load;
 use crate::remains::RunRemains;
 use crate::sample::run_sample;
+use crate::ship::run_ship;
 use btr_disk::Disk;
 use btr_io::{Sink, Source};
 use btr_jobs::{NoPace, Pace, System};
@@ -41,9 +43,9 @@ pub struct Outcome<D> {
     pub remains: RunRemains,
 }
 
-/// Runs the command that the words say: it works on the device, and writes the text of its ending to the sink. `load`, `live` and `ask`
-/// read the source to its end first. The others read nothing. `live`, `load`, `distil` and `sample` start threads by `rt`, and a session
-/// waits by it for its turns at the store.
+/// Runs the command that the words say: it works on the device, and writes the text of its ending to the sink. `load`, `live`, `ask` and
+/// `hear` read the source to its end first. The others read nothing. `ship` writes to the sink while it reads the device. `live`, `load`,
+/// `distil` and `sample` start threads by `rt`, and a session waits by it for its turns at the store.
 ///
 /// It is [`run_paced`] with a pace that does nothing.
 pub fn run<R: Threads + Wait + Sync, S: Source, K: Sink, D: Disk + Send>(
@@ -78,7 +80,7 @@ pub fn run_paced<R: Threads + Wait + Sync, S: Source, K: Sink, D: Disk + Send, P
         ending,
         disk,
         remains,
-    } = dispatch(system, words, source, disk, pace);
+    } = dispatch(system, words, source, sink, disk, pace);
     let status = show(system.alloc, sink, &ending);
     // so a device that holds a history is not refused as one without a store, or as a damaged one
     held_is_sound();
@@ -92,74 +94,89 @@ pub fn run_paced<R: Threads + Wait + Sync, S: Source, K: Sink, D: Disk + Send, P
 }
 
 /// Does what the words say.
-fn dispatch<R: Threads + Wait + Sync, S: Source, D: Disk + Send, P: Pace + Sync>(
+fn dispatch<R: Threads + Wait + Sync, S: Source, K: Sink, D: Disk + Send, P: Pace + Sync>(
     system: System<'_, R>,
     words: &[String],
     source: &mut S,
+    sink: &mut K,
     disk: D,
     pace: &P,
 ) -> CommandResult<D>
     ensures size { D.size result.disk ≡ D.size disk }
     ensures input { S.is_observable → Gives (MAX_INPUT + 1) (S.left source.old) (S.left source.new) }
-    ensures cause { RunCause ⟦<S as Source>⟧ ⟦<D as Disk>⟧ (command_of (map string_bytes words.now)) source.old source.new
-        disk result.disk result.ending }
+    ensures cause { RunCause ⟦<S as Source>⟧ ⟦<K as Sink>⟧ ⟦<D as Disk>⟧ (command_of (map string_bytes words.now))
+        source.old source.new sink.old sink.new disk result.disk result.ending }
+    ensures at_end { WritesAtEnd (command_of (map string_bytes words.now)) → sink.new ≡ sink.old }
+    ensures later { K.faults sink.old ≤ K.faults sink.new }
     ensures format_leaves { D.is_observable → (blocks : ℕ) → command_of (map string_bytes words.now) ≡ Some (Format blocks)
         → FormatLeaves ⟦<D as Disk>⟧ blocks disk result.disk }
     ensures kept { IsReader (command_of (map string_bytes words.now)) → IsKept ⟦<D as Disk>⟧ disk result.disk }
 {
     match read_words(system.alloc, words) {
-        Err(_) => CommandResult {
-            ending: Ending::OutOfMemory,
-            disk,
-            remains: RunRemains::Nothing,
-        },
-        Ok(None) => CommandResult {
-            ending: Ending::Usage,
-            disk,
-            remains: RunRemains::Nothing,
-        },
-        Ok(Some(Command::Format { blocks })) => make_store(disk, blocks),
-        Ok(Some(Command::Live { batch, materialize })) => {
-            run_live(
-                system,
-                FeedKind::Own { batch },
-                materialize,
-                source,
-                disk,
-                pace,
-            )
+        Ok(Some(command)) => run_one(system, command, source, sink, disk, pace),
+        Ok(None) => undone(Ending::Usage, disk),
+        Err(_) => undone(Ending::OutOfMemory, disk),
+    }
+}
+
+/// Ends so, with nothing done.
+fn undone<D: Disk>(ending: Ending, disk: D) -> CommandResult<D>
+    ensures ending { result.ending ≡ ending }
+    ensures disk { result.disk ≡ disk }
+{
+    CommandResult {
+        ending,
+        disk,
+        remains: RunRemains::Nothing,
+    }
+}
+
+/// Does a command.
+fn run_one<R: Threads + Wait + Sync, S: Source, K: Sink, D: Disk + Send, P: Pace + Sync>(
+    system: System<'_, R>,
+    command: Command,
+    source: &mut S,
+    sink: &mut K,
+    disk: D,
+    pace: &P,
+) -> CommandResult<D>
+    requires { IsInBounds command }
+    ensures size { D.size result.disk ≡ D.size disk }
+    ensures input { S.is_observable → Gives (MAX_INPUT + 1) (S.left source.old) (S.left source.new) }
+    ensures cause { RunCause ⟦<S as Source>⟧ ⟦<K as Sink>⟧ ⟦<D as Disk>⟧ (Some command)
+        source.old source.new sink.old sink.new disk result.disk result.ending }
+    ensures at_end { WritesAtEnd (Some command) → sink.new ≡ sink.old }
+    ensures later { K.faults sink.old ≤ K.faults sink.new }
+    ensures format_leaves { D.is_observable → (blocks : ℕ) → command ≡ Format blocks
+        → FormatLeaves ⟦<D as Disk>⟧ blocks disk result.disk }
+    ensures kept { IsReader (Some command) → IsKept ⟦<D as Disk>⟧ disk result.disk }
+{
+    let alloc = system.alloc;
+    match command {
+        Command::Format { blocks } => make_store(disk, blocks),
+        Command::Live { batch, materialize } => {
+            let feeds = FeedKind::Own { batch };
+            run_live(system, feeds, materialize, source, disk, pace)
         }
-        Ok(
-            Some(
-                Command::LiveGroups {
-                    threshold,
-                    materialize,
-                },
-            ),
-        ) => run_live(
-            system,
-            FeedKind::Shared { threshold },
+        Command::LiveGroups {
+            threshold,
             materialize,
-            source,
-            disk,
-            pace,
-        ),
-        Ok(Some(Command::Ask)) => run_ask(system.alloc, source, disk),
-        Ok(Some(Command::Load { workers, batch })) => {
-            run_load(system, workers, batch, source, disk, pace)
+        } => {
+            let feeds = FeedKind::Shared { threshold };
+            run_live(system, feeds, materialize, source, disk, pace)
         }
-        Ok(Some(Command::Distil { workers })) => run_distil(system, workers, disk, pace),
-        Ok(
-            Some(
-                Command::Sample {
-                    number,
-                    streams,
-                    points,
-                },
-            ),
-        ) => run_sample(system, number, streams, points, disk, pace),
-        Ok(Some(Command::Checkpoint)) => run_checkpoint(system.alloc, disk),
-        Ok(Some(Command::Check)) => run_check(system.alloc, disk),
+        Command::Ask => run_ask(alloc, source, disk),
+        Command::Load { workers, batch } => run_load(system, workers, batch, source, disk, pace),
+        Command::Distil { workers } => run_distil(system, workers, disk, pace),
+        Command::Sample {
+            number,
+            streams,
+            points,
+        } => run_sample(system, number, streams, points, disk, pace),
+        Command::Checkpoint => run_checkpoint(alloc, disk),
+        Command::Check => run_check(alloc, disk),
+        Command::Ship { from } => run_ship(alloc, from, sink, disk),
+        Command::Hear => run_hear(alloc, source, disk),
     }
 }
 

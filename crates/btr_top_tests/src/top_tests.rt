@@ -6,6 +6,7 @@ mod checks;
 mod crashes;
 mod device;
 mod fixture;
+mod follower;
 mod lanes;
 mod outputs;
 mod retirements;

@@ -8,7 +8,7 @@ use Rattle.clap.specs.Simple.{new_shape}
 use Rattle.clap.specs.declared.builder.action.ArgAction.TheVariants as action
 use Rattle.clap.specs.declared.builder.value_parser.ValueParser.TheVariants as vp
 use Rattle.btr_words.specs.declared.command.Command.{Command}
-use Rattle.btr_words.specs.declared.command.Command.TheVariants.{Format, Load, Ask, Distil, Live, LiveGroups, Checkpoint, Check}
+use Rattle.btr_words.specs.declared.command.Command.TheVariants.{Format, Load, Ask, Distil, Live, LiveGroups, Checkpoint, Check, Ship, Hear}
 use Rattle.btr_words.specs.Words.{Text, number_of, sampled}
 
 -- An option of this name that takes a number.
@@ -68,6 +68,15 @@ checkpoint_app = new_app (codes "checkpoint")
 abbrev pub check_app : App
 check_app = new_app (codes "check")
 
+abbrev pub from_rule : Rule
+from_rule = value_in (codes "from") 1 18446744073709551615
+
+abbrev pub ship_app : App
+ship_app = with_rule (new_app (codes "ship")) from_rule
+
+abbrev pub hear_app : App
+hear_app = new_app (codes "hear")
+
 abbrev pub program_shape : Shape
 program_shape = record (new_shape (codes "btr")) {
   no_binary_name = true;
@@ -82,10 +91,14 @@ abbrev pub first_app : App
 first_app = with_subcommand (with_subcommand (with_subcommand (record { top = program_shape; subs = [] }) format_app.top) load_app.top)
     ask_app.top
 
-abbrev pub program_app : App
-program_app =
+-- The program with all commands but those of frames.
+abbrev pub main_app : App
+main_app =
     with_subcommand (with_subcommand (with_subcommand (with_subcommand (with_subcommand
     first_app distil_app.top) live_app.top) sample_app.top) checkpoint_app.top) check_app.top
+
+abbrev pub program_app : App
+program_app = with_subcommand (with_subcommand main_app ship_app.top) hear_app.top
 
 -- The number that the rows have for an argument.
 abbrev pub number_in : Text → List Row → ℕ → Option ℕ
@@ -116,6 +129,9 @@ sample_in rows =
     sampled (number_in (codes "number") rows 4294967295) (number_in (codes "streams") rows 4294967295)
     (number_in (codes "points") rows 4294967295)
 
+abbrev pub ship_in : List Row → Option Command
+ship_in rows = option_map (λ n. Ship n) (number_in (codes "from") rows 18446744073709551615)
+
 -- The command of this name with these rows of its arguments.
 abbrev pub command_with_rows : Text → List Row → Option Command
 command_with_rows name rows =
@@ -126,7 +142,9 @@ command_with_rows name rows =
     else (if bytes_eq name (codes "sample") then sample_in rows
     else (if bytes_eq name (codes "checkpoint") then Some Checkpoint
     else (if bytes_eq name (codes "check") then Some Check
-    else Some Ask))))))
+    else (if bytes_eq name (codes "ship") then ship_in rows
+    else (if bytes_eq name (codes "hear") then Some Hear
+    else Some Ask))))))))
 
 -- The command of the subcommand that was found.
 abbrev pub command_of_rows : Option (Text × List Row) → Option Command

@@ -9,6 +9,7 @@ use Rattle.clap.specs.Lexer.{long_of}
 use Rattle.clap.specs.ValueTests.{is_unsigned_in}
 use Rattle.btr_words.specs.declared.command.Command.{Command}
 use Rattle.btr_words.specs.declared.command.Command.TheVariants.{Format, Load, Ask, Distil, Live, LiveGroups, Sample, Checkpoint, Check}
+use Rattle.btr_words.specs.declared.command.Command.TheVariants.{Ship, Hear}
 
 abbrev pub Text : Type 0
 Text = List ℕ
@@ -132,6 +133,9 @@ sample_arguments =
     ∷ record { name = codes "streams"; takes = between 1 1000 }
     ∷ record { name = codes "points"; takes = between 1 1000000 } ∷ []
 
+abbrev pub from_argument : Argument
+from_argument = record { name = codes "from"; takes = between 1 18446744073709551615 }
+
 -- `--workers K`, 1 if it is not there.
 abbrev pub workers_of : Found → ℕ
 workers_of found = unwrap_or (number_for (codes "workers") found) 1
@@ -174,6 +178,10 @@ sampled number streams points = option_and_then (λ n. option_and_then (λ s. op
 abbrev pub sample_of : Found → Option Command
 sample_of found = sampled (number_for (codes "number") found) (number_for (codes "streams") found) (number_for (codes "points") found)
 
+-- `ship FROM`, where the number must be there.
+abbrev pub ship_of : Found → Option Command
+ship_of found = option_map (λ n. Ship n) (number_for (codes "from") found)
+
 -- The command of this name with these words after it.
 abbrev pub command_with : Text → List Text → Option Command
 command_with name words =
@@ -187,7 +195,10 @@ command_with name words =
     else (if bytes_eq (codes "sample") name
     then option_and_then sample_of (numbers_in_order sample_arguments (without_marker words))
     else (if bytes_eq (codes "checkpoint") name then option_map (λ found. Checkpoint) (option_numbers [] words)
-    else (if bytes_eq (codes "check") name then option_map (λ found. Check) (option_numbers [] words) else None)))))))
+    else (if bytes_eq (codes "check") name then option_map (λ found. Check) (option_numbers [] words)
+    else (if bytes_eq (codes "ship") name
+    then option_and_then ship_of (numbers_in_order (from_argument ∷ []) (without_marker words))
+    else (if bytes_eq (codes "hear") name then option_map (λ found. Hear) (option_numbers [] words) else None)))))))))
 
 abbrev pub command_of : List Text → Option Command
 command_of [] = None
@@ -205,3 +216,5 @@ IsInBounds (Sample number streams points) =
     (number ≤ 2147483647) × (1 ≤ streams) × (streams ≤ 1000) × (1 ≤ points) × (points ≤ 1000000) × (streams * points ≤ 1000000)
 IsInBounds Checkpoint = Unit {0}
 IsInBounds Check = Unit {0}
+IsInBounds (Ship from) = (1 ≤ from) × (from ≤ 18446744073709551615)
+IsInBounds Hear = Unit {0}

@@ -48,4 +48,12 @@ pub enum Command {
 
     /// `check`: read the whole store, and say whether it is right.
     Check,
+
+    /// `ship FROM`: write the frames of the store's entries with number at least FROM, from 1 to 18,446,744,073,709,551,615.
+    Ship {
+        from: u64,
+    },
+
+    /// `hear`: put the entries of the frames of the input into the store, each in its place.
+    Hear,
 }

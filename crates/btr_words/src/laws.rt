@@ -2,6 +2,7 @@
 ghost use Rattle.std.specs.Prelude.{◌≡◌, List, [], ◌∷◌, ◌++◌, codes, Some, None, true, false};
 ghost use Rattle.std.specs.Option.{option_map};
 ghost use Rattle.btr_words.specs.declared.command.Command.TheVariants.{Ask, Check, Checkpoint, Distil, Format, Live, LiveGroups, Load};
+ghost use Rattle.btr_words.specs.declared.command.Command.TheVariants.{Hear, Ship};
 ghost use Rattle.btr_words.specs.Words.{Text, command_of, number_of, loaded, sampled};
 
 /// The words of each command that has no flag and reads no rows, each option written as two words.
@@ -59,4 +60,12 @@ pub fn commands_of_rows_are_these()
     ensures twice { (k n : Text) → command_of (codes "load" ∷ codes "--workers" ∷ k ∷ codes "--workers" ∷ n ∷ []) ≡ None }
     ensures sample { (n s p : Text) → command_of (codes "sample" ∷ n ∷ s ∷ p ∷ [])
         ≡ sampled (number_of 0 2147483647 n) (number_of 1 1000 s) (number_of 1 1000000 p) }
+{}
+
+/// The words of the commands of frames: `ship` has one number, and `hear` has nothing.
+pub fn commands_of_frames_are_these()
+    ensures ship { (n : Text) → command_of (codes "ship" ∷ n ∷ [])
+        ≡ option_map (λ k. Ship k) (number_of 1 18446744073709551615 n) }
+    ensures ship_alone { command_of (codes "ship" ∷ []) ≡ None }
+    ensures hear { command_of (codes "hear" ∷ []) ≡ Some Hear }
 {}

@@ -1,8 +1,10 @@
 //! The commands and their arguments, as `clap` reads them.
 ghost use Rattle.std.specs.Prelude.{◌≡◌, IfOk, false};
 ghost use Rattle.clap.specs.Words.{app_of, rule_of};
-ghost use Rattle.btr_words.specs.Program.{first_app, program_app, format_app, load_app, distil_app, live_app, sample_app};
+ghost use Rattle.btr_words.specs.Program.{first_app, main_app, program_app, format_app, load_app, distil_app};
+ghost use Rattle.btr_words.specs.Program.{live_app, sample_app, ship_app};
 ghost use Rattle.btr_words.specs.Program.{batch_rule, group_rule, materialize_rule, workers_rule, number_rule, streams_rule, points_rule};
+ghost use Rattle.btr_words.specs.Program.{from_rule};
 
 use clap::{Arg, ArgAction, Command};
 use std::alloc::{AllocError, Global};
@@ -10,6 +12,15 @@ use std::alloc::{AllocError, Global};
 /// Returns the description of all commands. Help and versions cannot be asked for. An `Err` means out of memory.
 pub(crate) fn program<'a>(alloc: Global) -> Result<Command<'a>, AllocError>
     ensures { IfOk result (λ c. app_of c ≡ program_app) }
+{
+    main_commands(alloc)?
+        .subcommand(ship_command(alloc)?)?
+        .subcommand(Command::new(alloc, "hear"))
+}
+
+/// Returns the description of all commands but those of frames. An `Err` means out of memory.
+fn main_commands<'a>(alloc: Global) -> Result<Command<'a>, AllocError>
+    ensures { IfOk result (λ c. app_of c ≡ main_app) }
 {
     first_commands(alloc)?
         .subcommand(distil_command(alloc)?)?
@@ -81,6 +92,13 @@ fn sample_command<'a>(alloc: Global) -> Result<Command<'a>, AllocError>
         .arg(points(alloc))
 }
 
+/// Returns the description of `ship FROM`. An `Err` means out of memory.
+fn ship_command<'a>(alloc: Global) -> Result<Command<'a>, AllocError>
+    ensures { IfOk result (λ c. app_of c ≡ ship_app) }
+{
+    Command::new(alloc, "ship").arg(from(alloc))
+}
+
 /// Returns the description of `--workers K`.
 fn workers<'a>(alloc: Global) -> Arg<'a>
     ensures local { result.global ≡ false }
@@ -143,4 +161,12 @@ fn points<'a>(alloc: Global) -> Arg<'a>
     ensures rule { rule_of result ≡ points_rule }
 {
     Arg::new(alloc, "points").value_parser(clap::value_parser!(u64).range(1..=1000000))
+}
+
+/// Returns the description of FROM.
+fn from<'a>(alloc: Global) -> Arg<'a>
+    ensures local { result.global ≡ false }
+    ensures rule { rule_of result ≡ from_rule }
+{
+    Arg::new(alloc, "from").value_parser(clap::value_parser!(u64).range(1..))
 }

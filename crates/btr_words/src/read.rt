@@ -52,6 +52,10 @@ fn command_in(matches: &ArgMatches) -> Option<Command>
         Some(Command::Checkpoint)
     } else if name == "check" {
         Some(Command::Check)
+    } else if name == "ship" {
+        ship_in(arguments)
+    } else if name == "hear" {
+        Some(Command::Hear)
     } else {
         Some(Command::Ask)
     }
@@ -96,6 +100,14 @@ fn sample_in(arguments: &ArgMatches) -> Option<Command>
     } else {
         None
     }
+}
+
+/// Returns the `ship` command that was found.
+fn ship_in(arguments: &ArgMatches) -> Option<Command>
+    ensures { result ≡ spec.ship_in (rows_of (found_of arguments.now)) }
+{
+    let from = number(arguments, "from")?;
+    Some(Command::Ship { from })
 }
 
 /// Returns the number of workers that was found, or the default.

@@ -6,6 +6,7 @@ use Rattle.btr_top.proofs.FaultCauses.{fault_shown}
 use Rattle.btr_top.proofs.FormatCompletes.{formats_shown}
 use Rattle.btr_top.proofs.PlainStatuses.{benign_shown}
 use Rattle.btr_top.proofs.RunCompletes.{plain_run}
+use Rattle.btr_top.proofs.SinkFaults.{format_at_end, rose_after, rose_before}
 use Rattle.btr_top.proofs.UnsoundKept.{refused_shown}
 use Rattle.btr_top.proofs.run_command.run_paced.Goals as goal
 
@@ -18,6 +19,7 @@ returns g c =
     let given = c.args.source.now in
     let rest = c.dispatch-ending.new.source in
     let before = c.args.sink.now in
+    let sent = c.dispatch-ending.new.sink in
     let after = c.show-status.new.sink in
     let old = c.args.disk in
     let new = c.dispatch-ending.result.disk in
@@ -28,16 +30,16 @@ returns g c =
       runs = record {
         size = did.size;
         input = did.input;
-        ends = record { ending = e; cause = did.cause; shown = shown };
-        faulted = fault_shown source disk given rest old new sink before after command e status did.cause shown;
+        ends = record { ending = e; sent = sent; cause = did.cause; at_end = did.at_end; shown = shown };
+        faulted = fault_shown source sink disk given rest before sent old new after command e status did.cause shown;
         format_leaves = did.format_leaves;
-        formats = λ reported blocks is can works. formats_shown source sink disk given rest before after old new command blocks is reported can works e status did.cause shown;
+        formats = λ reported blocks is can works. formats_shown source sink disk given rest before sent after old new command blocks is reported can works e status (did.at_end (format_at_end command blocks is)) did.cause shown;
         completes = λ source_reported reported can works.
-            benign_shown sink before after works.others.sink_works e status
-            (plain_run source disk given rest old new c.held_is_sound.ensures c.one_history_is_held.ensures source_reported reported works.source_works works.others.device_works command can e did.cause)
+            benign_shown sink sent after (λ rose. works.others.sink_works (rose_after sink before sent after did.later rose)) e status
+            (plain_run source sink disk given rest before sent old new c.held_is_sound.ensures c.one_history_is_held.ensures source_reported reported works.source_works (λ rose. works.others.sink_works (rose_before sink before sent after e status shown rose)) works.others.device_works command can e did.cause)
             shown;
         unsound = λ reported opens unsound.
-            refused_shown disk (g.met.D.Disk g.world.𝓛 g.world.𝓜 g.world.𝓡 ((λ s x. x), (λ x. x), (λ x. x), λ x. x)).only_now old new reported unsound source given rest sink before after command e status opens did.cause shown;
+            refused_shown disk (g.met.D.Disk g.world.𝓛 g.world.𝓜 g.world.𝓡 ((λ s x. x), (λ x. x), (λ x. x), λ x. x)).only_now old new reported unsound source sink given rest before sent after command e status opens did.cause shown;
         kept = did.kept;
       };
     }
