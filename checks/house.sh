@@ -87,7 +87,7 @@ at_most() {
         printf '%s\n' "$found" | grep "^$2 "
     fi
 }
-at_most 'functions with more than eight clauses' clauses 4
+at_most 'functions with more than eight clauses' clauses 5
 at_most 'functions with a clause of more than 200 columns' columns 0
 at_most 'functions with more than six parameters' parameters 10
 at_most 'files of more than 400 lines' lines 0

@@ -9,7 +9,7 @@ use Rattle.btr_disk.specs.Bytes.{Image}
 use Rattle.btr_log.specs.Extents.{need, first_gate}
 use Rattle.btr_super.specs.declared.superblock.Super.{Super}
 use Rattle.btr_node.specs.declared.page.NodePage.{NodePage}
-use Rattle.btr_pages.specs.Pages.{Pages}
+use Rattle.btr_tree.specs.PageNodes.{Pages}
 use Rattle.btr_pages.proofs.KnownLemmas.{pages-below}
 use Rattle.btr_hist.specs.declared.entry.Entry.{Entry}
 use Rattle.btr_hist.specs.declared.entry.Entry.TheVariants.{Create, Define, Commit, Distillate, Retire}

@@ -15,7 +15,8 @@ use Rattle.btr_tree.specs.Nodes.{points_of, above_root, up_to}
 use Rattle.btr_tree.proofs.LeadsLemmas.{leads-along}
 use Rattle.btr_tree.proofs.RootLemmas.{root-points}
 use Rattle.btr_node.specs.declared.page.NodePage.{NodePage}
-use Rattle.btr_pages.specs.Pages.{Pages, node_of_stream, nodes_in, MayBeRoot, Stand}
+use Rattle.btr_tree.specs.PageNodes.{Pages, node_of_stream, nodes_in, Stand}
+use Rattle.btr_pages.specs.Pages.{MayBeRoot}
 use Rattle.btr_hist.specs.declared.entry.Entry.{Entry}
 use Rattle.btr_hist.specs.declared.entry.Entry.TheVariants.{Create, Define, Commit, Distillate, Retire}
 use Rattle.btr_hist.specs.History.{change_of, commits, latest, bag}

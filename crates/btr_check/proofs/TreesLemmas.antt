@@ -9,8 +9,9 @@ use Rattle.btr_base.specs.declared.limits.TheConstants.{FIRST}
 use Rattle.btr_tree.specs.History.{Past, nothing}
 use Rattle.btr_tree.specs.Leads.{Leads}
 use Rattle.btr_tree.specs.Nodes.{above_root}
-use Rattle.btr_pages.specs.Pages.{Pages, nodes_in, HasRootPage, Stand}
-use Rattle.btr_pages.specs.Known.{NodesValue, AreKnown}
+use Rattle.btr_tree.specs.PageNodes.{Pages, nodes_in, Stand}
+use Rattle.btr_pages.specs.Pages.{HasRootPage}
+use Rattle.btr_pages.specs.Known.{TreesValue, AreKnown}
 use Rattle.btr_hist.specs.declared.entry.Entry.{Entry}
 use Rattle.btr_hist.specs.declared.entry.Entry.TheVariants.{Create, Define, Commit, Distillate, Retire}
 use Rattle.btr_hist.specs.History.{change_of, latest}
@@ -131,7 +132,7 @@ module _ (image : Image) (log : Reached) (seen : Seen) (made : List Made) (read 
         page = own-page log.pages before e (get_or roots n 0) (read.own n e at);
       }
 
-  pub to-verify : (nodes : NodesValue) (snapshot : Snapshot) → AreKnown log.pages nodes → IsSnapshotOf h snapshot → AreToVerify image log.pages h nodes snapshot made
+  pub to-verify : (nodes : TreesValue) (snapshot : Snapshot) → AreKnown log.pages nodes → IsSnapshotOf h snapshot → AreToVerify image log.pages h nodes snapshot made
   to-verify nodes snapshot known of = record {
     trees = record { known = known; stored = read.stored; of = of };
     each = λ n. if-each (slice_get made n) (IsCommitOf log.pages h) (λ m at.

@@ -5,7 +5,7 @@ use Rattle.btr_disk.specs.Bytes.{Image}
 use Rattle.btr_super.specs.declared.superblock.Super.{Super}
 use Rattle.btr_super.specs.declared.choosing.ChooseFault.{ChooseFault}
 use Rattle.btr_super.specs.declared.choosing.ChooseFault.TheVariants as choice
-use Rattle.btr_pages.specs.Pages.{Pages}
+use Rattle.btr_tree.specs.PageNodes.{Pages}
 use Rattle.btr_hist.specs.declared.entry.Entry.{Entry}
 use Rattle.btr_open.specs.declared.judged.WholeLog.{WholeLog}
 use Rattle.btr_open.specs.declared.opening.OpenCause.{OpenCause}

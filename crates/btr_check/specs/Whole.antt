@@ -5,7 +5,7 @@ use Rattle.btr_disk.specs.Bytes.{Image}
 use Rattle.btr_disk.specs.Gate.{IsClosed}
 use Rattle.btr_log.specs.Extents.{first_gate}
 use Rattle.btr_super.specs.declared.superblock.Super.{Super}
-use Rattle.btr_pages.specs.Pages.{Pages, nodes_in}
+use Rattle.btr_tree.specs.PageNodes.{Pages, nodes_in}
 use Rattle.btr_hist.specs.declared.entry.Entry.{Entry}
 use Rattle.btr_hist.specs.declared.entry.Entry.TheVariants.{Create, Define, Commit, Distillate, Retire}
 use Rattle.btr_hist.specs.History.{latest}

@@ -1,134 +1,101 @@
--- Lemmas on what the comparison finds at a child: the points of a leaf, the slots of an inner node, and the child of a slot.
-use Rattle.std.specs.Prelude.{◌≡◌, ℕ, zero, suc, ◌<◌, ℤ, pos, ◌+ℤ◌, Bool, true, List, [], ◌∷◌, length, Option, Some, None, Result, Ok, Err, OnOk, if◌then◌else◌}
+-- Lemmas on the points that a source has: those of a leaf, and those of several leaves in a row.
+use Rattle.std.specs.Prelude.{◌≡◌, ℕ, ℤ, pos, ◌+ℤ◌, ◌≤ℤ◌, ◌<ℤ◌, ◌≤◌, ◌<◌, ◌+◌, suc, true, List, [], ◌∷◌, ◌++◌, length, Result, Ok, Err, OnOk, IsTrue, if◌then◌else◌}
 use Rattle.std.specs.Result.{is_ok}
-use Rattle.std.proofs.Common.{refl, sym, ap, ◌∙◌, arith, subst}
+use Rattle.std.specs.List.{AllByRecursion}
+use Rattle.std.proofs.Common.{refl, sym, ap, ◌∙◌, subst, arith}
 use Rattle.std.proofs.lemmas.Int.{ints}
-use Rattle.std.proofs.lemmas.Bool.Decides.{nat_tests}
-use Rattle.std.specs.Borrow.{Bor}
 use Rattle.btr_base.specs.declared.point.Point.{Point}
-use Rattle.btr_base.specs.Point.{InDomain, AreInDomain}
+use Rattle.btr_base.specs.Point.{InDomain, is_not_after}
 use Rattle.btr_base.specs.Bag.{IsInOrder, is_within}
-use Rattle.btr_base.proofs.ListLemmas.{each-weaker, filter-passes}
 use Rattle.btr_base.specs.Span.{width, SpanValue, slot_of}
-use Rattle.btr_base.specs.declared.limits.TheConstants.{LEAF_POINTS}
-use Rattle.btr_tree.specs.declared.node.NodeData.{NodeData}
-use Rattle.btr_tree.specs.declared.node.Node.{Node}
-use Rattle.btr_tree.specs.declared.node.Node.TheVariants.{Leaf, Inner}
-use Rattle.btr_tree.specs.declared.slots.Slots.{Slots}
-use Rattle.btr_tree.specs.Slots.{child_in}
-use Rattle.btr_tree.specs.Uncounted.{as_counted, IsUncountedVisit}
-use Rattle.btr_tree.specs.declared.uncounted.UncountedNode.{UncountedNode}
-use Rattle.btr_tree.specs.History.{Past, bag}
-use Rattle.btr_tree.specs.Nodes.{points_of, has_points, is_inner, node_version}
-use Rattle.btr_tree.specs.Shape.{slot_start, IsNode, IsLeaf, IsVisit}
-use Rattle.btr_tree.proofs.NodeLemmas.{leaf-is, inner-is, slot-from, slot-inside, child-at}
-use Rattle.btr_tree.proofs.VersionLemmas.{points-in_order}
-use Rattle.btr_diff.specs.Comparison.{IsInside, BelongsTo, ArePointsOf, IsChildOf, IsNodeOf, AreSlotsOf}
+use Rattle.btr_base.proofs.ListLemmas.{each-weaker, each-append, filter-passes}
+use Rattle.btr_tree.specs.Change.{end_of}
+use Rattle.btr_tree.specs.Nodes.{points_of}
+use Rattle.btr_tree.specs.Shape.{slot_start}
+use Rattle.btr_tree.specs.NodeSource.{AreSafePoints}
+use Rattle.btr_tree.proofs.NodeLemmas.{slot-from, slot-inside, slot-part, slot-order, slot-end}
+use Rattle.btr_tree.proofs.RangeSlotLemmas.{slot-ends}
+use Rattle.btr_diff.specs.Comparison.{ArePoints, AreReady, IsInside}
 
 -- A list after a call that leaves it unchanged on failure.
 pub where_ok : {E : Type 0} (r : Result (Unit {0}) E) (new all old : List Point) → new ≡ (if is_ok r then all else old) → OnOk r (new ≡ all)
 where_ok (Ok x) new all old e = e
 where_ok (Err x) new all old e = tt
 
--- ---- A visit.
-
-pub found-none : (span : SpanValue) (child : Option NodeData) (before after : ℕ) → IsVisit child None before after → (h : Past) → IsChildOf span child h → points_of span.height span.start (bag h) ≡ []
-found-none span child before after visit h is = visit.none refl span.height span.start is.0 h is.1
-
-pub found-node : (span : SpanValue) (child : Option NodeData) (n : Node) (before after : ℕ) → IsVisit child (Some n) before after → (h : Past) → IsChildOf span child h → IsNodeOf span n h
-found-node span child n before after visit h is = (is.0, visit.node span.height span.start is.0 h is.1)
-
-pub found-none_uncounted : (span : SpanValue) (child : Option NodeData) → IsUncountedVisit child None → (h : Past) → IsChildOf span child h → points_of span.height span.start (bag h) ≡ []
-found-none_uncounted span child visit h is = visit.none refl span.height span.start is.0 h is.1
-
-pub found-uncounted : (span : SpanValue) (child : Option NodeData) (n : UncountedNode) → IsUncountedVisit child (Some n) → (h : Past) → IsChildOf span child h → IsNodeOf span (as_counted n) h
-found-uncounted span child n visit h is = (is.0, visit.node span.height span.start is.0 h is.1)
-
--- ---- Points.
-
--- The points of a leaf are those of its span.
-pub leaf-points : (span : SpanValue) (h : Past) (n : Node) (v : ℕ) (ps : Bor (List Point)) → n ≡ Leaf v ps → IsNodeOf span n h → ArePointsOf span ps.now h
-leaf-points span h n v ps e is = (leaf-is span.height span.start is.0 h n v ps e is.1).same
-
-pub points-order : (span : SpanValue) (h : Past) (b : List Point) → ArePointsOf span b h → IsInOrder b
-points-order span h b e = subst IsInOrder (sym e) (points-in_order span.height span.start h)
-
-pub points-domain : (span : SpanValue) (h : Past) (b : List Point) → IsInside span.height span.start → ArePointsOf span b h → AreInDomain b
-points-domain span h b inside e =
-    let begins = inside.begins in
-    let ends = inside.ends in
-    let here = is_within span.start (span.start +ℤ pos (width span.height)) in
-    subst AreInDomain (sym e) (each-weaker (λ q. here q ≡ true) (λ q. InDomain q.time) (λ q h. (grind (arith, ints), grind (arith, ints))) (points_of span.height span.start (bag h)) (filter-passes here (bag h)))
-
--- ---- An inner node.
-
-many-inner : (height : ℕ) (start : ℤ) (b : List Point) → LEAF_POINTS < length (points_of height start b) → is_inner height start b ≡ true
-many-inner height start b many = grind (arith, nat_tests)
-
--- The slots of an inner node.
-pub inner-slots : (span : SpanValue) (h : Past) (n : Node) (v : ℕ) (x : Bor Slots) → n ≡ Inner v x → IsNodeOf span n h → AreSlotsOf span x.now h
-inner-slots span h n v x e is =
-    let body = inner-is span.height span.start is.0 h n v x e is.1 in
-    record {
-      below = body.below;
-      height = body.height;
-      inner = many-inner span.height span.start (bag h) (subst (λ j. LEAF_POINTS < length (points_of j span.start (bag h))) (sym body.height) body.inner.many);
-      all = body.inner.all;
-      each = body.each;
-    }
-
--- ---- The child of a slot.
+-- ---- A slot of a span.
 
 -- A slot of a span in the domain is in the domain.
-slot-in_domain : (k below : ℕ) (s : ℤ) (i : ℕ) (part : SpanValue) → IsInside k s → k ≡ suc below → i < 64 → part ≡ record { start = slot_start below s i; height = below } → IsInside part.height part.start
-slot-in_domain k below s i part inside e place is =
+pub slot-in_domain : (span : SpanValue) (below i : ℕ) (part : SpanValue) → IsInside span.height span.start → span.height ≡ suc below → i < 64 → part ≡ slot_of span i → IsInside part.height part.start
+slot-in_domain span below i part inside e place is =
     let begins = inside.begins in
-    let ends = (subst (λ j. IsInside j s) e inside).ends in
-    let low = slot-from below s i in
-    let high = slot-inside below s i place in
-    let at : IsInside below (slot_start below s i) = record { begins = omega (arith, ints); ends = omega (arith, ints) } in
-    subst (λ (u : SpanValue). IsInside u.height u.start) (sym is) at
+    let ends = (subst (λ j. IsInside j span.start) e inside).ends in
+    let low = slot-from below span.start i in
+    let high = slot-inside below span.start i place in
+    let at : IsInside below (slot_start below span.start i) = record { begins = omega (arith, ints); ends = omega (arith, ints) } in
+    subst (λ (u : SpanValue). IsInside u.height u.start) (sym (is ∙ slot-part span below i e)) at
 
--- The child of a slot belongs to the slot if the slots belong to the span.
-pub child-belongs : (span : SpanValue) (i : ℕ) (part : SpanValue) (child : Option NodeData) (x : Slots) → BelongsTo span (AreSlotsOf span x) → i < 64 → part ≡ slot_of span i → child ≡ child_in x i → BelongsTo part (IsChildOf part child) × (suc part.height ≡ span.height)
-child-belongs span i part child x all place p r =
-    let are = all.holds in
-    let at = child-at span are.below all.past i part child x are.height are.each place p r in (
-      record {
-        inside = slot-in_domain span.height are.below span.start i part all.inside are.height place at.is;
-        past = all.past;
-        holds = (is_inner (suc are.below) span.start, at.holds);
-      },
-      ap (λ u. suc u.height) at.is ∙ sym are.height,
-    )
+-- ---- The points of a leaf.
 
--- ---- A node has points.
+-- Each point of a span is from its start on, and before its end.
+inside-each : (span : SpanValue) (b : List Point) → points_of span.height span.start b ≡ b → AllByRecursion (λ q. is_within span.start (end_of span) q ≡ true) b
+inside-each span b e =
+    subst (AllByRecursion (λ q. is_within span.start (end_of span) q ≡ true)) e (filter-passes (is_within span.start (end_of span)) b)
 
-has-some : (b : List Point) → 0 < length b → has_points b ≡ true
-has-some [] h = absurd (omega arith)
-has-some (q ∷ b) h = refl
+pub safe-points : (most : ℕ) (span : SpanValue) (b : List Point) → IsInside span.height span.start → AreSafePoints most span b → ArePoints b
+safe-points most span b inside safe =
+    let begins = inside.begins in
+    let ends = inside.ends in
+    (safe.in_order, each-weaker (λ q. is_within span.start (end_of span) q ≡ true) (λ q. InDomain q.time) (λ q h. (grind (arith, ints), grind (arith, ints))) b (inside-each span b safe.inside))
 
-leaf-some : (k : ℕ) (s : ℤ) (above : List Point → Bool) (h : Past) (v : ℕ) (ps : List Point) → IsLeaf k s above h v ps → has_points (points_of k s (bag h)) ≡ true
-leaf-some k s above h v ps leaf =
-    let some = leaf.some in
-    has-some (points_of k s (bag h)) (omega (arith, ap length leaf.same))
+-- ---- Points of several leaves in a row.
 
-node-some-at : (k : ℕ) (s : ℤ) (above : List Point → Bool) (h : Past) (n : Node) → IsNode k s above h n → has_points (points_of k s (bag h)) ≡ true
-node-some-at k s above h (Leaf v ps) holds = leaf-some k s above h v ps.now holds
-node-some-at zero s above h (Inner v x) holds = absurd holds
-node-some-at (suc k) s above h (Inner v x) holds =
-    let many = holds.0.many in
-    has-some (points_of (suc k) s (bag h)) (omega arith)
+ordered-append : (a b : List Point) (m : ℤ) → IsInOrder a → IsInOrder b → AllByRecursion (λ q. q.time <ℤ m) a → AllByRecursion (λ q. m ≤ℤ q.time) b → IsInOrder (a ++ b)
+ordered-append [] b m h k early late = k
+ordered-append (p ∷ a) b m h k early late =
+    let first = early.0 in
+    (each-append (λ q. IsTrue (is_not_after p q)) a b h.0 (each-weaker (λ q. m ≤ℤ q.time) (λ q. IsTrue (is_not_after p q)) (λ q l. grind (arith, ints)) b late), ordered-append a b m h.1 k early.1 late)
 
-pub node-some : (span : SpanValue) (h : Past) (n : Node) → IsNodeOf span n h → has_points (points_of span.height span.start (bag h)) ≡ true
-node-some span h n is = node-some-at span.height span.start is.0 h n is.1
+pub ready-later : (s t : ℤ) (b : List Point) → s ≤ℤ t → AreReady s b → AreReady t b
+ready-later s t b le ready =
+    record {
+      order = ready.order;
+      domain = ready.domain;
+      before = each-weaker (λ q. q.time <ℤ s) (λ q. q.time <ℤ t) (λ q h. omega (arith, ints)) b ready.before;
+    }
 
--- ---- The version of a node.
+-- Of no point.
+pub ready-none : (t : ℤ) (b : List Point) → b ≡ [] → AreReady t b
+ready-none t b e = subst (AreReady t) (sym e) (record { order = tt; domain = tt; before = tt })
 
-pub leaf-version : (span : SpanValue) (h : Past) (n : Node) (v : ℕ) (ps : Bor (List Point)) → n ≡ Leaf v ps → (is : IsNodeOf span n h) → v ≡ node_version is.0 span.height span.start h
-leaf-version span h n v ps e is = (leaf-is span.height span.start is.0 h n v ps e is.1).version
+-- The points of a leaf follow those before its span.
+pub ready-leaf : (most : ℕ) (span : SpanValue) (old here new : List Point) → IsInside span.height span.start → AreReady span.start old → AreSafePoints most span here → new ≡ old ++ here → AreReady (end_of span) new
+ready-leaf most span old here new inside ready safe e =
+    let each = inside-each span here safe.inside in
+    let more = ready-later span.start (end_of span) old (omega (arith, ints)) ready in
+    let all : AreReady (end_of span) (old ++ here) = record {
+      order = ordered-append old here span.start ready.order safe.in_order ready.before (each-weaker (λ q. is_within span.start (end_of span) q ≡ true) (λ q. span.start ≤ℤ q.time) (λ q h. grind (arith, ints)) here each);
+      domain = each-append (λ q. InDomain q.time) old here ready.domain (safe-points most span here inside safe).1;
+      before = each-append (λ q. q.time <ℤ end_of span) old here more.before (each-weaker (λ q. is_within span.start (end_of span) q ≡ true) (λ q. q.time <ℤ end_of span) (λ q h. grind (arith, ints)) here each);
+    } in
+    subst (AreReady (end_of span)) (sym e) all
 
-pub inner-version : (span : SpanValue) (h : Past) (n : Node) (v : ℕ) (x : Bor Slots) → n ≡ Inner v x → (is : IsNodeOf span n h) → v ≡ node_version is.0 span.height span.start h
-inner-version span h n v x e is =
-    let body = inner-is span.height span.start is.0 h n v x e is.1 in
-    body.inner.version ∙ ap (λ k. node_version is.0 k span.start h) (sym body.height)
+-- Points before a slot are before each later one.
+pub ready-slot : (span : SpanValue) (below i j : ℕ) (part : SpanValue) (b : List Point) → span.height ≡ suc below → part ≡ slot_of span j → i ≤ j → AreReady (slot_start below span.start i) b → AreReady part.start b
+ready-slot span below i j part b e is le ready =
+    subst (λ (u : SpanValue). AreReady u.start b) (sym (is ∙ slot-part span below j e)) (ready-later (slot_start below span.start i) (slot_start below span.start j) b (slot-order below span.start i j le) ready)
+
+-- Points before the end of a slot are before the next one.
+pub ready-next : (span : SpanValue) (below i : ℕ) (part : SpanValue) (b : List Point) → span.height ≡ suc below → part ≡ slot_of span i → AreReady (end_of part) b → AreReady (slot_start below span.start (i + 1)) b
+ready-next span below i part b e is ready =
+    subst (λ t. AreReady t b) (slot-ends below span.start i part (is ∙ slot-part span below i e)) ready
+
+-- Points before some slot are before the end of all.
+pub ready-done : (span : SpanValue) (below i : ℕ) (b : List Point) → span.height ≡ suc below → i ≤ 64 → AreReady (slot_start below span.start i) b → AreReady (end_of span) b
+ready-done span below i b e le ready =
+    let all = ready-later (slot_start below span.start i) (slot_start below span.start 64) b (slot-order below span.start i 64 le) ready in
+    subst (λ t. AreReady t b) (slot-end below span.start ∙ ap (λ g. span.start +ℤ pos (width g)) (sym e)) all
+
+-- A list of no point.
+pub no-points : (b : List Point) → length b ≡ 0 → b ≡ []
+no-points [] e = refl
+no-points (q ∷ b) e = absurd (omega arith)

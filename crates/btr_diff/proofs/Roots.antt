@@ -1,5 +1,5 @@
 -- Lemmas on the comparison of whole trees.
-use Rattle.std.specs.Prelude.{◌≡◌, ℕ, ◌+◌, ◌≤◌, List, [], map, Option}
+use Rattle.std.specs.Prelude.{◌≡◌, ℕ, ◌+◌, ◌≤◌, ℤ, Bool, List, [], map}
 use Rattle.std.proofs.Common.{sym, subst, arith}
 use Rattle.btr_base.specs.declared.point.Point.{Point}
 use Rattle.btr_base.specs.Point.{AreInDomain}
@@ -8,7 +8,6 @@ use Rattle.btr_base.specs.Range.{RangeValue, IsCut}
 use Rattle.btr_base.specs.Cut.{lengthened, union}
 use Rattle.btr_base.specs.Changes.{changes}
 use Rattle.btr_base.specs.Span.{SpanValue}
-use Rattle.btr_tree.specs.declared.node.NodeData.{NodeData}
 use Rattle.btr_tree.specs.History.{Past, bag}
 use Rattle.btr_tree.specs.Nodes.{above_root, is_node, is_inner, up_to}
 use Rattle.btr_tree.specs.Newer.{newer_nodes}
@@ -17,15 +16,15 @@ use Rattle.btr_tree.specs.Root.{root_part}
 use Rattle.btr_tree.specs.EachHistory.{points_in}
 use Rattle.btr_tree.proofs.RootLemmas.{root-points}
 use Rattle.btr_tree.proofs.VersionLemmas.{points-since}
-use Rattle.btr_tree.specs.Shape.{IsChild}
 use Rattle.btr_diff.specs.declared.comparison.Comparison.{Comparison}
-use Rattle.btr_diff.specs.Comparison.{AddsChangedSlots, IsChildOf, newer_below}
+use Rattle.btr_diff.specs.Comparison.{AddsChangedSlots, newer_below}
 use Rattle.btr_diff.proofs.ChangedSlots.{adds-all}
 use Rattle.btr_diff.proofs.Slots.{adds-as}
 use Rattle.btr_diff.proofs.Newer.{below-fewer}
 
-pub root-child : (span : SpanValue) (child : Option NodeData) (h : Past) → span ≡ root_part → IsChild 10 FIRST above_root h child → IsChildOf span child h
-root-child span child h e place = subst (λ s. IsChildOf s child h) (sym e) (above_root, place)
+-- A place of the root is that of the root's span, by whatever name.
+pub root-place : {Site : Type 0} (IsAt : Site → ℕ → ℤ → (List Point → Bool) → Past → Type 0) (span : SpanValue) (site : Site) (h : Past) → span ≡ root_part → IsAt site 10 FIRST above_root h → IsAt site span.height span.start above_root h
+root-place IsAt span site h e holds = subst (λ (s : SpanValue). IsAt site s.height s.start above_root h) (sym e) holds
 
 -- A version agrees with the latest one since its number.
 pub agree-since : (since : ℕ) (h k : Past) → h ≡ up_to since k → AgreeSince since h k

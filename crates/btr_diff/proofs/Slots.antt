@@ -1,22 +1,26 @@
 -- Lemmas on what the slots of a span add, one after the other, and on what belongs to a slot.
-use Rattle.std.specs.Prelude.{◌≡◌, ℕ, suc, ◌+◌, ◌<◌, ℤ, List, [], Option}
+use Rattle.std.specs.Prelude.{◌≡◌, ℕ, suc, ◌+◌, ◌<◌, ◌≤◌, ℤ, Bool, true, List, [], length}
 use Rattle.std.proofs.Common.{sym, ap, ◌∙◌, arith, subst}
+use Rattle.std.proofs.lemmas.Bool.Decides.{nat_tests}
 use Rattle.std.proofs.lemmas.Int.{ints}
+use Rattle.btr_base.proofs.AggLemmas.{agg-count}
+use Rattle.btr_base.specs.Agg.{AggValue}
+use Rattle.btr_base.specs.declared.limits.TheConstants.{LEAF_POINTS}
 use Rattle.btr_base.specs.declared.point.Point.{Point}
 use Rattle.btr_base.specs.Range.{RangeValue}
 use Rattle.btr_base.specs.Bag.{within}
 use Rattle.btr_base.specs.Span.{SpanValue, slot_of}
-use Rattle.btr_tree.specs.declared.node.NodeData.{NodeData}
 use Rattle.btr_tree.specs.declared.node.Slot.{Slot}
-use Rattle.btr_tree.specs.declared.slots.Slots.{Slots}
-use Rattle.btr_tree.specs.Slots.{slot_in, child_in}
 use Rattle.btr_tree.specs.History.{Past, bag}
 use Rattle.btr_tree.specs.Nodes.{points_of, is_inner, last_change}
 use Rattle.btr_tree.specs.Shape.{slot_start}
-use Rattle.btr_tree.proofs.NodeLemmas.{slot-next, slot-from, points-slot, prefix-none, prefix-done, child-at}
+use Rattle.btr_tree.specs.Agree.{AgreeSince}
+use Rattle.btr_tree.specs.NodeSource.{AreSlotsAt}
+use Rattle.btr_tree.proofs.NodeLemmas.{slot-next, slot-from, slot-part, points-slot, prefix-none, prefix-done}
+use Rattle.btr_tree.proofs.SourceLemmas.{place-at}
 use Rattle.btr_tree.proofs.VersionLemmas.{bag-in_order}
 use Rattle.btr_diff.specs.declared.comparison.Comparison.{Comparison}
-use Rattle.btr_diff.specs.Comparison.{AddsChangedSlots, AreSlotsOf, IsSlotOf, ArePointsOf, IncludesPointsOf}
+use Rattle.btr_diff.specs.Comparison.{AddsChangedSlots, IsPlace, IsSlotOf}
 use Rattle.btr_diff.proofs.ChangedSlots.{adds-none, adds-within}
 
 -- ---- What is added.
@@ -37,6 +41,12 @@ adds-slot by was mid now below s i part h k is before here =
     let to = subst (λ e. AddsChangedSlots by mid now (within (slot_start below s i) e (bag h)) (within (slot_start below s i) e (bag k))) (sym next) at in
     adds-within by was mid now s (slot_start below s i) (slot_start below s (i + 1)) (bag h) (bag k) (slot-from below s i) (omega (arith, ints)) (bag-in_order h) (bag-in_order k) before to
 
+-- Of a slot whose version is not newer: both trees have the same points there.
+pub adds-passed : {Site : Type 0} (IsAt : Site → ℕ → ℤ → (List Point → Bool) → Past → Type 0) (by : Comparison) (now : List RangeValue) (part : SpanValue) (version count : ℕ) (site : Site) (h k : Past) → version ≤ by.since → IsSlotOf version count site IsAt part k → AgreeSince by.since h k → AddsChangedSlots by now now (points_of part.height part.start (bag h)) (points_of part.height part.start (bag k))
+adds-passed IsAt by now part version count site h k old slot agree =
+    let equal = agree.slots slot.above slot.begin part.height part.start (omega (arith, slot.carried, old)) in
+    adds-as by now now _ _ _ _ (λ i. points_of part.height part.start (bag h)) equal (adds-none by now _)
+
 -- Of all slots.
 pub adds-done : (by : Comparison) (was now : List RangeValue) (height below : ℕ) (s : ℤ) (i : ℕ) (h k : Past) → i ≡ 64 → height ≡ suc below → AddsChangedSlots by was now (within s (slot_start below s i) (bag h)) (within s (slot_start below s i) (bag k)) → AddsChangedSlots by was now (points_of height s (bag h)) (points_of height s (bag k))
 adds-done by was now height below s i h k e is all =
@@ -44,23 +54,42 @@ adds-done by was now height below s i h k e is all =
 
 -- ---- A slot of an inner node.
 
-unfoldable pub slot-belongs : (span : SpanValue) (x : Slots) (k : Past) (i : ℕ) (part : SpanValue) (version : ℕ) (child : Option NodeData) → (are : AreSlotsOf span x k) → i < 64 → part ≡ slot_of span i → version ≡ (slot_in x i).version → child ≡ child_in x i → IsSlotOf part version child k
-slot-belongs span x k i part version child are place p q r =
-    let at = child-at span are.below k i part child x are.height are.each place p r in
-    record {
-      above = suc are.below;
-      begin = span.start;
-      inner = ap (λ g. is_inner g span.start (bag k)) (sym are.height) ∙ are.inner;
-      carried = q
-          ∙ ap (λ (y : Slot). y.version) (are.all.each i place)
-          ∙ ap (λ (u : SpanValue). last_change (is_inner (suc are.below) span.start) u.height u.start k) (sym at.is);
-      holds = at.holds;
-    }
+many-inner : (height : ℕ) (start : ℤ) (b : List Point) → LEAF_POINTS < length (points_of height start b) → is_inner height start b ≡ true
+many-inner height start b many = grind (arith, nat_tests)
+
+module _ {Site : Type 0} (IsAt : Site → ℕ → ℤ → (List Point → Bool) → Past → Type 0) (place : ℕ → Site) (slots : ℕ → Slot) (span : SpanValue) where
+  -- The span is an inner node.
+  pub slots-inner : (k : Past) → AreSlotsAt IsAt place slots span k → is_inner span.height span.start (bag k) ≡ true
+  slots-inner k at = many-inner span.height span.start (bag k) at.many
+
+  pub slots-part : (k : Past) (i : ℕ) (part : SpanValue) (at : AreSlotsAt IsAt place slots span k) → part ≡ slot_of span i → part ≡ record { start = slot_start at.below span.start i; height = at.below }
+  slots-part k i part at is = is ∙ slot-part span at.below i at.above
+
+  -- The place of a slot is that of its span.
+  pub slots-place : (k : Past) (i : ℕ) (part : SpanValue) (site : Site) → AreSlotsAt IsAt place slots span k → i < 64 → part ≡ slot_of span i → site ≡ place i → IsPlace site IsAt part k
+  slots-place k i part site at low is same =
+      let here = place-at IsAt place slots span part k i at low is in
+      (is_inner (suc at.below) span.start, subst (λ s. IsAt s part.height part.start (is_inner (suc at.below) span.start) k) (sym same) here.holds)
+
+  -- A slot has its version, count and place. Transparent, since counts are said of the span above that it names.
+  unfoldable pub slots-slot : (k : Past) (i : ℕ) (part : SpanValue) (version count : ℕ) (site : Site) → AreSlotsAt IsAt place slots span k → i < 64 → part ≡ slot_of span i → version ≡ (slots i).version → count ≡ (slots i).agg.count → site ≡ place i → IsSlotOf version count site IsAt part k
+  slots-slot k i part version count site at low is v c same =
+      let here = place-at IsAt place slots span part k i at low is in
+      record {
+        above = suc at.below;
+        begin = span.start;
+        inner = ap (λ g. is_inner g span.start (bag k)) (sym at.above) ∙ slots-inner k at;
+        carried = v
+            ∙ ap (λ (y : Slot). y.version) (at.all i low)
+            ∙ ap (λ (u : SpanValue). last_change (is_inner (suc at.below) span.start) u.height u.start k) (sym here.is);
+        counted = c ∙ ap (λ (a : AggValue). a.count) here.counted ∙ agg-count (points_of part.height part.start (bag k));
+        holds = subst (λ s. IsAt s part.height part.start (is_inner (suc at.below) span.start) k) (sym same) here.holds;
+      }
 
 -- ---- The points of a slot.
 
 -- The points of a span include those of each slot.
-pub slot-points : (span : SpanValue) (below i : ℕ) (part : SpanValue) (h : Past) (all : List Point) → span.height ≡ suc below → i < 64 → part ≡ record { start = slot_start below span.start i; height = below } → ArePointsOf span all h → IncludesPointsOf part all h
+pub slot-points : (span : SpanValue) (below i : ℕ) (part : SpanValue) (h : Past) (all : List Point) → span.height ≡ suc below → i < 64 → part ≡ record { start = slot_start below span.start i; height = below } → all ≡ points_of span.height span.start (bag h) → points_of part.height part.start all ≡ points_of part.height part.start (bag h)
 slot-points span below i part h all e place is same =
     let s = span.start in
     let whole : all ≡ points_of (suc below) s (bag h) = same ∙ ap (λ g. points_of g s (bag h)) e in

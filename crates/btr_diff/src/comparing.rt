@@ -1,20 +1,22 @@
 //! The changed slots between two trees.
-ghost use Rattle.std.specs.Prelude.{◌≡◌, ◌+◌, ◌≤◌, map, IfOk, OnOk};
+ghost use Rattle.std.specs.Prelude.{◌≡◌, ◌+◌, ◌≤◌, [], map, false, IfOk, IfErr, OnOk};
 ghost use Rattle.btr_base.specs.declared.limits.TheConstants.{FIRST as FIRST_TIME};
 ghost use Rattle.btr_base.specs.Changes.{changes as changes_of};
 ghost use Rattle.btr_base.specs.Cut.{lengthened, union};
 ghost use Rattle.btr_tree.specs.History.{Past, bag};
-ghost use Rattle.btr_base.specs.Span.{SpanValue};
-ghost use Rattle.btr_tree.specs.Nodes.{above_root, node_version, up_to};
+ghost use Rattle.btr_tree.specs.Nodes.{above_root, up_to};
 ghost use Rattle.btr_tree.specs.Root.{IsTree, root_part};
+ghost use Rattle.btr_tree.specs.NodeSource.{IfRefused, UsesSource};
 ghost use Rattle.btr_tree.specs.Uncounted.{uncounted_tree};
 ghost use Rattle.btr_tree.specs.Newer.{newer_nodes};
-ghost use Rattle.btr_diff.specs.Comparison.{IsNodeOf, Compares, VisitsBelow};
+ghost use Rattle.btr_diff.specs.Comparison.{AreChanges, AreSafeRoots, AtRoots, CountsRoot, CountsOlder, IsPlace, IsNoNewer};
 
-use crate::comparison::Comparison;
-use crate::tree_walk::{compare_node, compare_with_points};
+use crate::comparison::{Comparison, Findings, Task};
+use crate::tree_walk::compare_found;
 use btr_base::Ranges;
-use btr_tree::{Node, Steps, Tree, Uncounted, root_span, visit};
+use btr_tree::{
+    Aside, FoundNode, Memory, NodeSource, Steps, Tree, Uncounted, WalkFault, root_span,
+};
 use std::alloc::{AllocError, Global};
 
 /// Returns the longest runs of aligned slots of `2^p` ns in which some time has other points in the newer tree than in
@@ -22,8 +24,8 @@ use std::alloc::{AllocError, Global};
 ///
 /// The answer is exact if `old` is version `since` of the same stream as `new`. Of the newer tree the call visits the
 /// root, and else only nodes with a version above `since`; each is one step. This holds after an `Err` too, which is out
-/// of memory. Of the older tree it visits the nodes in the spans of those, without a counter: `old` is what
-/// `Tree::uncounted` gives. The call is generic in the label `L`, so it cannot walk the newer tree without `steps`.
+/// of memory. Of the older tree it visits the nodes in the spans of those, each at most once, and counts them aside: `old` is
+/// what `Tree::uncounted` gives. The call is generic in the label `L`, so it has no counter but `steps` and that of `old`.
 pub fn changes<L>(
     alloc: Global,
     old: Uncounted<'_>,
@@ -65,52 +67,80 @@ pub fn changes_with_lead<L>(
         → steps.new ≤ steps.old + 1 + newer_nodes 10 FIRST_TIME above_root k since }
     ensures never_falls { steps.old ≤ steps.new }
 {
-    let mut out = Ranges::none(alloc);
+    let mut findings = Findings {
+        changed: Ranges::none(alloc),
+        older: old.counter(),
+    };
     let comparison = Comparison {
         alloc,
         since,
         p,
         lead,
     };
-    compare_roots(old, new, comparison, &mut out, steps)?;
-    Ok(out)
+    let older = old.link();
+    let newer = new.link();
+    match compare::<Memory<'_>, Aside, L>(&mut (), comparison, older, newer, &mut findings, steps) {
+        Ok(()) => {
+            let Findings { changed, older: _ } = findings;
+            Ok(changed)
+        }
+        Err(WalkFault::Want) => Err(AllocError),
+        Err(WalkFault::Refused(never)) => match never {},
+    }
 }
 
-/// Adds to `out` the slots in which the trees differ, each lengthened by the lead. Visits the newer root, and continues if
-/// its version is above `since`.
-fn compare_roots<L>(
-    old: Uncounted<'_>,
-    new: &Tree,
+/// Finds the slots in which two trees of a source differ, each lengthened by the lead, and joined where they then touch or
+/// overlap. `old` and `new` are the places of their roots. It finds them in place of none, the caller's condition. `p` is 0
+/// to 62, as well.
+///
+/// What it finds is exact if the source holds both trees, and the older one is version `since` of the same stream. Of the newer
+/// tree it visits the root, and else only nodes with a version above `since`; `steps` counts them. Of the older tree it visits
+/// the nodes in the spans of those, each at most once, and counts them with the counter of the findings. This holds after an
+/// `Err` too, which is out of memory, or a refusal of the source; and a part may have been found.
+///
+/// The call is generic in both labels, so it counts with the counters of its caller alone.
+pub fn compare<S: NodeSource, M, L>(
+    state: &mut S::State,
     comparison: Comparison,
-    out: &mut Ranges,
+    old: S::Place,
+    new: S::Place,
+    findings: &mut Findings<M>,
     steps: &mut Steps<L>,
-) -> Result<(), AllocError>
-    requires { comparison.p ≤ 62 }
-    ensures adds { OnOk result (Compares comparison root_part (λ h. IsTree h (uncounted_tree old.entry)) (λ k. IsTree k new.now)
-        out.old out.new) }
-    ensures bounded { VisitsBelow comparison.since root_part (λ k. IsTree k new.now) (steps.old + 1) steps.new }
-    ensures never_falls { steps.old ≤ steps.new }
+) -> Result<(), WalkFault<S::Fault>>
+    requires given { (comparison.p ≤ 62) × (findings.old.changed ≡ []) }
+    requires safe { AreSafeRoots (S.IsSafe (S.told state.old)) (S.site old) (S.site new) }
+    ensures finds { OnOk result (AtRoots (S.IsAt (S.told state.old)) (S.site old) (S.site new) (λ h k.
+        AreChanges comparison h k findings.new.changed)) }
+    ensures sound { IfErr result (IfRefused (λ e. AtRoots (S.IsAt (S.told state.old)) (S.site old) (S.site new)
+        (λ h k. S.IsHarmless e))) }
+    ensures uses { UsesSource S.told S.faults (λ t a b. IfRefused (S.IsCaused t a b)) state.old state.new result }
+    ensures newer { CountsRoot comparison.since (S.IsAt (S.told state.old)) (S.site new) steps.old steps.new }
+    ensures older { CountsOlder 0 root_part (S.IsAt (S.told state.old)) (IsPlace (S.site old))
+        findings.old.older findings.new.older result }
 {
-    let span = root_span();
-    let old = old.root();
-    match visit(new.link(), steps) {
-        None => compare_with_points(span, old, &[], comparison, out),
-        Some(node) => {
-            if version_of(node) <= comparison.since {
+    let task = Task {
+        span: root_span(),
+        by: comparison,
+    };
+    match S::visit(state, task.span, new, steps) {
+        Err(fault) => Err(WalkFault::Refused(fault)),
+        Ok(found) => {
+            if !is_newer(&found, comparison.since) {
                 return Ok(());
             }
-            compare_node(span, old, node, comparison, out, steps)
+            let compared = compare_found::<S, M, L>(state, task, old, found, findings, steps);
+            let _apart = findings.changed.as_slice();
+            compared
         }
     }
 }
 
-/// Returns the version that a node carries.
-fn version_of(node: Node<'_>) -> u64
-    ensures { (span : SpanValue) (h : Past) → (is : IsNodeOf span node.entry h)
-        → result ≡ node_version is.0 span.height span.start h }
+/// Whether a node that was found has a version above this one, or nothing was found.
+fn is_newer<F, I>(found: &FoundNode<F, I>, since: u64) -> bool
+    ensures { result ≡ false → IsNoNewer since found.now }
 {
-    match node {
-        Node::Leaf { version, .. } => version,
-        Node::Inner { version, .. } => version,
+    match found {
+        FoundNode::Nothing => true,
+        FoundNode::Leaf { version, .. } | FoundNode::Inner { version, .. } => *version > since,
     }
 }

@@ -1,27 +1,31 @@
 //! A slot of the newer tree.
 ghost use Rattle.std.specs.Prelude.{◌≡◌, ◌<◌};
-ghost use Rattle.btr_tree.specs.Slots.{slot_in, child_in, node_of};
 
-use btr_tree::{Child, Slots};
+use btr_tree::NodeSource;
 
-/// A slot of an inner node of the newer tree: the version that it carries, and the link to its child.
+/// What a slot of an inner node of the newer tree says of itself, and the place of its child.
 #[derive(Clone, Copy)]
-pub(crate) struct NewerSlot<'a> {
+pub(crate) struct NewerSlot<P> {
+    /// The version that the slot carries.
     pub(crate) version: u64,
-    pub(crate) child: Child<'a>,
+
+    /// How many points the slot has.
+    pub(crate) count: u64,
+
+    pub(crate) place: P,
 }
 
-impl<'a> NewerSlot<'a> {
-    /// Slot `i` of an inner node.
-    pub(crate) fn of(slots: &'a Slots, i: u8) -> NewerSlot<'a>
-        requires { i < 64 }
-        ensures version { result.version ≡ (slot_in slots.now i).version }
-        ensures child { node_of result.child ≡ child_in slots.now i }
-    {
-        let slot = slots.slot(i);
-        NewerSlot {
-            version: slot.version,
-            child: slots.child(i),
-        }
+/// Slot `i` of an inner node.
+pub(crate) fn newer_slot<S: NodeSource>(slots: &S::Inner, i: u8) -> NewerSlot<S::Place>
+    requires { i < 64 }
+    ensures version { result.version ≡ (S.inner_slot slots.now i).version }
+    ensures count { result.count ≡ (S.inner_slot slots.now i).agg.count }
+    ensures place { S.site result.place ≡ S.inner_place slots.now i }
+{
+    let slot = S::slot(slots, i);
+    NewerSlot {
+        version: slot.version,
+        count: slot.agg.count,
+        place: S::place(slots, i),
     }
 }

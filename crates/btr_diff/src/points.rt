@@ -4,10 +4,11 @@ ghost use Rattle.std.specs.Prelude.{[], ◌++◌, length, filter, MatchOption, O
 ghost use Rattle.btr_base.specs.declared.point.Point.{Point as PointSpec};
 ghost use Rattle.btr_base.specs.Bag.{IsInOrder};
 ghost use Rattle.btr_base.specs.Point.{AreInDomain};
+ghost use Rattle.btr_tree.specs.EachHistory.{points_in as points_of_span};
 ghost use Rattle.btr_diff.specs.Comparison.{AddsChangedSlots, IsFirstTime, point_time};
 
 use crate::comparison::Comparison;
-use btr_base::{Point, Ranges, slot_around};
+use btr_base::{Point, Ranges, Span, points_between, slot_around};
 use std::alloc::AllocError;
 
 /// Adds to `out` the aligned slots of `2^p` ns in which two lists of points in order differ, each lengthened by the lead. It goes
@@ -47,6 +48,14 @@ pub(crate) fn compare_points(
         }
     }
     Ok(())
+}
+
+/// Those of points in order that are in a span. It takes time logarithmic in their number, and no memory.
+pub(crate) fn points_in(points: &[Point], span: Span) -> &[Point]
+    requires { IsInOrder points.now }
+    ensures { result.now ≡ points_of_span span points.now }
+{
+    points_between(points, span.start, span.end())
 }
 
 /// Adds to `out` the slots of `2^p` ns that have a point, each lengthened by the lead: where the older version has no points, each

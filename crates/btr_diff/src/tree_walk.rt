@@ -1,162 +1,205 @@
 //! The walk over the newer tree beside the older one, into the spans whose node or slot has a newer version.
-ghost use Rattle.std.specs.Prelude.{◌≤◌, OnOk};
-ghost use Rattle.btr_base.specs.Point.{AreInDomain};
-ghost use Rattle.btr_base.specs.Bag.{IsInOrder};
-ghost use Rattle.btr_tree.specs.History.{Past, bag};
-ghost use Rattle.btr_tree.specs.EachHistory.{points_in};
-ghost use Rattle.btr_tree.specs.Slots.{node_of};
-ghost use Rattle.btr_tree.specs.Uncounted.{uncounted_child, uncounted_slots};
-ghost use Rattle.btr_diff.specs.Comparison.{AddsChangedSlots, BelongsTo, Compares, VisitsBelow, VisitsSlot};
-ghost use Rattle.btr_diff.specs.Comparison.{IsChildOf, IsNodeOf, IsSlotOf, AreSlotsOf};
+ghost use Rattle.std.specs.Prelude.{ℕ, ◌<◌, OnOk};
+ghost use Rattle.btr_tree.specs.NodeSource.{AreSafeSlots, IfRefused, IsSafeFound, UsesSource};
+ghost use Rattle.btr_diff.specs.Comparison.{Compares, ComparesSlots, IsSound, CountsNewer, CountsOlder, CountsSlot};
+ghost use Rattle.btr_diff.specs.Comparison.{ArePoints, ArePointsOf, IsPlace, IsFoundOf, IsSlotOf, AreSlotsOf, IsTask};
 
-use crate::comparison::Comparison;
+use crate::comparison::{Findings, Task};
 use crate::gathering::gather_slots;
 use crate::leaf_walk::compare_points_with_slots;
-use crate::newer_slot::NewerSlot;
+use crate::newer_slot::{NewerSlot, newer_slot};
 use crate::points::compare_points;
-use btr_base::{FAN_OUT, Point, Ranges, Span};
-use btr_tree::{
-    Node, Slots, Steps, UncountedChild, UncountedNode, UncountedSlots, visit, visit_uncounted,
-};
-use std::alloc::AllocError;
+use btr_base::{FAN_OUT, Point};
+use btr_tree::{FoundNode, NodeSource, Steps, WalkFault};
 
-/// Compares the older tree with a node of the newer one that was visited.
+/// Compares the older tree with what was found of the newer one.
 #[cycle(tree_walk)]
-pub(crate) fn compare_node<L>(
-    span: Span,
-    old: UncountedChild<'_>,
-    new: Node<'_>,
-    comparison: Comparison,
-    out: &mut Ranges,
+pub(crate) fn compare_found<S: NodeSource, M, L>(
+    state: &mut S::State,
+    task: Task,
+    old: S::Place,
+    new: FoundNode<S::Leaf, S::Inner>,
+    findings: &mut Findings<M>,
     steps: &mut Steps<L>,
-) -> Result<(), AllocError>
-    requires p { comparison.p ≤ 62 }
-    requires old { BelongsTo span (IsChildOf span (uncounted_child old)) }
-    requires new { BelongsTo span (IsNodeOf span new) }
-    ensures adds { OnOk result (Compares comparison span (IsChildOf span (uncounted_child old.entry))
-        (IsNodeOf span new.entry) out.old out.new) }
-    ensures bounded { VisitsBelow comparison.since span (IsNodeOf span new.entry) steps.old steps.new }
-    ensures never_falls { steps.old ≤ steps.new }
+) -> Result<(), WalkFault<S::Fault>>
+    requires task { IsTask task }
+    requires old { S.IsSafe (S.told state.old) (S.site old) task.span.height task.span.start }
+    requires new { (most : ℕ) × IsSafeFound (S.IsSafe (S.told state.old)) S.count S.leaf_points S.inner_slot S.inner_place most
+        task.span new }
+    ensures adds { OnOk result (Compares task (S.IsAt (S.told state.old)) (IsPlace (S.site old))
+        (IsFoundOf S.leaf_points S.inner_slot S.inner_place new) findings.old.changed findings.new.changed) }
+    ensures sound { IsSound task (S.IsAt (S.told state.old)) (IsPlace (S.site old))
+        (IsFoundOf S.leaf_points S.inner_slot S.inner_place new) S.IsHarmless result }
+    ensures uses { UsesSource S.told S.faults (λ t a b. IfRefused (S.IsCaused t a b)) state.old state.new result }
+    ensures newer { CountsNewer task (S.IsAt (S.told state.old)) (IsFoundOf S.leaf_points S.inner_slot S.inner_place new)
+        steps.old steps.new }
+    ensures older { CountsOlder 0 task.span (S.IsAt (S.told state.old)) (IsPlace (S.site old))
+        findings.old.older findings.new.older result }
 {
     match new {
-        Node::Leaf { points, .. } => compare_with_points(span, old, points, comparison, out),
-        Node::Inner { slots, .. } => compare_with_slots(span, old, slots, comparison, out, steps),
+        FoundNode::Nothing => compare_with_points::<S, M>(state, task, old, &[], findings),
+        FoundNode::Leaf { points, .. } => {
+            compare_with_points::<S, M>(state, task, old, S::points(&points), findings)
+        }
+        FoundNode::Inner { slots, .. } => {
+            compare_with_slots::<S, M, L>(state, task, old, &slots, findings, steps)
+        }
     }
 }
 
 /// Compares the older tree with the slots of an inner node of the newer one.
 #[cycle(tree_walk)]
-fn compare_with_slots<L>(
-    span: Span,
-    old: UncountedChild<'_>,
-    new: &Slots,
-    comparison: Comparison,
-    out: &mut Ranges,
+fn compare_with_slots<S: NodeSource, M, L>(
+    state: &mut S::State,
+    task: Task,
+    old: S::Place,
+    new: &S::Inner,
+    findings: &mut Findings<M>,
     steps: &mut Steps<L>,
-) -> Result<(), AllocError>
-    requires p { comparison.p ≤ 62 }
-    requires old { BelongsTo span (IsChildOf span (uncounted_child old)) }
-    requires new { BelongsTo span (AreSlotsOf span new.now) }
-    ensures adds { OnOk result (Compares comparison span (IsChildOf span (uncounted_child old.entry))
-        (AreSlotsOf span new.now) out.old out.new) }
-    ensures bounded { VisitsBelow comparison.since span (AreSlotsOf span new.now) steps.old steps.new }
-    ensures never_falls { steps.old ≤ steps.new }
+) -> Result<(), WalkFault<S::Fault>>
+    requires task { IsTask task }
+    requires old { S.IsSafe (S.told state.old) (S.site old) task.span.height task.span.start }
+    requires new { AreSafeSlots (S.IsSafe (S.told state.old)) S.count (S.inner_place new.now) (S.inner_slot new.now) task.span }
+    ensures adds { OnOk result (Compares task (S.IsAt (S.told state.old)) (IsPlace (S.site old))
+        (AreSlotsOf (S.inner_place new.now) (S.inner_slot new.now)) findings.old.changed findings.new.changed) }
+    ensures sound { IsSound task (S.IsAt (S.told state.old)) (IsPlace (S.site old))
+        (AreSlotsOf (S.inner_place new.now) (S.inner_slot new.now)) S.IsHarmless result }
+    ensures uses { UsesSource S.told S.faults (λ t a b. IfRefused (S.IsCaused t a b)) state.old state.new result }
+    ensures newer { CountsNewer task (S.IsAt (S.told state.old)) (AreSlotsOf (S.inner_place new.now) (S.inner_slot new.now))
+        steps.old steps.new }
+    ensures older { CountsOlder 0 task.span (S.IsAt (S.told state.old)) (IsPlace (S.site old))
+        findings.old.older findings.new.older result }
 {
-    match visit_uncounted(old) {
-        None => compare_points_with_slots(span, &[], new, comparison, out, steps),
-        Some(node) => match node {
-            UncountedNode::Leaf { points, .. } => {
-                compare_points_with_slots(span, points, new, comparison, out, steps)
-            }
-            UncountedNode::Inner { slots, .. } => compare_slots(
-                span, slots, new, comparison, out, steps,
+    match S::visit(state, task.span, old, &mut findings.older) {
+        Err(fault) => Err(WalkFault::Refused(fault)),
+        Ok(found) => match found {
+            FoundNode::Nothing => compare_points_with_slots::<S, L>(
+                state,
+                task,
+                &[],
+                new,
+                &mut findings.changed,
+                steps,
             ),
+            FoundNode::Leaf { points, .. } => {
+                let here = S::points(&points);
+                let changed = &mut findings.changed;
+                compare_points_with_slots::<S, L>(state, task, here, new, changed, steps)
+            }
+            FoundNode::Inner { slots, .. } => {
+                compare_slots::<S, M, L>(state, task, &slots, new, findings, steps)
+            }
         },
     }
 }
 
-/// Compares two inner nodes slot by slot.
+/// Compares two inner nodes slot by slot. A slot whose version is not above `since` is passed.
 #[cycle(tree_walk)]
-fn compare_slots<L>(
-    span: Span,
-    old: UncountedSlots<'_>,
-    new: &Slots,
-    comparison: Comparison,
-    out: &mut Ranges,
+fn compare_slots<S: NodeSource, M, L>(
+    state: &mut S::State,
+    task: Task,
+    old: &S::Inner,
+    new: &S::Inner,
+    findings: &mut Findings<M>,
     steps: &mut Steps<L>,
-) -> Result<(), AllocError>
-    requires p { comparison.p ≤ 62 }
-    requires old { BelongsTo span (AreSlotsOf span (uncounted_slots old)) }
-    requires new { BelongsTo span (AreSlotsOf span new.now) }
-    ensures adds { OnOk result (Compares comparison span (AreSlotsOf span (uncounted_slots old.entry))
-        (AreSlotsOf span new.now) out.old out.new) }
-    ensures bounded { VisitsBelow comparison.since span (AreSlotsOf span new.now) steps.old steps.new }
-    ensures never_falls { steps.old ≤ steps.new }
+) -> Result<(), WalkFault<S::Fault>>
+    requires task { IsTask task }
+    requires old { AreSafeSlots (S.IsSafe (S.told state.old)) S.count (S.inner_place old.now) (S.inner_slot old.now) task.span }
+    requires new { AreSafeSlots (S.IsSafe (S.told state.old)) S.count (S.inner_place new.now) (S.inner_slot new.now) task.span }
+    ensures adds { OnOk result (ComparesSlots task (S.IsAt (S.told state.old)) S.inner_place S.inner_slot old.now new.now
+        findings.old.changed findings.new.changed) }
+    ensures sound { IsSound task (S.IsAt (S.told state.old)) (AreSlotsOf (S.inner_place old.now) (S.inner_slot old.now))
+        (AreSlotsOf (S.inner_place new.now) (S.inner_slot new.now)) S.IsHarmless result }
+    ensures uses { UsesSource S.told S.faults (λ t a b. IfRefused (S.IsCaused t a b)) state.old state.new result }
+    ensures newer { CountsNewer task (S.IsAt (S.told state.old)) (AreSlotsOf (S.inner_place new.now) (S.inner_slot new.now))
+        steps.old steps.new }
+    ensures older { CountsOlder 1 task.span (S.IsAt (S.told state.old)) (AreSlotsOf (S.inner_place old.now) (S.inner_slot old.now))
+        findings.old.older findings.new.older result }
 {
     for i in 0..FAN_OUT {
-        compare_slot(
-            span.slot(i),
-            old.child(i),
-            NewerSlot::of(new, i),
-            comparison,
-            out,
-            steps,
-        )?;
+        let slot = newer_slot::<S>(new, i);
+        if slot.version <= task.by.since {
+            continue;
+        }
+        let here = Task {
+            span: task.span.slot(i),
+            by: task.by,
+        };
+        let place = S::place(old, i);
+        compare_slot::<S, M, L>(state, here, place, slot, findings, steps)?;
     }
     Ok(())
 }
 
-/// Compares the trees in one slot. It visits the newer node, and below it those that are newer, if the slot's version is
-/// above `since`.
+/// Compares the trees in one slot, whose version is above `since`, the caller's condition. It visits the newer node, and below it
+/// those that are newer, if the slot has a point.
 #[cycle(tree_walk)]
-fn compare_slot<L>(
-    span: Span,
-    old: UncountedChild<'_>,
-    new: NewerSlot<'_>,
-    comparison: Comparison,
-    out: &mut Ranges,
+fn compare_slot<S: NodeSource, M, L>(
+    state: &mut S::State,
+    task: Task,
+    old: S::Place,
+    new: NewerSlot<S::Place>,
+    findings: &mut Findings<M>,
     steps: &mut Steps<L>,
-) -> Result<(), AllocError>
-    requires p { comparison.p ≤ 62 }
-    requires old { BelongsTo span (IsChildOf span (uncounted_child old)) }
-    requires new { BelongsTo span (IsChildOf span (node_of new.child)) }
-    ensures adds { OnOk result (Compares comparison span (IsChildOf span (uncounted_child old.entry))
-        (IsSlotOf span new.entry.version (node_of new.entry.child)) out.old out.new) }
-    ensures bounded { VisitsSlot comparison.since span new.entry.version (node_of new.entry.child) steps.old steps.new }
-    ensures never_falls { steps.old ≤ steps.new }
+) -> Result<(), WalkFault<S::Fault>>
+    requires task { IsTask task }
+    requires old { S.IsSafe (S.told state.old) (S.site old) task.span.height task.span.start }
+    requires new { S.IsSafe (S.told state.old) (S.site new.place) task.span.height task.span.start }
+    requires newer { task.by.since < new.version }
+    ensures adds { OnOk result (Compares task (S.IsAt (S.told state.old)) (IsPlace (S.site old))
+        (IsSlotOf new.version new.count (S.site new.place)) findings.old.changed findings.new.changed) }
+    ensures sound { IsSound task (S.IsAt (S.told state.old)) (IsPlace (S.site old))
+        (IsSlotOf new.version new.count (S.site new.place)) S.IsHarmless result }
+    ensures uses { UsesSource S.told S.faults (λ t a b. IfRefused (S.IsCaused t a b)) state.old state.new result }
+    ensures newer { CountsSlot task (S.IsAt (S.told state.old)) new.version new.count (S.site new.place) steps.old steps.new }
+    ensures older { CountsOlder 0 task.span (S.IsAt (S.told state.old)) (IsPlace (S.site old))
+        findings.old.older findings.new.older result }
 {
-    if new.version <= comparison.since {
-        return Ok(());
+    if new.count == 0 {
+        return compare_with_points::<S, M>(state, task, old, &[], findings);
     }
-    match visit(new.child, steps) {
-        None => compare_with_points(span, old, &[], comparison, out),
-        Some(node) => compare_node(span, old, node, comparison, out, steps),
+    match S::visit(state, task.span, new.place, steps) {
+        Err(fault) => Err(WalkFault::Refused(fault)),
+        Ok(found) => compare_found::<S, M, L>(state, task, old, found, findings, steps),
     }
 }
 
-/// Adds to `out` the slots in which the points of a span in the older tree differ from `new`.
-pub(crate) fn compare_with_points(
-    span: Span,
-    old: UncountedChild<'_>,
+/// Adds the slots in which the points of a span in the older tree differ from `new`.
+fn compare_with_points<S: NodeSource, M>(
+    state: &mut S::State,
+    task: Task,
+    old: S::Place,
     new: &[Point],
-    comparison: Comparison,
-    out: &mut Ranges,
-) -> Result<(), AllocError>
-    requires p { comparison.p ≤ 62 }
-    requires old { BelongsTo span (IsChildOf span (uncounted_child old)) }
-    requires order { IsInOrder new.now }
-    requires domain { AreInDomain new.now }
-    ensures { OnOk result ((h : Past) → IsChildOf span (uncounted_child old.entry) h
-        → AddsChangedSlots comparison out.old out.new (points_in span (bag h)) new.now) }
+    findings: &mut Findings<M>,
+) -> Result<(), WalkFault<S::Fault>>
+    requires task { IsTask task }
+    requires old { S.IsSafe (S.told state.old) (S.site old) task.span.height task.span.start }
+    requires new { ArePoints new.now }
+    ensures adds { OnOk result (Compares task (S.IsAt (S.told state.old)) (IsPlace (S.site old)) (ArePointsOf new.now)
+        findings.old.changed findings.new.changed) }
+    ensures sound { IsSound task (S.IsAt (S.told state.old)) (IsPlace (S.site old)) (ArePointsOf new.now) S.IsHarmless result }
+    ensures uses { UsesSource S.told S.faults (λ t a b. IfRefused (S.IsCaused t a b)) state.old state.new result }
+    ensures older { CountsOlder 0 task.span (S.IsAt (S.told state.old)) (IsPlace (S.site old))
+        findings.old.older findings.new.older result }
 {
-    match visit_uncounted(old) {
-        None => compare_points(&[], new, comparison, out),
-        Some(node) => match node {
-            UncountedNode::Leaf { points, .. } => compare_points(points, new, comparison, out),
-            UncountedNode::Inner { slots, .. } => {
-                let mut points = Vec::new(comparison.alloc);
-                gather_slots(span, slots, &mut points)?;
-                compare_points(&points, new, comparison, out)
+    let by = task.by;
+    match S::visit(state, task.span, old, &mut findings.older) {
+        Err(fault) => Err(WalkFault::Refused(fault)),
+        Ok(found) => match found {
+            FoundNode::Nothing => {
+                compare_points(&[], new, by, &mut findings.changed)?;
+                Ok(())
+            }
+            FoundNode::Leaf { points, .. } => {
+                compare_points(S::points(&points), new, by, &mut findings.changed)?;
+                Ok(())
+            }
+            FoundNode::Inner { slots, .. } => {
+                let mut points = Vec::new(by.alloc);
+                let older = &mut findings.older;
+                gather_slots::<S, M>(state, task.span, &slots, &mut points, older)?;
+                compare_points(&points, new, by, &mut findings.changed)?;
+                Ok(())
             }
         },
     }

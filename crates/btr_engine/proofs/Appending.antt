@@ -18,7 +18,8 @@ use Rattle.btr_entry.specs.Format.{format_of}
 use Rattle.btr_super.specs.declared.superblock.Super.{Super}
 use Rattle.btr_node.specs.Page.{Fits}
 use Rattle.btr_node.specs.declared.page.NodePage.{NodePage}
-use Rattle.btr_pages.specs.Pages.{Pages, ArePages}
+use Rattle.btr_tree.specs.PageNodes.{Pages}
+use Rattle.btr_pages.specs.Pages.{ArePages}
 use Rattle.btr_pages.proofs.PageOfLemmas.{HasPlaces}
 use Rattle.btr_engine.specs.Body.{body_of, Prefix, prefix_to, first_page, pages_after, IsBodyOf, commits_before, nodes_of, need_of}
 use Rattle.btr_streams.specs.Board.{Kept, Versions}

@@ -20,7 +20,7 @@ use Rattle.btr_log.specs.Append as append
 use Rattle.btr_log.specs.Log as log
 use Rattle.btr_log.specs.Head.{content_blocks}
 use Rattle.btr_log.proofs.ExtentLemmas.{AtRest-IsLog}
-use Rattle.btr_pages.specs.Pages.{Pages, nodes_in}
+use Rattle.btr_tree.specs.PageNodes.{Pages, nodes_in}
 use Rattle.btr_pages.proofs.ReportedLemmas.{below-more}
 use Rattle.btr_super.specs.declared.superblock.Super.{Super}
 use Rattle.btr_super.specs.Choose.{IsChosen}

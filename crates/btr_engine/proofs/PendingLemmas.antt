@@ -11,7 +11,8 @@ use Rattle.btr_log.specs.Append.{body_in_run, IsAppendRun}
 use Rattle.btr_log.proofs.AppendLemmas.{length-run}
 use Rattle.btr_tree.specs.NewNodes.{NewNodeValue}
 use Rattle.btr_node.specs.Page.{Fits}
-use Rattle.btr_pages.specs.Pages.{Pages, with_pages, page_of, pages_of, ArePages}
+use Rattle.btr_tree.specs.PageNodes.{Pages}
+use Rattle.btr_pages.specs.Pages.{with_pages, page_of, pages_of, ArePages}
 use Rattle.btr_hist.specs.declared.entry.Entry.{Entry}
 use Rattle.btr_hist.specs.declared.entry.Entry.TheVariants.{Create, Define, Commit, Distillate, Retire}
 use Rattle.btr_hist.specs.History.{commits, latest}

@@ -6,7 +6,8 @@ use Rattle.btr_tree.specs.Root.{TreeValue}
 use Rattle.btr_tree.specs.Stored.{IsBelow}
 use Rattle.btr_node.specs.Page.{Fits}
 use Rattle.btr_node.specs.declared.page.NodePage.{NodePage}
-use Rattle.btr_pages.specs.Pages.{Pages, with_pages, nodes_in, ArePages}
+use Rattle.btr_tree.specs.PageNodes.{Pages, nodes_in}
+use Rattle.btr_pages.specs.Pages.{with_pages, ArePages}
 use Rattle.btr_pages.specs.Reported.{AreKept}
 use Rattle.btr_pages.proofs.ReportedLemmas.{kept-more}
 use Rattle.btr_hist.specs.declared.entry.Entry.{Entry}

@@ -26,7 +26,8 @@ use Rattle.btr_tree.specs.Shape.{IsLeaf, ByKind, IsChild}
 use Rattle.btr_tree.specs.Stored.{IsBelow}
 use Rattle.btr_tree.proofs.LeadsLemmas.{stored-leads}
 use Rattle.btr_node.specs.declared.page.NodePage.{NodePage}
-use Rattle.btr_pages.specs.Pages.{Pages, with_pages, nodes_in, page_of, pages_of, Stand}
+use Rattle.btr_tree.specs.PageNodes.{Pages, nodes_in, Stand}
+use Rattle.btr_pages.specs.Pages.{with_pages, page_of, pages_of}
 use Rattle.btr_pages.specs.Reported.{AreKept, AreReported}
 use Rattle.btr_pages.proofs.PageOfLemmas.{HasPlaces, page_of-places, each-map}
 use Rattle.btr_pages.proofs.ReportedLemmas.{with-either, stored-along, kept-more, below-more, reported-pages}

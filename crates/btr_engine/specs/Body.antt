@@ -13,7 +13,8 @@ use Rattle.btr_node.specs.declared.page.NodePage.{NodePage}
 use Rattle.btr_tree.specs.History.{nothing}
 use Rattle.btr_tree.specs.NewNodes.{new_nodes}
 use Rattle.btr_tree.specs.Nodes.{above_root}
-use Rattle.btr_pages.specs.Pages.{Pages, no_pages, with_pages, ArePages}
+use Rattle.btr_tree.specs.PageNodes.{Pages}
+use Rattle.btr_pages.specs.Pages.{no_pages, with_pages, ArePages}
 use Rattle.btr_hist.specs.declared.entry.Entry.{Entry}
 use Rattle.btr_hist.specs.declared.entry.Entry.TheVariants.{Create, Define, Commit, Distillate, Retire}
 use Rattle.btr_hist.specs.History.{commits}

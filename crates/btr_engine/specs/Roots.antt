@@ -3,7 +3,7 @@ use Rattle.std.specs.Prelude.{◌≡◌, ℕ, List, [], ◌∷◌, ◌++◌}
 use Rattle.btr_base.specs.declared.limits.TheConstants.{FIRST}
 use Rattle.btr_tree.specs.Leads.{Leads}
 use Rattle.btr_tree.specs.Nodes.{above_root}
-use Rattle.btr_pages.specs.Pages.{Pages, Stand}
+use Rattle.btr_tree.specs.PageNodes.{Pages, Stand}
 use Rattle.btr_hist.specs.declared.entry.Entry.{Entry}
 use Rattle.btr_hist.specs.declared.entry.Entry.TheVariants.{Create, Define, Commit, Distillate, Retire}
 use Rattle.btr_hist.specs.History.{latest}

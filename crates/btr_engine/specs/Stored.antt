@@ -2,7 +2,7 @@
 use Rattle.std.specs.Prelude.{ℕ, ◌<◌, List, IfSome, IsSome}
 use Rattle.btr_base.specs.declared.limits.TheConstants.{FIRST}
 use Rattle.btr_tree.specs.Stored.{IsBelow}
-use Rattle.btr_pages.specs.Pages.{Pages, nodes_in}
+use Rattle.btr_tree.specs.PageNodes.{Pages, nodes_in}
 use Rattle.btr_pages.specs.Reported.{AreKept}
 use Rattle.btr_streams.specs.Board.{Versions, tree_at}
 

@@ -7,19 +7,25 @@ use std::io;
 use std::io::{ErrorKind, Read};
 
 /// A reader of the system as a source: `StdSource::new(rt.stdin())` is standard input. The bytes that
-/// are left are not observable.
+/// are left are not observable. A read that is repeated after a signal is one call.
 #[derive(Drop)]
 pub struct StdSource<R> {
     reader: R,
+    calls: u64,
     faults: u64,
 }
 
 impl<R: Read> StdSource<R> {
-    /// A source over this reader, with no fault counted.
+    /// A source over this reader, with no call and no fault counted.
     pub fn new(reader: R) -> StdSource<R>
-        ensures { result.faults ≡ 0 }
+        ensures calls { result.calls ≡ 0 }
+        ensures faults { result.faults ≡ 0 }
     {
-        StdSource { reader, faults: 0 }
+        StdSource {
+            reader,
+            calls: 0,
+            faults: 0,
+        }
     }
 }
 
@@ -28,9 +34,12 @@ impl<R: Read> Source for StdSource<R> {
 
     ghost left = { λ source. [] };
 
+    ghost calls = { λ source. source.calls };
+
     ghost faults = { λ source. source.faults };
 
     fn read(&mut self, buf: &mut [u8]) -> Result<usize, Failed> {
+        raise(&mut self.calls);
         match read_some(&mut self.reader, buf) {
             Ok(n) => Ok(n),
             Err(_) => {

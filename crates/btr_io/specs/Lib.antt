@@ -1,4 +1,4 @@
--- The count of faults of each call.
+-- The counts of calls and of faults.
 pub mod Faults
 -- What several calls do to the bytes.
 pub mod Bytes

@@ -52,6 +52,8 @@ impl Source for MemSource {
 
     ghost left = { λ s. s.left };
 
+    ghost calls = { λ s. s.calls.made };
+
     ghost faults = { λ s. s.calls.faults };
 
     fn read(&mut self, buf: &mut [u8]) -> Result<usize, Failed>

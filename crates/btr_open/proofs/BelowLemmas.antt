@@ -14,7 +14,8 @@ use Rattle.btr_node.specs.Page.{page_bytes, Fits, Spells, slots_of_page}
 use Rattle.btr_node.specs.declared.page.NodePage.{NodePage}
 use Rattle.btr_node.specs.declared.page.PageSlot.{PageSlot}
 use Rattle.btr_node.proofs.PageLemmas.{page-once}
-use Rattle.btr_pages.specs.Pages.{Pages, with_pages, IsPageAt, IsChildPage, HasChildPage}
+use Rattle.btr_tree.specs.PageNodes.{Pages, IsChildPage}
+use Rattle.btr_pages.specs.Pages.{with_pages, IsPageAt, HasChildPage}
 use Rattle.btr_pages.proofs.BlockLemmas.{one-block}
 use Rattle.btr_pages.proofs.KnownLemmas.{pages-below, pages-from}
 use Rattle.btr_pages.proofs.PagesLemmas.{right-along}

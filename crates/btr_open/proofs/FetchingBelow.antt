@@ -8,9 +8,9 @@ use Rattle.btr_disk.specs.Bytes.{Image}
 use Rattle.btr_node.specs.Page.{Fits, Spells, slots_of_page}
 use Rattle.btr_node.specs.declared.page.NodePage.{NodePage}
 use Rattle.btr_node.specs.declared.page.PageSlot.{PageSlot}
-use Rattle.btr_pages.specs.Pages.{Pages}
+use Rattle.btr_tree.specs.PageNodes.{Pages}
 use Rattle.btr_pages.specs.Blocks.{block_of_bytes}
-use Rattle.btr_pages.specs.Known.{NodesValue, node_at}
+use Rattle.btr_pages.specs.Known.{TreesValue, node_at}
 use Rattle.btr_open.specs.declared.below.BlockReader.{BlockReader}
 use Rattle.btr_open.specs.declared.below.Fetched.{Fetched}
 use Rattle.btr_open.specs.declared.below.Fetched.TheVariants.{Known, NoPage, Broken}
@@ -23,7 +23,7 @@ use Rattle.btr_open.proofs.MakingBelow.{same-image, read-none, read-on, can-on, 
 -- ---- what was fetched
 
 -- A page that stands rightly has a tree, once it was fetched.
-pub fetched-stands : (image : Image) (limit block : ℕ) (nodes : NodesValue) (fetched : Fetched) → IsFetched image block nodes fetched → (pages : Pages) → StandBelow image limit pages → block < limit → IsSome (pages block) → IsSome (node_at nodes block)
+pub fetched-stands : (image : Image) (limit block : ℕ) (nodes : TreesValue) (fetched : Fetched) → IsFetched image block nodes fetched → (pages : Pages) → StandBelow image limit pages → block < limit → IsSome (pages block) → IsSome (node_at nodes block)
 fetched-stands image limit block nodes Known is pages stand lt has = is
 fetched-stands image limit block nodes NoPage is pages stand lt has =
     let its = some-of (pages block) has in
@@ -36,7 +36,7 @@ fetched-stands image limit block nodes (Broken named) is pages stand lt has =
 -- ---- all of some blocks
 
 -- One block.
-pub fetches-block : (image : Image) (limit block : ℕ) (old new : NodesValue) (fetched : Fetched) → 1 ≤ block → block < limit → AddsBelow image limit old new → StaysPart image limit block old new → IsFetched image block new fetched → FetchesAll image limit (IsBlock block) old new
+pub fetches-block : (image : Image) (limit block : ℕ) (old new : TreesValue) (fetched : Fetched) → 1 ≤ block → block < limit → AddsBelow image limit old new → StaysPart image limit block old new → IsFetched image block new fetched → FetchesAll image limit (IsBlock block) old new
 fetches-block image limit block old new fetched some low adds part is = record {
   adds = adds;
   part = λ pages stand have are. part pages stand (have block refl some low) are;
@@ -45,7 +45,7 @@ fetches-block image limit block old new fetched some low adds part is = record {
 }
 
 -- A block that is not one of those below the limit.
-pub fetches-none : (image : Image) (limit : ℕ) (blocks : ℕ → Type 0) (nodes : NodesValue) → ((block : ℕ) → blocks block → 1 ≤ block → block < limit → ⊥) → FetchesAll image limit blocks nodes nodes
+pub fetches-none : (image : Image) (limit : ℕ) (blocks : ℕ → Type 0) (nodes : TreesValue) → ((block : ℕ) → blocks block → 1 ≤ block → block < limit → ⊥) → FetchesAll image limit blocks nodes nodes
 fetches-none image limit blocks nodes none = record {
   adds = adds-none image limit nodes;
   part = λ pages stand have are. are;
@@ -55,7 +55,7 @@ fetches-none image limit blocks nodes none = record {
 }
 
 -- Those of both.
-pub fetches-on : (image : Image) (limit : ℕ) (first second all : ℕ → Type 0) (old mid new : NodesValue) → FetchesAll image limit first old mid → FetchesAll image limit second mid new → ((k : ℕ) → first k → all k) → ((k : ℕ) → second k → all k) → ((k : ℕ) → all k → first k ⊎ second k) → FetchesAll image limit all old new
+pub fetches-on : (image : Image) (limit : ℕ) (first second all : ℕ → Type 0) (old mid new : TreesValue) → FetchesAll image limit first old mid → FetchesAll image limit second mid new → ((k : ℕ) → first k → all k) → ((k : ℕ) → second k → all k) → ((k : ℕ) → all k → first k ⊎ second k) → FetchesAll image limit all old new
 fetches-on image limit first second all old mid new one two from_first from_second from_all = record {
   adds = adds-on image limit old mid new one.adds two.adds;
   part = λ pages stand have are.
@@ -68,7 +68,7 @@ fetches-on image limit first second all old mid new one two from_first from_seco
 }
 
 -- The same blocks, said otherwise.
-pub fetches-same : (image : Image) (limit : ℕ) (blocks other : ℕ → Type 0) (old new : NodesValue) → FetchesAll image limit blocks old new → ((k : ℕ) → blocks k → other k) → ((k : ℕ) → other k → blocks k) → FetchesAll image limit other old new
+pub fetches-same : (image : Image) (limit : ℕ) (blocks other : ℕ → Type 0) (old new : TreesValue) → FetchesAll image limit blocks old new → ((k : ℕ) → blocks k → other k) → ((k : ℕ) → other k → blocks k) → FetchesAll image limit other old new
 fetches-same image limit blocks other old new all to back = record {
   adds = all.adds;
   part = λ pages stand have are. all.part pages stand (λ k is. have k (to k is)) are;
@@ -190,14 +190,14 @@ module _ (n : ℕ) (bytes : List ℕ) (root : ℕ) where
 
 module _ {D : Type 0} (disk : Ghosts D) where
   -- The pages in some blocks were fetched.
-  pub record HasFetched (before now : D) (old new : BlockReader) (blocks : ℕ → Type 0) (was nodes : NodesValue) : Type 0 where
+  pub record HasFetched (before now : D) (old new : BlockReader) (blocks : ℕ → Type 0) (was nodes : TreesValue) : Type 0 where
     pub read : HasReadBelow disk old new before now
     pub can : CanRead disk new now
     pub grows : GrowsBelow old.limit was nodes
     pub own : disk.is_observable → AreOfDevice (disk.contents now) new.limit nodes
     pub all : disk.is_observable → FetchesAll (disk.contents before) old.limit blocks was nodes
 
-  pub fetched-none : (d : D) (r : BlockReader) (blocks : ℕ → Type 0) (nodes : NodesValue) → (disk.is_observable → (c : Image) → disk.images_since d (disk.calls d) c → disk.images_now d c) → CanRead disk r d → (disk.is_observable → AreOfDevice (disk.contents d) r.limit nodes) → ((block : ℕ) → blocks block → 1 ≤ block → block < r.limit → ⊥) → HasFetched d d r r blocks nodes nodes
+  pub fetched-none : (d : D) (r : BlockReader) (blocks : ℕ → Type 0) (nodes : TreesValue) → (disk.is_observable → (c : Image) → disk.images_since d (disk.calls d) c → disk.images_now d c) → CanRead disk r d → (disk.is_observable → AreOfDevice (disk.contents d) r.limit nodes) → ((block : ℕ) → blocks block → 1 ≤ block → block < r.limit → ⊥) → HasFetched d d r r blocks nodes nodes
   fetched-none d r blocks nodes only_now can own none = record {
     read = read-none disk r d only_now can;
     can = can;
@@ -206,7 +206,7 @@ module _ {D : Type 0} (disk : Ghosts D) where
     all = λ reported. fetches-none (disk.contents d) r.limit blocks nodes none;
   }
 
-  pub fetched-more : (before mid now : D) (r m s : BlockReader) (first second all : ℕ → Type 0) (was nodes new : NodesValue) → HasFetched before mid r m first was nodes → HasReadBelow disk m s mid now → GrowsBelow m.limit nodes new → (disk.is_observable → FetchesAll (disk.contents mid) m.limit second nodes new) → ((k : ℕ) → first k → all k) → ((k : ℕ) → second k → all k) → ((k : ℕ) → all k → first k ⊎ second k) → HasFetched before now r s all was new
+  pub fetched-more : (before mid now : D) (r m s : BlockReader) (first second all : ℕ → Type 0) (was nodes new : TreesValue) → HasFetched before mid r m first was nodes → HasReadBelow disk m s mid now → GrowsBelow m.limit nodes new → (disk.is_observable → FetchesAll (disk.contents mid) m.limit second nodes new) → ((k : ℕ) → first k → all k) → ((k : ℕ) → second k → all k) → ((k : ℕ) → all k → first k ⊎ second k) → HasFetched before now r s all was new
   fetched-more before mid now r m s first second all was nodes new so_far read grows more from_first from_second from_all = record {
     read = read-on disk r m s before mid now so_far.read read;
     can = can-on disk m s mid now so_far.can read;
@@ -220,7 +220,7 @@ module _ {D : Type 0} (disk : Ghosts D) where
         from_first from_second from_all;
   }
 
-  pub fetched-same : (before now : D) (r s : BlockReader) (blocks other : ℕ → Type 0) (was nodes : NodesValue) → HasFetched before now r s blocks was nodes → ((k : ℕ) → blocks k → other k) → ((k : ℕ) → other k → blocks k) → HasFetched before now r s other was nodes
+  pub fetched-same : (before now : D) (r s : BlockReader) (blocks other : ℕ → Type 0) (was nodes : TreesValue) → HasFetched before now r s blocks was nodes → ((k : ℕ) → blocks k → other k) → ((k : ℕ) → other k → blocks k) → HasFetched before now r s other was nodes
   fetched-same before now r s blocks other was nodes so_far to back = record {
     read = so_far.read;
     can = so_far.can;
@@ -230,6 +230,6 @@ module _ {D : Type 0} (disk : Ghosts D) where
   }
 
   -- The same states under other names.
-  pub fetched-as : (before now then : D) (r s t : BlockReader) (blocks : ℕ → Type 0) (was nodes new : NodesValue) → s ≡ t → now ≡ then → nodes ≡ new → HasFetched before then r t blocks was new → HasFetched before now r s blocks was nodes
+  pub fetched-as : (before now then : D) (r s t : BlockReader) (blocks : ℕ → Type 0) (was nodes new : TreesValue) → s ≡ t → now ≡ then → nodes ≡ new → HasFetched before then r t blocks was new → HasFetched before now r s blocks was nodes
   fetched-as before now then r s t blocks was nodes new same_reader same_disk same_nodes so_far =
       subst (λ x. HasFetched before now r x blocks was nodes) (sym same_reader) (subst (λ d. HasFetched before d r t blocks was nodes) (sym same_disk) (subst (λ xs. HasFetched before then r t blocks was xs) (sym same_nodes) so_far))

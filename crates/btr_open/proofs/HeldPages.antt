@@ -16,7 +16,8 @@ use Rattle.btr_log.specs.Extents.{need, IsExtent, Extents, first_gate}
 use Rattle.btr_log.proofs.HeadLemmas.{length-head_bytes}
 use Rattle.btr_node.specs.Page.{page_bytes, Fits}
 use Rattle.btr_node.specs.declared.page.NodePage.{NodePage}
-use Rattle.btr_pages.specs.Pages.{Pages, IsPageAt}
+use Rattle.btr_tree.specs.PageNodes.{Pages}
+use Rattle.btr_pages.specs.Pages.{IsPageAt}
 use Rattle.btr_pages.proofs.BlockLemmas.{each-places, length-pages}
 use Rattle.btr_pages.proofs.KnownLemmas.{pages-below, pages-from}
 use Rattle.btr_pages.proofs.PagesLemmas.{right-along}

@@ -12,7 +12,8 @@ use Rattle.btr_tree.specs.Leads.{node_to, Leads}
 use Rattle.btr_tree.specs.Nodes.{above_root}
 use Rattle.btr_tree.proofs.LeadsLemmas.{leads-along}
 use Rattle.btr_node.specs.declared.page.NodePage.{NodePage}
-use Rattle.btr_pages.specs.Pages.{Pages, node_of_stream, HasRootPage, MayBeRoot, Stand}
+use Rattle.btr_tree.specs.PageNodes.{Pages, node_of_stream, Stand}
+use Rattle.btr_pages.specs.Pages.{HasRootPage, MayBeRoot}
 use Rattle.btr_pages.proofs.KnownLemmas.{pages-below}
 use Rattle.btr_pages.proofs.ReportedLemmas.{page-in}
 use Rattle.btr_hist.specs.declared.entry.Entry.{Entry}

@@ -9,8 +9,8 @@ use Rattle.btr_base.specs.declared.limits.TheConstants.{FIRST, MAX_POINTS}
 use Rattle.btr_tree.specs.History.{nothing}
 use Rattle.btr_tree.specs.Root.{TreeValue, IsTree}
 use Rattle.btr_tree.specs.Stored.{IsBelow}
-use Rattle.btr_pages.specs.Pages.{nodes_in}
-use Rattle.btr_pages.specs.Known.{NodesValue, ArePartOf}
+use Rattle.btr_tree.specs.PageNodes.{nodes_in}
+use Rattle.btr_pages.specs.Known.{TreesValue, ArePartOf}
 use Rattle.btr_pages.specs.Reported.{AreKept}
 use Rattle.btr_hist.specs.declared.entry.Entry.{Entry}
 use Rattle.btr_hist.specs.History.{ids, commits, latest}
@@ -78,7 +78,7 @@ past-none h stream = ap (with_commits 0 nothing) (take-none (commits h stream))
 
 -- ---- the trees of the streams
 
-module _ (p : Prefix) (bodies : List (List ℕ)) (leads : LeadTo IsRootOf no_extents bodies p) (follows : Follows p.entries) (nodes : NodesValue) (trees : List (List TreeValue)) (counted : length trees ≡ length (roll_of p.entries p.roots)) (are : AreTreesOf nodes (roll_of p.entries p.roots) trees) (part : ArePartOf p.pages nodes) where
+module _ (p : Prefix) (bodies : List (List ℕ)) (leads : LeadTo IsRootOf no_extents bodies p) (follows : Follows p.entries) (nodes : TreesValue) (trees : List (List TreeValue)) (counted : length trees ≡ length (roll_of p.entries p.roots)) (are : AreTreesOf nodes (roll_of p.entries p.roots) trees) (part : ArePartOf p.pages nodes) where
   abbrev h : List Entry
   h = p.entries
 

@@ -14,9 +14,10 @@ use Rattle.btr_log.specs.Extents.{IsBody, need}
 use Rattle.btr_log.proofs.HeadLemmas.{length-head_bytes}
 use Rattle.btr_node.specs.Page.{Spells, Fits, slots_of_page}
 use Rattle.btr_node.specs.declared.page.NodePage.{NodePage}
-use Rattle.btr_pages.specs.Pages.{Pages, with_pages, HasChildPage, IsPageAt, ArePages}
+use Rattle.btr_tree.specs.PageNodes.{Pages}
+use Rattle.btr_pages.specs.Pages.{with_pages, HasChildPage, IsPageAt, ArePages}
 use Rattle.btr_pages.specs.Blocks.{block_of_bytes, AreAmong, AllWereAdded, IsDamagedBlock}
-use Rattle.btr_pages.specs.Known.{NodesValue, AreKnown, ArePartOf, node_at}
+use Rattle.btr_pages.specs.Known.{TreesValue, AreKnown, ArePartOf, node_at}
 use Rattle.btr_pages.proofs.KnownLemmas.{block-at, known-at, pages-below, pages-from}
 use Rattle.btr_pages.proofs.ReportedLemmas.{with-either}
 use Rattle.btr_tree.specs.Root.{TreeValue}
@@ -202,12 +203,12 @@ no-refusal (Some x) none = absurd (false≢true (sym none))
 
 -- The trees are those of all pages that were read. Of each page that the extent needs the tree was made that can be. Other pages stand
 -- rightly below the limit.
-pub record AreRead (image : Image) (limit : ℕ) (bytes : List ℕ) (root : ℕ) (pages : Pages) (nodes : NodesValue) : Type 0 where
+pub record AreRead (image : Image) (limit : ℕ) (bytes : List ℕ) (root : ℕ) (pages : Pages) (nodes : TreesValue) : Type 0 where
   pub known : AreKnown pages nodes
   pub stand : StandBelow image limit pages
   pub fetched : AreFetched image limit bytes root nodes
 
-module _ (image : Image) (limit : ℕ) (bytes : List ℕ) (root : ℕ) (pages : Pages) (nodes : NodesValue) (are : AreRead image limit bytes root pages nodes) (below : Pages) (stand : StandBelow image limit below) where
+module _ (image : Image) (limit : ℕ) (bytes : List ℕ) (root : ℕ) (pages : Pages) (nodes : TreesValue) (are : AreRead image limit bytes root pages nodes) (below : Pages) (stand : StandBelow image limit below) where
   -- A page that the extent needs is one of those that were read, if it stands rightly below the limit.
   pub narrow : (block : ℕ) (page : NodePage) → IsNeeded bytes root block → pages_joined limit below pages block ≡ Some page → pages block ≡ Some page
   narrow block page needed at = elim (cases_lt block limit) [
@@ -313,7 +314,7 @@ module _ (gate first : ℕ) (nodes body : List ℕ) (l : Loader) (head : Head) (
     its-right log at read =
         subst (λ f. MayLeadIn log.pages log.roll e f nodes head.root) (its-first log at read) (subst (λ r. MayLeadIn log.pages r e first nodes head.root) read.rolled_is (right log.pages read.known))
 
-    pub wrong-node : (new : NodesValue) (block : ℕ) → IsDamagedBlock l.nodes new first nodes block → BreaksEntry gate body nodes e head.root l block
+    pub wrong-node : (new : TreesValue) (block : ℕ) → IsDamagedBlock l.nodes new first nodes block → BreaksEntry gate body nodes e head.root l block
     wrong-node new block damaged image limit log at read stand fetched =
         let same = its-first log at read in
         let added = damaged.added in
@@ -348,7 +349,7 @@ module _ (gate first : ℕ) (nodes body : List ℕ) (l : Loader) (head : Head) (
 
     -- ---- an entry whose pages were added
 
-    module _ (mid : NodesValue) (all : AllWereAdded l.nodes mid first nodes) where
+    module _ (mid : TreesValue) (all : AllWereAdded l.nodes mid first nodes) where
       -- The pages of the extent.
       abbrev pages : List NodePage
       pages = all.0

@@ -10,8 +10,9 @@ use Rattle.btr_node.specs.Page.{header, Keeps, slots_of_page}
 use Rattle.btr_node.specs.declared.page.NodePage.{NodePage}
 use Rattle.btr_node.specs.declared.page.NodePage.TheVariants.{Leaf, Inner}
 use Rattle.btr_node.specs.declared.page.PageSlot.{PageSlot}
-use Rattle.btr_pages.specs.Pages.{Pages, IsPageAt, IsChildPage}
-use Rattle.btr_pages.specs.Known.{NodesValue, node_at, ArePartOf, KnowsChildren, TakesPage}
+use Rattle.btr_tree.specs.PageNodes.{Pages, IsChildPage}
+use Rattle.btr_pages.specs.Pages.{IsPageAt}
+use Rattle.btr_pages.specs.Known.{TreesValue, node_at, ArePartOf, KnowsChildren, TakesPage}
 use Rattle.btr_pages.proofs.KnownLemmas.{HasOnly}
 use Rattle.btr_open.specs.declared.below.BlockReader.{BlockReader}
 use Rattle.btr_open.specs.Below.{IsStoredPage, IsWrongChild, BreaksBelow}
@@ -24,7 +25,7 @@ use Rattle.btr_open.proofs.TreesBelow.{some-of, is-some, some-none, grows-none, 
 -- ---- what is known stays so
 
 -- A child that is known stays so.
-knows-still : (limit block : ℕ) (old new : NodesValue) → GrowsBelow limit old new → (o : Option PageSlot) → IfSome o (KnowsChild block old) → IfSome o (KnowsChild block new)
+knows-still : (limit block : ℕ) (old new : TreesValue) → GrowsBelow limit old new → (o : Option PageSlot) → IfSome o (KnowsChild block old) → IfSome o (KnowsChild block new)
 knows-still limit block old new grows None knows = knows
 knows-still limit block old new grows (Some slot) knows = λ some.
     let its = knows some in (its.0, still-found limit old new grows slot.child its.1)
@@ -35,7 +36,7 @@ broken-still image block page done other None some found = absurd (cc)
 broken-still image block page done other (Some named) some found = found
 
 -- A block that has no tree gets none, if only lower ones do.
-none-still : (block : ℕ) (was nodes : NodesValue) → HasNoneFrom block was nodes → IsNone (node_at was block) → IsNone (node_at nodes block)
+none-still : (block : ℕ) (was nodes : TreesValue) → HasNoneFrom block was nodes → IsNone (node_at was block) → IsNone (node_at nodes block)
 none-still block was nodes only fresh =
     elim (node_at nodes block) as (λ o. node_at nodes block ≡ o → IsNone o) [
       | None ↦ λ e. refl
@@ -43,7 +44,7 @@ none-still block was nodes only fresh =
     ] refl
 
 -- All slots are among the first ones.
-knows-all_slots : (block : ℕ) (page : NodePage) (nodes : NodesValue) (n : ℕ) → length (slots_of_page page) ≤ n → ((i : ℕ) → i < n → IfSome (slice_get (slots_of_page page) i) (KnowsChild block nodes)) → (i : ℕ) → IfSome (slice_get (slots_of_page page) i) (KnowsChild block nodes)
+knows-all_slots : (block : ℕ) (page : NodePage) (nodes : TreesValue) (n : ℕ) → length (slots_of_page page) ≤ n → ((i : ℕ) → i < n → IfSome (slice_get (slots_of_page page) i) (KnowsChild block nodes)) → (i : ℕ) → IfSome (slice_get (slots_of_page page) i) (KnowsChild block nodes)
 knows-all_slots block page nodes n all known i =
     ⊎_elim
     (λ less. known i less)
@@ -91,7 +92,7 @@ ok-weaker (Err e) along is = tt
 -- ---- a child that was made
 
 -- No tree was made.
-pub made-nothing : (image : Image) (limit block : ℕ) (page : NodePage) (nodes : NodesValue) (done : Type 0) (o : Option ℕ) → MatchOption o done (BreaksBelow image block page) → MakesBelow image limit block page nodes nodes done o
+pub made-nothing : (image : Image) (limit block : ℕ) (page : NodePage) (nodes : TreesValue) (done : Type 0) (o : Option ℕ) → MatchOption o done (BreaksBelow image block page) → MakesBelow image limit block page nodes nodes done o
 made-nothing image limit block page nodes done o found = record {
   adds = adds-none image limit nodes;
   part = λ pages stand has are. are;
@@ -103,11 +104,11 @@ module _ (image : Image) (limit block i : ℕ) (page : NodePage) (slot : PageSlo
   pub child-wrong : (named : ℕ) → IsWrongChild image block page i slot named → BreaksBelow image block page named
   child-wrong named wrong = ([], (i, slot, there, some, wrong))
 
-  pub made-wrong : (nodes : NodesValue) (done : Type 0) (named : ℕ) → IsWrongChild image block page i slot named → MakesBelow image limit block page nodes nodes done (Some named)
+  pub made-wrong : (nodes : TreesValue) (done : Type 0) (named : ℕ) → IsWrongChild image block page i slot named → MakesBelow image limit block page nodes nodes done (Some named)
   made-wrong nodes done named wrong = made-nothing image limit block page nodes done (Some named) (child-wrong named wrong)
 
   -- If all pages of a set are stored rightly, and the page is among them, its child is too.
-  part-down : (old new : NodesValue) → block < limit → StaysPart image limit slot.child old new → StaysPart image limit block old new
+  part-down : (old new : TreesValue) → block < limit → StaysPart image limit slot.child old new → StaysPart image limit block old new
   part-down old new low down pages stand has are =
       let its = some-of (pages block) has in
       let here = stand-page image limit block pages stand low its.0 its.1 in
@@ -115,7 +116,7 @@ module _ (image : Image) (limit block i : ℕ) (page : NodePage) (slot : PageSlo
       let child = child-at pages block page i slot right there some in
       down pages stand (is-some (pages slot.child) child.child child.is) are
 
-  found-down : (child : NodePage) (nodes : NodesValue) (o : Option ℕ) → slot.child < block → IsStoredPage image slot.child child → IsChildPage page i slot child → MatchOption o (IsSome (node_at nodes slot.child)) (BreaksBelow image slot.child child) → MatchOption o (KnowsChild block nodes slot) (BreaksBelow image block page)
+  found-down : (child : NodePage) (nodes : TreesValue) (o : Option ℕ) → slot.child < block → IsStoredPage image slot.child child → IsChildPage page i slot child → MatchOption o (IsSome (node_at nodes slot.child)) (BreaksBelow image slot.child child) → MatchOption o (KnowsChild block nodes slot) (BreaksBelow image block page)
   found-down child nodes None lower its fits found = λ _. (lower, found)
   found-down child nodes (Some named) lower its fits found = (
     i ∷ found.0,
@@ -135,7 +136,7 @@ module _ (image : Image) (limit block i : ℕ) (page : NodePage) (slot : PageSlo
     ),
   )
 
-  pub made-down : (child : NodePage) (old new : NodesValue) (o : Option ℕ) → block < limit → slot.child < block → IsStoredPage image slot.child child → IsChildPage page i slot child → MakesBelow image limit slot.child child old new (IsSome (node_at new slot.child)) o → MakesBelow image limit block page old new (KnowsChild block new slot) o
+  pub made-down : (child : NodePage) (old new : TreesValue) (o : Option ℕ) → block < limit → slot.child < block → IsStoredPage image slot.child child → IsChildPage page i slot child → MakesBelow image limit slot.child child old new (IsSome (node_at new slot.child)) o → MakesBelow image limit block page old new (KnowsChild block new slot) o
   made-down child old new o low lower its fits made = record {
     adds = made.adds;
     part = part-down old new low made.part;
@@ -174,7 +175,7 @@ module _ {D : Type 0} (disk : Ghosts D) where
   -- ---- the trees of the children of a page
 
   -- The children of the first n slots of a page are known.
-  pub record IsMadeTo (before now : D) (old new : BlockReader) (block : ℕ) (page : NodePage) (was nodes : NodesValue) (n : ℕ) : Type 0 where
+  pub record IsMadeTo (before now : D) (old new : BlockReader) (block : ℕ) (page : NodePage) (was nodes : TreesValue) (n : ℕ) : Type 0 where
     pub read : HasReadBelow disk old new before now
     pub can : CanRead disk new now
     pub only : HasNoneFrom block was nodes
@@ -184,7 +185,7 @@ module _ {D : Type 0} (disk : Ghosts D) where
     pub part : disk.is_observable → StaysPart (disk.contents before) old.limit block was nodes
     pub known : disk.is_observable → (i : ℕ) → i < n → IfSome (slice_get (slots_of_page page) i) (KnowsChild block nodes)
 
-  pub made-none : (d : D) (r : BlockReader) (block : ℕ) (page : NodePage) (nodes : NodesValue) → (disk.is_observable → (c : Image) → disk.images_since d (disk.calls d) c → disk.images_now d c) → CanRead disk r d → (disk.is_observable → IsStoredWith (disk.contents d) r.limit block page nodes) → IsMadeTo d d r r block page nodes nodes 0
+  pub made-none : (d : D) (r : BlockReader) (block : ℕ) (page : NodePage) (nodes : TreesValue) → (disk.is_observable → (c : Image) → disk.images_since d (disk.calls d) c → disk.images_now d c) → CanRead disk r d → (disk.is_observable → IsStoredWith (disk.contents d) r.limit block page nodes) → IsMadeTo d d r r block page nodes nodes 0
   made-none d r block page nodes only_now can device = record {
     read = read-none r d only_now can;
     can = can;
@@ -197,25 +198,25 @@ module _ {D : Type 0} (disk : Ghosts D) where
   }
 
   -- Trees that were made, in terms of the first state.
-  pub grows-in : (d e : D) (r s : BlockReader) (mid new : NodesValue) → HasReadBelow disk r s d e → GrowsBelow s.limit mid new → GrowsBelow r.limit mid new
+  pub grows-in : (d e : D) (r s : BlockReader) (mid new : TreesValue) → HasReadBelow disk r s d e → GrowsBelow s.limit mid new → GrowsBelow r.limit mid new
   grows-in d e r s mid new read grows = subst (λ l. GrowsBelow l mid new) read.limit grows
 
   -- What a slot's child made, in terms of the first state.
-  pub made-in : (d e : D) (r s : BlockReader) (block : ℕ) (page : NodePage) (mid new : NodesValue) (done : Type 0) (o : Option ℕ) → HasReadBelow disk r s d e → disk.is_observable → MakesBelow (disk.contents e) s.limit block page mid new done o → MakesBelow (disk.contents d) r.limit block page mid new done o
+  pub made-in : (d e : D) (r s : BlockReader) (block : ℕ) (page : NodePage) (mid new : TreesValue) (done : Type 0) (o : Option ℕ) → HasReadBelow disk r s d e → disk.is_observable → MakesBelow (disk.contents e) s.limit block page mid new done o → MakesBelow (disk.contents d) r.limit block page mid new done o
   made-in d e r s block page mid new done o read reported made =
       subst (λ l. MakesBelow (disk.contents d) l block page mid new done o) read.limit (subst (λ i. MakesBelow i s.limit block page mid new done o) (same-image d e read.reads reported) made)
 
-  pub device-still : (old new : D) (r s : BlockReader) (block : ℕ) (page : NodePage) (nodes : NodesValue) → HasReadBelow disk r s old new → disk.is_observable → IsStoredWith (disk.contents old) r.limit block page nodes → IsStoredWith (disk.contents new) s.limit block page nodes
+  pub device-still : (old new : D) (r s : BlockReader) (block : ℕ) (page : NodePage) (nodes : TreesValue) → HasReadBelow disk r s old new → disk.is_observable → IsStoredWith (disk.contents old) r.limit block page nodes → IsStoredWith (disk.contents new) s.limit block page nodes
   device-still old new r s block page nodes read reported is =
       subst (λ l. IsStoredWith (disk.contents new) l block page nodes) (sym read.limit) (subst (λ i. IsStoredWith i r.limit block page nodes) (sym (same-image old new read.reads reported)) is)
 
   -- Trees that were made after those of the first slots.
-  pub made-and : (before mid : D) (r m : BlockReader) (block : ℕ) (page : NodePage) (was nodes new : NodesValue) (n : ℕ) → IsMadeTo before mid r m block page was nodes n → GrowsBelow m.limit nodes new → GrowsBelow r.limit was new
+  pub made-and : (before mid : D) (r m : BlockReader) (block : ℕ) (page : NodePage) (was nodes new : TreesValue) (n : ℕ) → IsMadeTo before mid r m block page was nodes n → GrowsBelow m.limit nodes new → GrowsBelow r.limit was new
   made-and before mid r m block page was nodes new n so_far grows =
       grows-on r.limit was nodes new so_far.grows (grows-in before mid r m nodes new so_far.read grows)
 
   -- One child more.
-  pub made-more : (before mid now : D) (r m s : BlockReader) (block : ℕ) (page : NodePage) (slot : PageSlot) (was nodes new : NodesValue) (n : ℕ) → IsMadeTo before mid r m block page was nodes n → HasReadBelow disk m s mid now → HasNoneFrom block nodes new → GrowsBelow m.limit nodes new → (disk.is_observable → MakesBelow (disk.contents mid) m.limit block page nodes new (KnowsChild block new slot) None) → slice_get (slots_of_page page) n ≡ Some slot → IsMadeTo before now r s block page was new (n + 1)
+  pub made-more : (before mid now : D) (r m s : BlockReader) (block : ℕ) (page : NodePage) (slot : PageSlot) (was nodes new : TreesValue) (n : ℕ) → IsMadeTo before mid r m block page was nodes n → HasReadBelow disk m s mid now → HasNoneFrom block nodes new → GrowsBelow m.limit nodes new → (disk.is_observable → MakesBelow (disk.contents mid) m.limit block page nodes new (KnowsChild block new slot) None) → slice_get (slots_of_page page) n ≡ Some slot → IsMadeTo before now r s block page was new (n + 1)
   made-more before mid now r m s block page slot was nodes new n so_far read only grows made there =
       let here = λ (reported : disk.is_observable). made-in before mid r m block page nodes new (KnowsChild block new slot) None so_far.read reported (made reported) in
       record {
@@ -239,7 +240,7 @@ module _ {D : Type 0} (disk : Ghosts D) where
       }
 
   -- A child breaks the format.
-  pub made-broken : (before mid : D) (r m : BlockReader) (block : ℕ) (page : NodePage) (was nodes new : NodesValue) (n : ℕ) (child own : Type 0) (o : Option ℕ) → IsMadeTo before mid r m block page was nodes n → (reported : disk.is_observable) → MakesBelow (disk.contents mid) m.limit block page nodes new child o → IsSome o → MakesBelow (disk.contents before) r.limit block page was new own o
+  pub made-broken : (before mid : D) (r m : BlockReader) (block : ℕ) (page : NodePage) (was nodes new : TreesValue) (n : ℕ) (child own : Type 0) (o : Option ℕ) → IsMadeTo before mid r m block page was nodes n → (reported : disk.is_observable) → MakesBelow (disk.contents mid) m.limit block page nodes new child o → IsSome o → MakesBelow (disk.contents before) r.limit block page was new own o
   made-broken before mid r m block page was nodes new n child own o so_far reported made some =
       let here = made-in before mid r m block page nodes new child o so_far.read reported made in
       record {
@@ -249,11 +250,11 @@ module _ {D : Type 0} (disk : Ghosts D) where
       }
 
   -- The tree of the page was added.
-  pub made-own : (before mid : D) (r m : BlockReader) (block : ℕ) (page : NodePage) (was nodes new : NodesValue) (n : ℕ) → IsMadeTo before mid r m block page was nodes n → IsReadPage block r.limit page → IsNone (node_at was block) → TakesPage nodes new block page → HasOnly nodes new block → GrowsBelow r.limit was new
+  pub made-own : (before mid : D) (r m : BlockReader) (block : ℕ) (page : NodePage) (was nodes new : TreesValue) (n : ℕ) → IsMadeTo before mid r m block page was nodes n → IsReadPage block r.limit page → IsNone (node_at was block) → TakesPage nodes new block page → HasOnly nodes new block → GrowsBelow r.limit was new
   made-own before mid r m block page was nodes new n so_far read fresh takes only =
       grows-on r.limit was nodes new so_far.grows (grows-one r.limit block page nodes new read.below (none-still block was nodes so_far.only fresh) takes only)
 
-  pub made-all : (before mid : D) (r m : BlockReader) (block : ℕ) (page : NodePage) (was nodes new : NodesValue) (n : ℕ) → IsMadeTo before mid r m block page was nodes n → IsReadPage block r.limit page → IsNone (node_at was block) → TakesPage nodes new block page → HasOnly nodes new block → disk.is_observable → MakesBelow (disk.contents before) r.limit block page was new (IsSome (node_at new block)) None
+  pub made-all : (before mid : D) (r m : BlockReader) (block : ℕ) (page : NodePage) (was nodes new : TreesValue) (n : ℕ) → IsMadeTo before mid r m block page was nodes n → IsReadPage block r.limit page → IsNone (node_at was block) → TakesPage nodes new block page → HasOnly nodes new block → disk.is_observable → MakesBelow (disk.contents before) r.limit block page was new (IsSome (node_at new block)) None
   made-all before mid r m block page was nodes new n so_far read fresh takes only reported =
       let image = disk.contents before in
       let none = none-still block was nodes so_far.only fresh in
@@ -266,7 +267,7 @@ module _ {D : Type 0} (disk : Ghosts D) where
       }
 
   -- The page was refused: a child that was known before is not the page of its slot.
-  pub made-refused : (before mid : D) (r m : BlockReader) (block : ℕ) (page : NodePage) (was nodes : NodesValue) (n : ℕ) (own : Type 0) → IsMadeTo before mid r m block page was nodes n → IsReadPage block r.limit page → length (slots_of_page page) ≤ n → ((pages : Pages) → ArePartOf pages nodes → KnowsChildren pages nodes page → IsPageAt pages block page → ⊥) → disk.is_observable → MakesBelow (disk.contents before) r.limit block page was nodes own (Some block)
+  pub made-refused : (before mid : D) (r m : BlockReader) (block : ℕ) (page : NodePage) (was nodes : TreesValue) (n : ℕ) (own : Type 0) → IsMadeTo before mid r m block page was nodes n → IsReadPage block r.limit page → length (slots_of_page page) ≤ n → ((pages : Pages) → ArePartOf pages nodes → KnowsChildren pages nodes page → IsPageAt pages block page → ⊥) → disk.is_observable → MakesBelow (disk.contents before) r.limit block page was nodes own (Some block)
   made-refused before mid r m block page was nodes n own so_far read all refused reported =
       let image = disk.contents before in
       let device = so_far.device reported in

@@ -8,7 +8,8 @@ use Rattle.btr_log.specs.declared.head.Head.{Head}
 use Rattle.btr_log.specs.Extents.{IsBody, need}
 use Rattle.btr_node.specs.Page.{page_bytes}
 use Rattle.btr_node.specs.declared.page.NodePage.{NodePage}
-use Rattle.btr_pages.specs.Pages.{Pages, with_pages, HasChildPage, IsPageAt}
+use Rattle.btr_tree.specs.PageNodes.{Pages}
+use Rattle.btr_pages.specs.Pages.{with_pages, HasChildPage, IsPageAt}
 use Rattle.btr_pages.specs.Known.{AreKnown, ArePartOf}
 use Rattle.btr_pages.proofs.BlockLemmas.{each-places}
 use Rattle.btr_pages.proofs.KnownLemmas.{pages-below}

@@ -27,7 +27,8 @@ use Rattle.btr_node.specs.Page.{header, page_bytes, Keeps, Spells, Fits}
 use Rattle.btr_node.specs.declared.page.NodePage.{NodePage}
 use Rattle.btr_node.specs.declared.page.NodePage.TheVariants.{Leaf, Inner}
 use Rattle.btr_node.proofs.PageLemmas.{page-once}
-use Rattle.btr_pages.specs.Pages.{Pages, with_pages, node_of_page, IsRootPage, IsPageAt, ArePages, MayBeRoot}
+use Rattle.btr_tree.specs.PageNodes.{Pages, node_of_page, IsRootPage}
+use Rattle.btr_pages.specs.Pages.{with_pages, IsPageAt, ArePages, MayBeRoot}
 use Rattle.btr_pages.specs.Blocks.{block_of_bytes}
 use Rattle.btr_pages.proofs.BlockLemmas.{each-places, length-pages}
 use Rattle.btr_pages.proofs.KnownLemmas.{pages-below, pages-from}

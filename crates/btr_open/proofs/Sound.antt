@@ -13,7 +13,8 @@ use Rattle.btr_super.specs.Choose.{IsChosen}
 use Rattle.btr_super.proofs.ChoiceLemmas.{one_chosen, chosen_not_none, chosen_not_damaged}
 use Rattle.btr_node.specs.Page.{page_bytes}
 use Rattle.btr_node.specs.declared.page.NodePage.{NodePage}
-use Rattle.btr_pages.specs.Pages.{Pages, HasRootPage, IsRootPage}
+use Rattle.btr_tree.specs.PageNodes.{Pages, IsRootPage}
+use Rattle.btr_pages.specs.Pages.{HasRootPage}
 use Rattle.btr_hist.specs.declared.entry.Entry.{Entry}
 use Rattle.btr_engine.specs.Body.{MayStandUnder, Prefix, prefix_to, no_extents, first_page, LeadTo}
 use Rattle.btr_engine.specs.Roots.{IsRootOf}

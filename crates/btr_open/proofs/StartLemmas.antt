@@ -10,8 +10,9 @@ use Rattle.btr_super.specs.declared.superblock.Super.{Super}
 use Rattle.btr_super.specs.Super.{IsSuper}
 use Rattle.btr_tree.specs.Root.{TreeValue}
 use Rattle.btr_tree.specs.Slots.{block_of}
-use Rattle.btr_pages.specs.Pages.{Pages, no_pages}
-use Rattle.btr_pages.specs.Known.{NodesValue, AreKnown, ArePartOf, node_at}
+use Rattle.btr_tree.specs.PageNodes.{Pages}
+use Rattle.btr_pages.specs.Pages.{no_pages}
+use Rattle.btr_pages.specs.Known.{TreesValue, AreKnown, ArePartOf, node_at}
 use Rattle.btr_roll.specs.declared.roll.RollVersion.{RollVersion}
 use Rattle.btr_roll.specs.Roll.{RollStreamValue}
 use Rattle.btr_hist.specs.declared.entry.Entry.{Entry}
@@ -131,7 +132,7 @@ read-none size image found l table none of empty least =
 
 -- ---- the streams and the trees
 
-module _ (nodes : NodesValue) (roll : List RollStreamValue) (trees : List (List TreeValue)) (are : AreAllTrees nodes roll trees) where
+module _ (nodes : TreesValue) (roll : List RollStreamValue) (trees : List (List TreeValue)) (are : AreAllTrees nodes roll trees) where
   -- The trees of a stream.
   of-stream : (stream k : ℕ) (v : RollVersion) (at : HasVersionAt roll stream k v) → (ts : List TreeValue) × AreFirstTrees nodes stream at.its.versions ts
   of-stream stream k v at =

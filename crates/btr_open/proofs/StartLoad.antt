@@ -8,8 +8,9 @@ use Rattle.btr_disk.specs.Bytes.{Image}
 use Rattle.btr_super.specs.declared.superblock.Super.{Super}
 use Rattle.btr_node.specs.declared.page.NodePage.{NodePage}
 use Rattle.btr_tree.specs.Root.{TreeValue}
-use Rattle.btr_pages.specs.Pages.{Pages, IsPageAt, IsRootPage, HasRootPage}
-use Rattle.btr_pages.specs.Known.{KnownValue, NodesValue, AreKnown, ArePartOf, IsKnown, node_at}
+use Rattle.btr_tree.specs.PageNodes.{Pages, IsRootPage}
+use Rattle.btr_pages.specs.Pages.{IsPageAt, HasRootPage}
+use Rattle.btr_pages.specs.Known.{KnownValue, TreesValue, AreKnown, ArePartOf, IsKnown, node_at}
 use Rattle.btr_pages.proofs.KnownLemmas.{block-at}
 use Rattle.btr_roll.specs.Roll.{RollStreamValue}
 use Rattle.btr_streams.specs.Board.{HasPast}
@@ -24,7 +25,7 @@ use Rattle.btr_open.proofs.ListLemmas.{each-from, is-there}
 -- ---- trees
 
 -- The trees of a stream are as many as its versions and version 0, and each is that of some past.
-fit-stream : (nodes : NodesValue) (stream : ℕ) (s : RollStreamValue) (ts : List TreeValue) → AreFirstTrees nodes stream s.versions ts → FitTrees s ts
+fit-stream : (nodes : TreesValue) (stream : ℕ) (s : RollStreamValue) (ts : List TreeValue) → AreFirstTrees nodes stream s.versions ts → FitTrees s ts
 fit-stream nodes stream s ts are = record {
   counted = are.counted;
   pasts = each-from HasPast ts go;
@@ -37,7 +38,7 @@ fit-stream nodes stream s ts are = record {
         let one : suc k ≡ k + 1 = omega arith in
         (are.others k v.0 t v.1 (ap (slice_get ts) (sym one) ∙ at)).past
 
-pub all-fit : (nodes : NodesValue) (roll : List RollStreamValue) (trees : List (List TreeValue)) → AreAllTrees nodes roll trees → AllFitTrees roll trees
+pub all-fit : (nodes : TreesValue) (roll : List RollStreamValue) (trees : List (List TreeValue)) → AreAllTrees nodes roll trees → AllFitTrees roll trees
 all-fit nodes roll trees are = record {
   counted = are.counted;
   each = λ stream s ts at there. fit-stream nodes stream s ts (are.each stream s ts at there);
@@ -46,7 +47,7 @@ all-fit nodes roll trees are = record {
 -- ---- pages of known trees
 
 -- The tree of a block was made of the page there.
-pub page-of-known : (pages : Pages) (nodes : NodesValue) (block : ℕ) → ArePartOf pages nodes → IsSome (node_at nodes block) → (page : NodePage) × (pages block ≡ Some page)
+pub page-of-known : (pages : Pages) (nodes : TreesValue) (block : ℕ) → ArePartOf pages nodes → IsSome (node_at nodes block) → (page : NodePage) × (pages block ≡ Some page)
 page-of-known pages nodes block are some = go (node_at nodes block) refl some (are block)
   where
     go : (o : Option KnownValue) → node_at nodes block ≡ o → IsSome o → IfSome o (IsKnown pages) → (page : NodePage) × (pages block ≡ Some page)
@@ -77,7 +78,7 @@ module _ (image : Image) (found : Super) (format : ℕ) (roll : List RollStreamV
         ];
       }
 
-  wrong-root : (nodes : NodesValue) (block : ℕ) → AreRootsFetched image found.checkpoint roots nodes → NamesWrongRoot nodes found.checkpoint format roll block → HasWrongVersionRoot image found format roll block
+  wrong-root : (nodes : TreesValue) (block : ℕ) → AreRootsFetched image found.checkpoint roots nodes → NamesWrongRoot nodes found.checkpoint format roll block → HasWrongVersionRoot image found format roll block
   wrong-root nodes block fetched names =
       let v = names.v in
       record {
@@ -111,7 +112,7 @@ module _ {D : Type 0} (disk : Ghosts D) (found : Super) (format : ℕ) (roll : L
   roots-load Want is = tt
 
   -- The trees of the versions were not made.
-  pub trees-load : (nodes : NodesValue) → (disk.is_observable → AreRootsFetched (disk.contents old) found.checkpoint roots nodes) → (cause : OpenCause) → TreesCause nodes found.checkpoint format roll cause → StartCause disk found format roll old new cause
+  pub trees-load : (nodes : TreesValue) → (disk.is_observable → AreRootsFetched (disk.contents old) found.checkpoint roots nodes) → (cause : OpenCause) → TreesCause nodes found.checkpoint format roll cause → StartCause disk found format roll old new cause
   trees-load nodes fetched NotAStore is = is
   trees-load nodes fetched (Damaged block) is =
       λ reported. wrong-root (disk.contents old) found format roll roots below nodes block (fetched reported) is

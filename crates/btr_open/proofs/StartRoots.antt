@@ -9,8 +9,9 @@ use Rattle.std.proofs.lemmas.Option.{slice_get-get_or, slice_get_within, get_or_
 use Rattle.btr_base.proofs.ListLemmas.{get-append, get_back, get_last}
 use Rattle.btr_disk.specs.declared.disk.Disk.{Ghosts}
 use Rattle.btr_disk.specs.Bytes.{Image}
-use Rattle.btr_pages.specs.Pages.{Pages, no_pages}
-use Rattle.btr_pages.specs.Known.{KnownValue, NodesValue, AreKnown, node_at}
+use Rattle.btr_tree.specs.PageNodes.{Pages}
+use Rattle.btr_pages.specs.Pages.{no_pages}
+use Rattle.btr_pages.specs.Known.{KnownValue, TreesValue, AreKnown, node_at}
 use Rattle.btr_roll.specs.declared.roll.RollVersion.{RollVersion}
 use Rattle.btr_roll.specs.Roll.{RollStreamValue}
 use Rattle.btr_open.specs.declared.below.BlockReader.{BlockReader}
@@ -153,7 +154,7 @@ pub known-none : AreKnown no_pages []
 known-none = record { each = λ block. tt; all = λ block some. absurd (cc) }
 
 -- At first no tree was made.
-pub fetched-none : (image : Image) (limit : ℕ) (nodes : NodesValue) → nodes ≡ [] → AreRootsFetched image limit [] nodes
+pub fetched-none : (image : Image) (limit : ℕ) (nodes : TreesValue) → nodes ≡ [] → AreRootsFetched image limit [] nodes
 fetched-none image limit nodes none =
     subst (AreRootsFetched image limit []) (sym none) (record {
       own = no_pages;
@@ -164,16 +165,16 @@ fetched-none image limit nodes none =
       part = λ pages stand all block. tt;
     })
 
-pub grown-none : (limit : ℕ) (nodes : NodesValue) → nodes ≡ [] → AreOfSome limit nodes
+pub grown-none : (limit : ℕ) (nodes : TreesValue) → nodes ≡ [] → AreOfSome limit nodes
 grown-none limit nodes none = subst (AreOfSome limit) (sym none) (no_pages, known-none, λ block high. refl)
 
-pub grown-more : (limit : ℕ) (old new : NodesValue) → AreOfSome limit old → GrowsBelow limit old new → AreOfSome limit new
+pub grown-more : (limit : ℕ) (old new : TreesValue) → AreOfSome limit old → GrowsBelow limit old new → AreOfSome limit new
 grown-more limit old new so_far grows =
     let more = grows.known so_far.0 so_far.1 in
     (more.0, more.2, λ block high. subst IsNone (sym (more.1.same block high)) (so_far.2 block high))
 
 -- A tree that is kept is there.
-some-kept : (old new : NodesValue) (block : ℕ) → IfSome (node_at old block) (λ known. node_at new block ≡ Some known) → IsSome (node_at old block) → IsSome (node_at new block)
+some-kept : (old new : TreesValue) (block : ℕ) → IfSome (node_at old block) (λ known. node_at new block ≡ Some known) → IsSome (node_at old block) → IsSome (node_at new block)
 some-kept old new block kept some = go (node_at old block) kept some
   where
     go : (o : Option KnownValue) → IfSome o (λ known. node_at new block ≡ Some known) → IsSome o → IsSome (node_at new block)
@@ -181,7 +182,7 @@ some-kept old new block kept some = go (node_at old block) kept some
     go (Some k) kept some = subst IsSome (sym kept) refl
 
 -- One root more.
-pub fetched-more : (image : Image) (limit : ℕ) (roots : List ℕ) (root : ℕ) (old new : NodesValue) → AreRootsFetched image limit roots old → AddsBelow image limit old new → StaysPart image limit root old new → IsSome (node_at new root) → AreRootsFetched image limit (roots ++ root ∷ []) new
+pub fetched-more : (image : Image) (limit : ℕ) (roots : List ℕ) (root : ℕ) (old new : TreesValue) → AreRootsFetched image limit roots old → AddsBelow image limit old new → StaysPart image limit root old new → IsSome (node_at new root) → AreRootsFetched image limit (roots ++ root ∷ []) new
 fetched-more image limit roots root old new so_far adds part there =
     let more = adds.grows.known so_far.own so_far.known in
     record {
@@ -208,14 +209,14 @@ fetched-more image limit roots root old new so_far adds part there =
 
 module _ {D : Type 0} (disk : Ghosts D) where
   -- The trees of these roots were made so far.
-  pub record IsFetchedSo (old now : D) (limit : ℕ) (reader : BlockReader) (roots : List ℕ) (nodes : NodesValue) : Type 0 where
+  pub record IsFetchedSo (old now : D) (limit : ℕ) (reader : BlockReader) (roots : List ℕ) (nodes : TreesValue) : Type 0 where
     pub limit_is : reader.limit ≡ limit
     pub reads : OnlyReads disk old now
     pub holds : disk.is_observable → IsReaderOf (disk.contents now) reader
     pub grown : AreOfSome limit nodes
     pub fetched : disk.is_observable → AreRootsFetched (disk.contents old) limit roots nodes
 
-  module _ (old mid : D) (limit : ℕ) (reader : BlockReader) (roots : List ℕ) (nodes : NodesValue) (so_far : IsFetchedSo old mid limit reader roots nodes) where
+  module _ (old mid : D) (limit : ℕ) (reader : BlockReader) (roots : List ℕ) (nodes : TreesValue) (so_far : IsFetchedSo old mid limit reader roots nodes) where
     -- The trees so far are those of pages that stand rightly.
     pub own-so : disk.is_observable → (own : Pages) × StandBelow (disk.contents mid) reader.limit own × AreKnown own nodes
     own-so reported =
@@ -224,7 +225,7 @@ module _ {D : Type 0} (disk : Ghosts D) where
         (f.own, subst (λ n. StandBelow (disk.contents mid) n f.own) (sym so_far.limit_is) stand, f.known)
 
     -- One more was made.
-    pub fetched-on : (new : D) (root : ℕ) (after : BlockReader) (more : NodesValue) → HasReadBelow disk reader after mid new → GrowsBelow reader.limit nodes more → (disk.is_observable → FetchesPage (disk.contents mid) reader.limit root nodes more Known) → IsFetchedSo old new limit after (roots ++ root ∷ []) more
+    pub fetched-on : (new : D) (root : ℕ) (after : BlockReader) (more : TreesValue) → HasReadBelow disk reader after mid new → GrowsBelow reader.limit nodes more → (disk.is_observable → FetchesPage (disk.contents mid) reader.limit root nodes more Known) → IsFetchedSo old new limit after (roots ++ root ∷ []) more
     fetched-on new root after more read grows fetches = record {
       limit_is = read.limit ∙ so_far.limit_is;
       reads = OnlyReads-trans old mid new so_far.reads read.reads;

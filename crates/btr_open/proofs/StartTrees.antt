@@ -6,8 +6,9 @@ use Rattle.std.proofs.lemmas.Option.{slice_get_within}
 use Rattle.btr_tree.specs.History.{Opened}
 use Rattle.btr_tree.specs.Root.{TreeValue}
 use Rattle.btr_tree.proofs.RootLemmas.{opened-whole}
-use Rattle.btr_pages.specs.Pages.{Pages, HasRootPage}
-use Rattle.btr_pages.specs.Known.{KnownValue, NodesValue, ArePartOf, HasWholeTree, IsReadRoot, node_at}
+use Rattle.btr_tree.specs.PageNodes.{Pages}
+use Rattle.btr_pages.specs.Pages.{HasRootPage}
+use Rattle.btr_pages.specs.Known.{KnownValue, TreesValue, ArePartOf, HasWholeTree, IsReadRoot, node_at}
 use Rattle.btr_roll.specs.declared.roll.RollVersion.{RollVersion}
 use Rattle.btr_roll.specs.Roll.{RollStreamValue}
 use Rattle.btr_streams.specs.Board.{HasPast}
@@ -20,7 +21,7 @@ use Rattle.btr_open.proofs.ListLemmas.{push-at, is-there, take-on}
 -- ---- one tree
 
 -- The tree that was made of the page of a root.
-pub whole-root : (nodes : NodesValue) (root : ℕ) (t : TreeValue) → 0 < root → HasWholeTree nodes root → IfSome (node_at nodes root) (λ known. t ≡ known.tree) → ((pages : Pages) (stream version : ℕ) → ArePartOf pages nodes → IsSome (node_at nodes root) → HasRootPage pages stream version root → IsReadRoot pages stream version root t) → IsVersionTree nodes root t
+pub whole-root : (nodes : TreesValue) (root : ℕ) (t : TreeValue) → 0 < root → HasWholeTree nodes root → IfSome (node_at nodes root) (λ known. t ≡ known.tree) → ((pages : Pages) (stream version : ℕ) → ArePartOf pages nodes → IsSome (node_at nodes root) → HasRootPage pages stream version root → IsReadRoot pages stream version root t) → IsVersionTree nodes root t
 whole-root nodes root t some whole same part =
     let is : t ≡ whole.known.tree = subst (λ o. IfSome o (λ (known : KnownValue). t ≡ known.tree)) whole.is same in
     let opened = whole.opened in
@@ -35,7 +36,7 @@ whole-root nodes root t some whole same part =
 
 -- ---- the trees of a stream
 
-module _ (nodes : NodesValue) (stream : ℕ) (vs : List RollVersion) (trees : List TreeValue) (so_far : AreFirstTrees nodes stream vs trees) (v : RollVersion) (t : TreeValue) (is : IsVersionTree nodes v.root t) (may : MayBeRootOf nodes stream (length vs + 1) v.root) where
+module _ (nodes : TreesValue) (stream : ℕ) (vs : List RollVersion) (trees : List TreeValue) (so_far : AreFirstTrees nodes stream vs trees) (v : RollVersion) (t : TreeValue) (is : IsVersionTree nodes v.root t) (may : MayBeRootOf nodes stream (length vs + 1) v.root) where
   pub first-trees-more : AreFirstTrees nodes stream (vs ++ v ∷ []) (trees ++ t ∷ [])
   first-trees-more = record {
     counted = omega (arith, so_far.counted, length-append vs (v ∷ []), length-append trees (t ∷ []));
@@ -68,7 +69,7 @@ module _ (nodes : NodesValue) (stream : ℕ) (vs : List RollVersion) (trees : Li
 
 -- ---- the trees of all streams
 
-pub all-trees-more : (nodes : NodesValue) (roll : List RollStreamValue) (trees : List (List TreeValue)) (s : RollStreamValue) (ts : List TreeValue) → AreAllTrees nodes roll trees → AreFirstTrees nodes (length roll) s.versions ts → AreAllTrees nodes (roll ++ s ∷ []) (trees ++ ts ∷ [])
+pub all-trees-more : (nodes : TreesValue) (roll : List RollStreamValue) (trees : List (List TreeValue)) (s : RollStreamValue) (ts : List TreeValue) → AreAllTrees nodes roll trees → AreFirstTrees nodes (length roll) s.versions ts → AreAllTrees nodes (roll ++ s ∷ []) (trees ++ ts ∷ [])
 all-trees-more nodes roll trees s ts so_far is = record {
   counted = omega (arith, so_far.counted, length-append roll (s ∷ []), length-append trees (ts ∷ []));
   each = λ stream r us at there.
@@ -93,7 +94,7 @@ all-trees-more nodes roll trees s ts so_far is = record {
 -- ---- the damage
 
 -- A version with a wrong root is named.
-pub names-wrong : (nodes : NodesValue) (limit format : ℕ) (streams : List RollStreamValue) (number k : ℕ) (s : RollStreamValue) (v : RollVersion) (cause : OpenCause) → slice_get streams number ≡ Some s → slice_get s.versions k ≡ Some v → IsWrongRootOf nodes limit number (k + 1) v.root → cause ≡ Damaged (limit + 1 + (64 + place_of_root format streams number s k) / 4096) → TreesCause nodes limit format streams cause
+pub names-wrong : (nodes : TreesValue) (limit format : ℕ) (streams : List RollStreamValue) (number k : ℕ) (s : RollStreamValue) (v : RollVersion) (cause : OpenCause) → slice_get streams number ≡ Some s → slice_get s.versions k ≡ Some v → IsWrongRootOf nodes limit number (k + 1) v.root → cause ≡ Damaged (limit + 1 + (64 + place_of_root format streams number s k) / 4096) → TreesCause nodes limit format streams cause
 names-wrong nodes limit format streams number k s v cause there at wrong is =
     subst (TreesCause nodes limit format streams) (sym is) (record {
       stream = number;
@@ -105,7 +106,7 @@ names-wrong nodes limit format streams number k s v cause there at wrong is =
     })
 
 -- The trees of one stream more.
-pub trees-on : (nodes : NodesValue) (streams : List RollStreamValue) (number : ℕ) (trees after : List (List TreeValue)) (ts : List TreeValue) → AreAllTrees nodes (take number streams) trees → number < length streams → ((s : RollStreamValue) → slice_get streams number ≡ Some s → AreFirstTrees nodes number s.versions ts) → after ≡ trees ++ ts ∷ [] → AreAllTrees nodes (take (number + 1) streams) after
+pub trees-on : (nodes : TreesValue) (streams : List RollStreamValue) (number : ℕ) (trees after : List (List TreeValue)) (ts : List TreeValue) → AreAllTrees nodes (take number streams) trees → number < length streams → ((s : RollStreamValue) → slice_get streams number ≡ Some s → AreFirstTrees nodes number s.versions ts) → after ≡ trees ++ ts ∷ [] → AreAllTrees nodes (take (number + 1) streams) after
 trees-on nodes streams number trees after ts so_far low its is =
     let s = is-there streams number low in
     let size : number ≡ length (take number streams) = sym (length-take-le number streams (omega (arith, low))) in

@@ -27,8 +27,9 @@ use Rattle.btr_tree.proofs.LeadsLemmas.{read-stored}
 use Rattle.btr_tree.proofs.ReadLemmas.{opened-is_tree, read-along}
 use Rattle.btr_tree.proofs.RootLemmas.{root-points, opened-whole}
 use Rattle.btr_node.specs.declared.page.NodePage.{NodePage}
-use Rattle.btr_pages.specs.Pages.{Pages, with_pages, node_of_stream, nodes_in, HasRootPage, MayBeRoot, Stand}
-use Rattle.btr_pages.specs.Known.{NodesValue, AreKnown, ArePartOf, IsKnown, IsReadRoot, node_at}
+use Rattle.btr_tree.specs.PageNodes.{Pages, node_of_stream, nodes_in, Stand}
+use Rattle.btr_pages.specs.Pages.{with_pages, HasRootPage, MayBeRoot}
+use Rattle.btr_pages.specs.Known.{TreesValue, AreKnown, ArePartOf, IsKnown, IsReadRoot, node_at}
 use Rattle.btr_pages.proofs.KnownLemmas.{known-at}
 use Rattle.btr_pages.proofs.BlockLemmas.{each-places}
 use Rattle.btr_pages.proofs.ReportedLemmas.{with-either}
@@ -87,7 +88,7 @@ abbrev pub HeldBy : Pages → ℕ → ℕ → ℕ → TreeValue → Type 0
 HeldBy known stream version root t = ((root ≡ 0) × IsTree nothing t) ⊎ IsReadRoot known stream version root t
 
 -- The tree of a root that is 0 or that of a version, whose page's tree was made.
-pub held : (known : Pages) (nodes : NodesValue) (stream version root : ℕ) (t : TreeValue) → ArePartOf known nodes → (0 < root → IsSome (node_at nodes root)) → (root ≡ 0) ⊎ HasRootPage known stream version root → IsTreeOfRoot nodes root t → HeldBy known stream version root t
+pub held : (known : Pages) (nodes : TreesValue) (stream version root : ℕ) (t : TreeValue) → ArePartOf known nodes → (0 < root → IsSome (node_at nodes root)) → (root ≡ 0) ⊎ HasRootPage known stream version root → IsTreeOfRoot nodes root t → HeldBy known stream version root t
 held known nodes stream version root t part made may of =
     let low : 0 ≤ root = omega arith in
     elim (eq-or-lt_of_le low) [
@@ -99,7 +100,7 @@ held known nodes stream version root t part made may of =
     ]
 
 -- The tree of a root that may be that of a version.
-held-may : (known : Pages) (nodes : NodesValue) (stream version root : ℕ) (some : Bool) (t : TreeValue) → ArePartOf known nodes → (0 < root → IsSome (node_at nodes root)) → MayBeRoot known stream version some root → IsTreeOfRoot nodes root t → HeldBy known stream version root t
+held-may : (known : Pages) (nodes : TreesValue) (stream version root : ℕ) (some : Bool) (t : TreeValue) → ArePartOf known nodes → (0 < root → IsSome (node_at nodes root)) → MayBeRoot known stream version some root → IsTreeOfRoot nodes root t → HeldBy known stream version root t
 held-may known nodes stream version root some t part made may of =
     held known nodes stream version root t part made (elim may [ inl none ↦ inl none.0 | inr page ↦ inr page ]) of
 
@@ -172,7 +173,7 @@ next-past h e stream c makes =
     ∙ ap (with_commits 0 nothing) (sym (commits-push h e stream (Some c) makes))
     ∙ sym (commits-all (h ++ e ∷ []) stream)
 
-module _ (before : List Entry) (known : Pages) (nodes : NodesValue) (e : Entry) (stream : ℕ) (c : Change) (some : Bool) (root : ℕ) (t : TreeValue) (makes : change_of stream e ≡ Some c) (are : ArePartOf known nodes) (made : 0 < root → IsSome (node_at nodes root)) (may : MayBeRoot known stream (latest before stream + 1) some root) (of : IsTreeOfRoot nodes root t) (leads : LeadsToLatest known (before ++ e ∷ []) stream root) where
+module _ (before : List Entry) (known : Pages) (nodes : TreesValue) (e : Entry) (stream : ℕ) (c : Change) (some : Bool) (root : ℕ) (t : TreeValue) (makes : change_of stream e ≡ Some c) (are : ArePartOf known nodes) (made : 0 < root → IsSome (node_at nodes root)) (may : MayBeRoot known stream (latest before stream + 1) some root) (of : IsTreeOfRoot nodes root t) (leads : LeadsToLatest known (before ++ e ∷ []) stream root) where
   abbrev all : List Entry
   all = before ++ e ∷ []
 
@@ -194,19 +195,19 @@ module _ (before : List Entry) (known : Pages) (nodes : NodesValue) (e : Entry) 
   version-below later low = held-below known stream (latest before stream + 1) root past t leads later by low
 
 -- The tree of the page of a root was made.
-page-made : (known : Pages) (nodes : NodesValue) (stream version root : ℕ) (some : Bool) → AreKnown known nodes → MayBeRoot known stream version some root → 0 < root → IsSome (node_at nodes root)
+page-made : (known : Pages) (nodes : TreesValue) (stream version root : ℕ) (some : Bool) → AreKnown known nodes → MayBeRoot known stream version some root → 0 < root → IsSome (node_at nodes root)
 page-made known nodes stream version root some are (inl none) above = let zero_root = none.0 in absurd (omega arith)
 page-made known nodes stream version root some are (inr has) above = are.all root (subst IsSome (sym has.is) refl)
 
 -- ---- an entry
 
 -- The trees are those of some of these pages, and that of the root was made, if there is a root.
-pub record HasMade (known : Pages) (nodes : NodesValue) (root : ℕ) : Type 0 where
+pub record HasMade (known : Pages) (nodes : TreesValue) (root : ℕ) : Type 0 where
   pub part : ArePartOf known nodes
   pub made : 0 < root → IsSome (node_at nodes root)
 
 -- The tree of a root is that of the version that the entry makes.
-pub tree-after : (before : List Entry) (known : Pages) (nodes : NodesValue) (e : Entry) (root : ℕ) (pages : List NodePage) (t : TreeValue) → HasMade known nodes root → IsTreeOfRoot nodes root t → Follows (before ++ e ∷ []) → IsRootOf known before e root pages → IsTreeAfter before e t
+pub tree-after : (before : List Entry) (known : Pages) (nodes : TreesValue) (e : Entry) (root : ℕ) (pages : List NodePage) (t : TreeValue) → HasMade known nodes root → IsTreeOfRoot nodes root t → Follows (before ++ e ∷ []) → IsRootOf known before e root pages → IsTreeAfter before e t
 tree-after before known nodes (Create id) root pages t has of follows leads = tt
 tree-after before known nodes (Define id spec) root pages t has of follows leads = tt
 tree-after before known nodes (Retire stream first) root pages t has of follows leads = tt
@@ -216,7 +217,7 @@ tree-after before known nodes (Distillate stream cut added reads) root pages t h
     version-tree before known nodes (Distillate stream cut added reads) stream (change cut added) (adds added) root t (its-change stream (change cut added)) has.part has.made (root-may known before (Distillate stream cut added reads) root pages follows leads) of leads follows
 
 -- It is stored in the pages, below each block that is above the root.
-pub tree-stored : (before : List Entry) (known : Pages) (nodes : NodesValue) (e : Entry) (root later : ℕ) (pages : List NodePage) (t : TreeValue) → HasMade known nodes root → IsTreeOfRoot nodes root t → Follows (before ++ e ∷ []) → IsRootOf known before e root pages → root < later → IsTreeStored known later e t
+pub tree-stored : (before : List Entry) (known : Pages) (nodes : TreesValue) (e : Entry) (root later : ℕ) (pages : List NodePage) (t : TreeValue) → HasMade known nodes root → IsTreeOfRoot nodes root t → Follows (before ++ e ∷ []) → IsRootOf known before e root pages → root < later → IsTreeStored known later e t
 tree-stored before known nodes (Create id) root later pages t has of follows leads low = tt
 tree-stored before known nodes (Define id spec) root later pages t has of follows leads low = tt
 tree-stored before known nodes (Retire stream first) root later pages t has of follows leads low = tt
@@ -226,7 +227,7 @@ tree-stored before known nodes (Distillate stream cut added reads) root later pa
     version-below before known nodes (Distillate stream cut added reads) stream (change cut added) (adds added) root t (its-change stream (change cut added)) has.part has.made (root-may known before (Distillate stream cut added reads) root pages follows leads) of leads later low
 
 -- If the trees are those of all pages, and the root may be the entry's, the tree of the root was made.
-pub root-made : (known : Pages) (nodes : NodesValue) (roll : List RollStreamValue) (e : Entry) (root : ℕ) → AreKnown known nodes → MayLead known roll e root → 0 < root → IsSome (node_at nodes root)
+pub root-made : (known : Pages) (nodes : TreesValue) (roll : List RollStreamValue) (e : Entry) (root : ℕ) → AreKnown known nodes → MayLead known roll e root → 0 < root → IsSome (node_at nodes root)
 root-made known nodes roll (Create id) root are may above = let none : root ≡ 0 = may in absurd (omega arith)
 root-made known nodes roll (Define id spec) root are may above = let none : root ≡ 0 = may in absurd (omega arith)
 root-made known nodes roll (Retire stream first) root are may above = let none : root ≡ 0 = may in absurd (omega arith)
@@ -235,7 +236,7 @@ root-made known nodes roll (Distillate stream cut added reads) root are may abov
     page-made known nodes stream (next_version roll stream) root (adds added) are may above
 
 -- The tree of a root that may be the entry's is that of some past.
-pub has-past : (known : Pages) (nodes : NodesValue) (roll : List RollStreamValue) (e : Entry) (root : ℕ) (t : TreeValue) → AreKnown known nodes → MayLead known roll e root → IsTreeOfRoot nodes root t → HasPast t
+pub has-past : (known : Pages) (nodes : TreesValue) (roll : List RollStreamValue) (e : Entry) (root : ℕ) (t : TreeValue) → AreKnown known nodes → MayLead known roll e root → IsTreeOfRoot nodes root t → HasPast t
 has-past known nodes roll (Create id) root t are may of = (nothing, of.empty may)
 has-past known nodes roll (Define id spec) root t are may of = (nothing, of.empty may)
 has-past known nodes roll (Retire stream first) root t are may of = (nothing, of.empty may)
@@ -247,7 +248,7 @@ has-past known nodes roll (Distillate stream cut added reads) root t are may of 
     held-past known stream version root t (held-may known nodes stream version root (adds added) t are.each (page-made known nodes stream version root (adds added) are may) may of)
 
 -- What is staged with the tree of an entry's root has this root.
-pub staged-root : (known : Pages) (nodes : NodesValue) (roll : List RollStreamValue) (e : Entry) (root : ℕ) (b : Kept) (t : TreeValue) (s : Staged) → AreKnown known nodes → MayLead known roll e root → IsTreeOfRoot nodes root t → ReadsEntry b e t s → root ≡ s.root
+pub staged-root : (known : Pages) (nodes : TreesValue) (roll : List RollStreamValue) (e : Entry) (root : ℕ) (b : Kept) (t : TreeValue) (s : Staged) → AreKnown known nodes → MayLead known roll e root → IsTreeOfRoot nodes root t → ReadsEntry b e t s → root ≡ s.root
 staged-root known nodes roll (Create id) root b t s are may of reads = may ∙ sym reads.no_root
 staged-root known nodes roll (Define id spec) root b t s are may of reads = may ∙ sym reads.no_root
 staged-root known nodes roll (Retire stream first) root b t s are may of reads = may ∙ sym reads.no_root
@@ -284,7 +285,7 @@ root-low known first later new before (Distillate stream cut added reads) root b
     page-low known first later new stream (latest before stream + 1) root (adds added) behind least may
 
 -- The board with the entry is that of the entries, and its trees are stored.
-module _ (before : Prefix) (board : Kept) (nodes : NodesValue) (e : Entry) (root : ℕ) (pages : List NodePage) (body : List ℕ) (t : TreeValue) (s : Staged) (is : IsBodyOf before e root pages body) (has : HasMade (pages_after before e pages) nodes root) (of : IsTreeOfRoot nodes root t) (follows : Follows (before.entries ++ e ∷ [])) (leads : IsRootOf (pages_after before e pages) before.entries e root pages) where
+module _ (before : Prefix) (board : Kept) (nodes : TreesValue) (e : Entry) (root : ℕ) (pages : List NodePage) (body : List ℕ) (t : TreeValue) (s : Staged) (is : IsBodyOf before e root pages body) (has : HasMade (pages_after before e pages) nodes root) (of : IsTreeOfRoot nodes root t) (follows : Follows (before.entries ++ e ∷ [])) (leads : IsRootOf (pages_after before e pages) before.entries e root pages) where
   pub board-of : (rejection before.entries e ≡ None → IsTreeAfter before.entries e t → IsBoardOf (before.entries ++ e ∷ []) s.next) → IsBoardOf (before.entries ++ e ∷ []) s.next
   board-of staged =
       staged (follows-last before.entries e follows) (tree-after before.entries (pages_after before e pages) nodes e root pages t has of follows leads)
@@ -311,7 +312,7 @@ nodes-wider pages wider more s b n at =
     ] refl at
 
 -- Trees of some of these pages are trees of some of wider ones.
-pub part-wider : (pages wider : Pages) (nodes : NodesValue) → ((block : ℕ) (page : NodePage) → pages block ≡ Some page → wider block ≡ Some page) → ArePartOf pages nodes → ArePartOf wider nodes
+pub part-wider : (pages wider : Pages) (nodes : TreesValue) → ((block : ℕ) (page : NodePage) → pages block ≡ Some page → wider block ≡ Some page) → ArePartOf pages nodes → ArePartOf wider nodes
 part-wider pages wider nodes more are c =
     elim (node_at nodes c) as (λ o. node_at nodes c ≡ o → IfSome o (IsKnown wider)) [
       | None ↦ λ e. tt

@@ -10,8 +10,9 @@ use Rattle.btr_base.specs.Span.{SpanValue, slot_of}
 use Rattle.btr_node.specs.Page.{header, slots_of_page, span_of_page}
 use Rattle.btr_node.specs.declared.page.NodePage.{NodePage}
 use Rattle.btr_node.specs.declared.page.PageSlot.{PageSlot}
-use Rattle.btr_pages.specs.Pages.{Pages, IsPageAt, IsChildPage, HasChildPage}
-use Rattle.btr_pages.specs.Known.{NodesValue, node_at, AreKnown, ArePartOf, KnowsChildren, TakesPage}
+use Rattle.btr_tree.specs.PageNodes.{Pages, IsChildPage}
+use Rattle.btr_pages.specs.Pages.{IsPageAt, HasChildPage}
+use Rattle.btr_pages.specs.Known.{TreesValue, node_at, AreKnown, ArePartOf, KnowsChildren, TakesPage}
 use Rattle.btr_pages.proofs.KnownLemmas.{block-at, known-at, knows-all, HasOnly}
 use Rattle.btr_open.specs.Below.{IsStoredPage, StandBelow, IsWrongChild, BreaksBelow}
 use Rattle.btr_open.specs.Loading.{GrowsBelow, AddsBelow, StaysPart, AreOfDevice, KnowsChild}
@@ -48,7 +49,7 @@ with-other pages block page k ne =
     let no : nat_eq k block ≡ false = grind (arith, nat_tests) in
     ap (λ t. cond t (Some page) (pages k)) no
 
-module _ (pages : Pages) (nodes : NodesValue) (block : ℕ) (page : NodePage) (are : AreKnown pages nodes) (fresh : IsNone (node_at nodes block)) where
+module _ (pages : Pages) (nodes : TreesValue) (block : ℕ) (page : NodePage) (are : AreKnown pages nodes) (fresh : IsNone (node_at nodes block)) where
   -- The block had no page.
   no-page : (q : NodePage) → pages block ≡ Some q → ⊥
   no-page q at = some-none (node_at nodes block) (are.all block (is-some (pages block) q at)) fresh
@@ -66,7 +67,7 @@ module _ (pages : Pages) (nodes : NodesValue) (block : ℕ) (page : NodePage) (a
 
 -- ---- one tree more
 
-module _ (limit block : ℕ) (page : NodePage) (old new : NodesValue) (low : block < limit) (fresh : IsNone (node_at old block)) (takes : TakesPage old new block page) (only : HasOnly old new block) where
+module _ (limit block : ℕ) (page : NodePage) (old new : TreesValue) (low : block < limit) (fresh : IsNone (node_at old block)) (takes : TakesPage old new block page) (only : HasOnly old new block) where
   all-more : (pages : Pages) → AreKnown pages old → (b : ℕ) → IsSome (with-page pages block page b) → IsSome (node_at new b)
   all-more pages are b has =
       ⊎_elim
@@ -102,7 +103,7 @@ module _ (limit block : ℕ) (page : NodePage) (old new : NodesValue) (low : blo
     );
   }
 
-module _ (image : Image) (limit block : ℕ) (page : NodePage) (old new : NodesValue) (some : 1 ≤ block) (low : block < limit) (stored : IsStoredPage image block page) (fresh : IsNone (node_at old block)) (takes : TakesPage old new block page) (only : HasOnly old new block) where
+module _ (image : Image) (limit block : ℕ) (page : NodePage) (old new : TreesValue) (some : 1 ≤ block) (low : block < limit) (stored : IsStoredPage image block page) (fresh : IsNone (node_at old block)) (takes : TakesPage old new block page) (only : HasOnly old new block) where
   stand-more_at : (pages : Pages) → AreKnown pages old → (b : ℕ) → (b ≡ block → ⊥) → (o : Option NodePage) → IfSome o (λ p. (1 ≤ b) × IsStoredPage image b p × IsPageAt pages b p) → IfSome o (λ p. (1 ≤ b) × IsStoredPage image b p × IsPageAt (with-page pages block page) b p)
   stand-more_at pages are b ne None has = has
   stand-more_at pages are b ne (Some p) has = (has.0, has.1, right-stays pages old block page are fresh b p has.2)
@@ -133,7 +134,7 @@ module _ (image : Image) (limit block : ℕ) (page : NodePage) (old new : NodesV
 
 -- ---- no tree more, and one run of trees after another
 
-pub grows-none : (limit : ℕ) (nodes : NodesValue) → GrowsBelow limit nodes nodes
+pub grows-none : (limit : ℕ) (nodes : TreesValue) → GrowsBelow limit nodes nodes
 grows-none limit nodes = record {
   kept = λ b. elim (node_at nodes b) as (λ o. IfSome o (λ known. o ≡ Some known)) [ None ↦ tt | Some k ↦ refl ];
   only = λ b has. inl has;
@@ -147,12 +148,12 @@ grows-none limit nodes = record {
   );
 }
 
-pub adds-none : (image : Image) (limit : ℕ) (nodes : NodesValue) → AddsBelow image limit nodes nodes
+pub adds-none : (image : Image) (limit : ℕ) (nodes : TreesValue) → AddsBelow image limit nodes nodes
 unfolding grows-none
 adds-none image limit nodes = record { grows = grows-none limit nodes; stands = λ pages are stand. stand }
 
 -- What was found is found with more.
-pub still-found : (limit : ℕ) (old new : NodesValue) → GrowsBelow limit old new → (b : ℕ) → IsSome (node_at old b) → IsSome (node_at new b)
+pub still-found : (limit : ℕ) (old new : TreesValue) → GrowsBelow limit old new → (b : ℕ) → IsSome (node_at old b) → IsSome (node_at new b)
 still-found limit old new grows b has =
     let its = some-of (node_at old b) has in
     is-some (node_at new b) its.0 (subst (λ o. IfSome o (λ known. node_at new b ≡ Some known)) its.1 (grows.kept b))
@@ -161,7 +162,7 @@ kept-on : {A : Type 0} (old mid new : Option A) → IfSome old (λ x. mid ≡ So
 kept-on None mid new first second = first
 kept-on (Some x) mid new first second = subst (λ o. IfSome o (λ y. new ≡ Some y)) first second
 
-pub grows-on : (limit : ℕ) (old mid new : NodesValue) → GrowsBelow limit old mid → GrowsBelow limit mid new → GrowsBelow limit old new
+pub grows-on : (limit : ℕ) (old mid new : TreesValue) → GrowsBelow limit old mid → GrowsBelow limit mid new → GrowsBelow limit old new
 grows-on limit old mid new first second = record {
   kept = λ b. kept-on (node_at old b) (node_at mid b) (node_at new b) (first.kept b) (second.kept b);
   only = λ b has. ⊎_elim (λ was. first.only b was) (λ low. inr low) (second.only b has);
@@ -177,7 +178,7 @@ grows-on limit old mid new first second = record {
       );
 }
 
-pub adds-on : (image : Image) (limit : ℕ) (old mid new : NodesValue) → AddsBelow image limit old mid → AddsBelow image limit mid new → AddsBelow image limit old new
+pub adds-on : (image : Image) (limit : ℕ) (old mid new : TreesValue) → AddsBelow image limit old mid → AddsBelow image limit mid new → AddsBelow image limit old new
 unfolding grows-on
 adds-on image limit old mid new first second = record {
   grows = grows-on limit old mid new first.grows second.grows;
@@ -186,7 +187,7 @@ adds-on image limit old mid new first second = record {
       second.stands wide.0 wide.2 (first.stands pages are stand);
 }
 
-pub device-on : (image : Image) (limit : ℕ) (old new : NodesValue) → AddsBelow image limit old new → AreOfDevice image limit old → AreOfDevice image limit new
+pub device-on : (image : Image) (limit : ℕ) (old new : TreesValue) → AddsBelow image limit old new → AreOfDevice image limit old → AreOfDevice image limit new
 device-on image limit old new adds own =
     let wider = adds.grows.known own.0 own.2 in
     (wider.0, adds.stands own.0 own.2 own.1, wider.2)
@@ -242,7 +243,7 @@ abbrev HasWrong : Image → ℕ → NodePage → Type 0
 HasWrong image block page =
     (i : ℕ) × (slot : PageSlot) × (slice_get (slots_of_page page) i ≡ Some slot) × (0 < slot.agg.count) × IsWrongChild image block page i slot block
 
-module _ (image : Image) (limit block : ℕ) (page : NodePage) (nodes : NodesValue) (low : block < limit) (own : Pages) (stand : StandBelow image limit own) (are : AreKnown own nodes) where
+module _ (image : Image) (limit block : ℕ) (page : NodePage) (nodes : TreesValue) (low : block < limit) (own : Pages) (stand : StandBelow image limit own) (are : AreKnown own nodes) where
   slot-or : (i : ℕ) (slot : PageSlot) → slice_get (slots_of_page page) i ≡ Some slot → KnowsChild block nodes slot → HasWrong image block page ⊎ (0 < slot.agg.count → HasChildPage own block page i slot)
   slot-or i slot there knows =
       ⊎_elim

@@ -17,7 +17,8 @@ use Rattle.btr_super.specs.declared.superblock.Super.{Super}
 use Rattle.btr_node.specs.Page.{page_bytes, Fits}
 use Rattle.btr_node.specs.declared.page.NodePage.{NodePage}
 use Rattle.btr_node.proofs.PageLemmas.{page-once}
-use Rattle.btr_pages.specs.Pages.{Pages, with_pages, IsPageAt, ArePages}
+use Rattle.btr_tree.specs.PageNodes.{Pages}
+use Rattle.btr_pages.specs.Pages.{with_pages, IsPageAt, ArePages}
 use Rattle.btr_pages.specs.Blocks.{block_of_bytes, IsNoPage}
 use Rattle.btr_pages.proofs.BlockLemmas.{parts-one, length-pages, each-places}
 use Rattle.btr_pages.proofs.PagesLemmas.{right-next}

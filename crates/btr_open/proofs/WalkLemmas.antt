@@ -10,7 +10,8 @@ use Rattle.btr_log.proofs.ExtentLemmas.{Extents-push}
 use Rattle.btr_super.specs.declared.superblock.Super.{Super}
 use Rattle.btr_node.specs.declared.page.NodePage.{NodePage}
 use Rattle.btr_node.specs.Page.{slots_of_page}
-use Rattle.btr_pages.specs.Pages.{Pages, with_pages, HasChildPage, IsPageAt, ArePages}
+use Rattle.btr_tree.specs.PageNodes.{Pages}
+use Rattle.btr_pages.specs.Pages.{with_pages, HasChildPage, IsPageAt, ArePages}
 use Rattle.btr_pages.proofs.KnownLemmas.{pages-below, pages-from}
 use Rattle.btr_pages.proofs.ReportedLemmas.{with-either}
 use Rattle.btr_hist.specs.declared.entry.Entry.{Entry}

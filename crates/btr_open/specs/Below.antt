@@ -5,7 +5,8 @@ use Rattle.btr_disk.specs.Bytes.{Image, Has}
 use Rattle.btr_node.specs.Page.{page_bytes, Fits, Keeps, slots_of_page}
 use Rattle.btr_node.specs.declared.page.NodePage.{NodePage}
 use Rattle.btr_node.specs.declared.page.PageSlot.{PageSlot}
-use Rattle.btr_pages.specs.Pages.{Pages, IsPageAt, IsChildPage}
+use Rattle.btr_tree.specs.PageNodes.{Pages, IsChildPage}
+use Rattle.btr_pages.specs.Pages.{IsPageAt}
 
 -- ---- pages that stand rightly
 

@@ -7,8 +7,9 @@ use Rattle.btr_disk.specs.Bytes.{Image}
 use Rattle.btr_disk.specs.Causes.{Rose}
 use Rattle.btr_super.specs.declared.superblock.Super.{Super}
 use Rattle.btr_node.specs.declared.page.NodePage.{NodePage}
-use Rattle.btr_pages.specs.Pages.{Pages, HasRootPage}
-use Rattle.btr_pages.specs.Known.{NodesValue, AreKnown, ArePartOf, node_at}
+use Rattle.btr_tree.specs.PageNodes.{Pages}
+use Rattle.btr_pages.specs.Pages.{HasRootPage}
+use Rattle.btr_pages.specs.Known.{TreesValue, AreKnown, ArePartOf, node_at}
 use Rattle.btr_tree.specs.Root.{TreeValue}
 use Rattle.btr_roll.specs.declared.roll.RollVersion.{RollVersion}
 use Rattle.btr_roll.specs.Roll.{RollStreamValue, IsRoll, roll_bytes}
@@ -72,12 +73,12 @@ pub record AreRootsBelow (limit : ℕ) (roll : List RollStreamValue) (roots : Li
   pub all : (root : ℕ) → IsRootIn roll root → 1 ≤ root → root < limit → (n : ℕ) × (slice_get roots n ≡ Some root)
 
 -- The trees that were made are those of some pages below the limit. It is said of each device, also of one that does not tell its bytes.
-abbrev pub AreOfSome : ℕ → NodesValue → Type 0
+abbrev pub AreOfSome : ℕ → TreesValue → Type 0
 AreOfSome limit nodes = (own : Pages) × AreKnown own nodes × ((block : ℕ) → limit ≤ block → IsNone (own block))
 
 -- The trees of the pages at these roots were made. They are those of pages that stand rightly below the limit, and those of each set of
 -- such pages that has the roots.
-pub record AreRootsFetched (image : Image) (limit : ℕ) (roots : List ℕ) (nodes : NodesValue) : Type 0 where
+pub record AreRootsFetched (image : Image) (limit : ℕ) (roots : List ℕ) (nodes : TreesValue) : Type 0 where
   pub own : Pages
   pub stand : StandBelow image limit own
   pub beyond : (block : ℕ) → limit ≤ block → IsNone (own block)
@@ -95,24 +96,24 @@ IsWrongBelow image root block =
 -- ---- the trees
 
 -- The tree is that of the root of a version, and that of some past. If the root is not 0, the tree of its page was made.
-pub record IsVersionTree (nodes : NodesValue) (root : ℕ) (t : TreeValue) : Type 0 where
+pub record IsVersionTree (nodes : TreesValue) (root : ℕ) (t : TreeValue) : Type 0 where
   pub past : HasPast t
   pub is : IsTreeOfRoot nodes root t
   pub there : 0 < root → IsSome (node_at nodes root)
 
 -- The root of a version of a stream may be this one, whatever the pages are.
-abbrev pub MayBeRootOf : NodesValue → ℕ → ℕ → ℕ → Type 0
+abbrev pub MayBeRootOf : TreesValue → ℕ → ℕ → ℕ → Type 0
 MayBeRootOf nodes stream version root =
     (pages : Pages) → AreKnown pages nodes → (root ≡ 0) ⊎ HasRootPage pages stream version root
 
 -- The root of a version of a stream may not be this one: it is not below the limit, or, whatever the pages are, it is the page of no such
 -- root.
-pub record IsWrongRootOf (nodes : NodesValue) (limit stream version root : ℕ) : Type 0 where
+pub record IsWrongRootOf (nodes : TreesValue) (limit stream version root : ℕ) : Type 0 where
   pub some : 0 < root
   pub wrong : (limit ≤ root) ⊎ ((pages : Pages) → AreKnown pages nodes → HasRootPage pages stream version root → ⊥)
 
 -- The trees are those of the first versions of a stream, from version 0 on.
-pub record AreFirstTrees (nodes : NodesValue) (stream : ℕ) (versions : List RollVersion) (trees : List TreeValue) : Type 0 where
+pub record AreFirstTrees (nodes : TreesValue) (stream : ℕ) (versions : List RollVersion) (trees : List TreeValue) : Type 0 where
   pub counted : length trees ≡ length versions + 1
   pub first : (t : TreeValue) → slice_get trees 0 ≡ Some t → IsVersionTree nodes 0 t
   pub others : (k : ℕ) (v : RollVersion) (t : TreeValue) → slice_get versions k ≡ Some v → slice_get trees (k + 1) ≡ Some t
@@ -120,13 +121,13 @@ pub record AreFirstTrees (nodes : NodesValue) (stream : ℕ) (versions : List Ro
   pub may : (k : ℕ) (v : RollVersion) → slice_get versions k ≡ Some v → MayBeRootOf nodes stream (k + 1) v.root
 
 -- The trees are those of the versions of the streams.
-pub record AreAllTrees (nodes : NodesValue) (roll : List RollStreamValue) (trees : List (List TreeValue)) : Type 0 where
+pub record AreAllTrees (nodes : TreesValue) (roll : List RollStreamValue) (trees : List (List TreeValue)) : Type 0 where
   pub counted : length trees ≡ length roll
   pub each : (stream : ℕ) (s : RollStreamValue) (ts : List TreeValue) → slice_get roll stream ≡ Some s → slice_get trees stream ≡ Some ts
       → AreFirstTrees nodes stream s.versions ts
 
 -- A version of the streams has a root that it may not have, and the block is that in which the address begins.
-pub record NamesWrongRoot (nodes : NodesValue) (limit format : ℕ) (roll : List RollStreamValue) (block : ℕ) : Type 0 where
+pub record NamesWrongRoot (nodes : TreesValue) (limit format : ℕ) (roll : List RollStreamValue) (block : ℕ) : Type 0 where
   pub stream : ℕ
   pub k : ℕ
   pub v : RollVersion
@@ -135,7 +136,7 @@ pub record NamesWrongRoot (nodes : NodesValue) (limit format : ℕ) (roll : List
   pub named : block ≡ limit + 1 + (64 + place_of_root format roll stream at.its k) / 4096
 
 -- Why the trees of the versions are not returned.
-abbrev pub TreesCause : NodesValue → ℕ → ℕ → List RollStreamValue → OpenCause → Type 0
+abbrev pub TreesCause : TreesValue → ℕ → ℕ → List RollStreamValue → OpenCause → Type 0
 TreesCause nodes limit format roll NotAStore = ⊥
 TreesCause nodes limit format roll (Damaged block) = NamesWrongRoot nodes limit format roll block
 TreesCause nodes limit format roll Fault = ⊥

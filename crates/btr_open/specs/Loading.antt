@@ -9,9 +9,10 @@ use Rattle.btr_log.specs.Extents.{need}
 use Rattle.btr_node.specs.Page.{Spells, Keeps, Fits, slots_of_page}
 use Rattle.btr_node.specs.declared.page.NodePage.{NodePage}
 use Rattle.btr_node.specs.declared.page.PageSlot.{PageSlot}
-use Rattle.btr_pages.specs.Pages.{Pages, HasRootPage}
+use Rattle.btr_tree.specs.PageNodes.{Pages}
+use Rattle.btr_pages.specs.Pages.{HasRootPage}
 use Rattle.btr_pages.specs.Blocks.{block_of_bytes}
-use Rattle.btr_pages.specs.Known.{NodesValue, AreKnown, ArePartOf, IsReadRoot, node_at}
+use Rattle.btr_pages.specs.Known.{TreesValue, AreKnown, ArePartOf, IsReadRoot, node_at}
 use Rattle.btr_tree.specs.History.{nothing}
 use Rattle.btr_tree.specs.Root.{TreeValue, IsTree}
 use Rattle.btr_hist.specs.declared.entry.Entry.{Entry}
@@ -54,35 +55,35 @@ pub record IsDeviceBlock (image : Image) (block : ℕ) (bytes : List ℕ) : Type
 
 -- Trees of pages below the limit were made. It is said of each device, also of one that does not tell its bytes: all old ones are there,
 -- and no new one is from the limit on. If the old trees are those of some pages, the new ones are those of wider pages.
-pub record GrowsBelow (limit : ℕ) (old new : NodesValue) : Type 0 where
+pub record GrowsBelow (limit : ℕ) (old new : TreesValue) : Type 0 where
   pub kept : (block : ℕ) → IfSome (node_at old block) (λ known. node_at new block ≡ Some known)
   pub only : (block : ℕ) → IsSome (node_at new block) → IsSome (node_at old block) ⊎ (block < limit)
   pub known : (pages : Pages) → AreKnown pages old → (wider : Pages) × AreWider limit pages wider × AreKnown wider new
 
 -- Trees of pages of the device were made: the wider pages stand rightly below the limit if the others do.
-pub record AddsBelow (image : Image) (limit : ℕ) (old new : NodesValue) : Type 0 where
+pub record AddsBelow (image : Image) (limit : ℕ) (old new : TreesValue) : Type 0 where
   pub grows : GrowsBelow limit old new
   pub stands : (pages : Pages) (are : AreKnown pages old) → StandBelow image limit pages → StandBelow image limit (grows.known pages are).0
 
 -- If all pages of a set are stored rightly and this block is among them, all trees that were made are of these pages.
-abbrev pub StaysPart : Image → ℕ → ℕ → NodesValue → NodesValue → Type 0
+abbrev pub StaysPart : Image → ℕ → ℕ → TreesValue → TreesValue → Type 0
 StaysPart image limit block old new =
     (pages : Pages) → StandBelow image limit pages → IsSome (pages block) → ArePartOf pages old → ArePartOf pages new
 
 -- What was found of the page in a block, after the trees were made that could be.
-abbrev pub IsFetched : Image → ℕ → NodesValue → Fetched → Type 0
+abbrev pub IsFetched : Image → ℕ → TreesValue → Fetched → Type 0
 IsFetched image block new Known = IsSome (node_at new block)
 IsFetched image block new NoPage = HasNoPage image block
 IsFetched image block new (Broken named) = (page : NodePage) × IsStoredPage image block page × BreaksBelow image block page named
 
 -- The tree of the page in a block, and those of the pages below it, were made as far as they stand rightly, and this was found of the page.
-pub record FetchesPage (image : Image) (limit block : ℕ) (old new : NodesValue) (fetched : Fetched) : Type 0 where
+pub record FetchesPage (image : Image) (limit block : ℕ) (old new : TreesValue) (fetched : Fetched) : Type 0 where
   pub adds : AddsBelow image limit old new
   pub part : StaysPart image limit block old new
   pub found : IsFetched image block new fetched
 
 -- The trees that were made are those of pages which stand rightly below the limit.
-abbrev pub AreOfDevice : Image → ℕ → NodesValue → Type 0
+abbrev pub AreOfDevice : Image → ℕ → TreesValue → Type 0
 AreOfDevice image limit nodes = (own : Pages) × StandBelow image limit own × AreKnown own nodes
 
 module _ {D : Type 0} (disk : Ghosts D) where
@@ -106,25 +107,25 @@ pub record IsReadPage (block limit : ℕ) (page : NodePage) : Type 0 where
   pub fits : Fits page
 
 -- The page is stored in its block, and the trees that were made are of pages of the device too.
-pub record IsStoredWith (image : Image) (limit block : ℕ) (page : NodePage) (nodes : NodesValue) : Type 0 where
+pub record IsStoredWith (image : Image) (limit block : ℕ) (page : NodePage) (nodes : TreesValue) : Type 0 where
   pub stored : IsStoredPage image block page
   pub own : AreOfDevice image limit nodes
 
 -- No block above this one has a tree that it had not before.
-abbrev pub HasNoneAbove : ℕ → NodesValue → NodesValue → Type 0
+abbrev pub HasNoneAbove : ℕ → TreesValue → TreesValue → Type 0
 HasNoneAbove block old new = (k : ℕ) → IsSome (node_at new k) → IsSome (node_at old k) ⊎ (k ≤ block)
 
 -- No block from this one on has a tree that it had not before.
-abbrev pub HasNoneFrom : ℕ → NodesValue → NodesValue → Type 0
+abbrev pub HasNoneFrom : ℕ → TreesValue → TreesValue → Type 0
 HasNoneFrom block old new = (k : ℕ) → IsSome (node_at new k) → IsSome (node_at old k) ⊎ (k < block)
 
 -- If the slot has a point, its child is in a lower block, and has a tree.
-abbrev pub KnowsChild : ℕ → NodesValue → PageSlot → Type 0
+abbrev pub KnowsChild : ℕ → TreesValue → PageSlot → Type 0
 KnowsChild block nodes slot = 0 < slot.agg.count → (slot.child < block) × IsSome (node_at nodes slot.child)
 
 -- Trees of pages below the page in a block were made, and perhaps its own: what was to be done is done, or a block is named that breaks the
 -- format, as it is found from the page downwards.
-pub record MakesBelow (image : Image) (limit block : ℕ) (page : NodePage) (old new : NodesValue) (done : Type 0) (broken : Option ℕ)
+pub record MakesBelow (image : Image) (limit block : ℕ) (page : NodePage) (old new : TreesValue) (done : Type 0) (broken : Option ℕ)
     : Type 0 where
   pub adds : AddsBelow image limit old new
   pub part : StaysPart image limit block old new
@@ -132,18 +133,18 @@ pub record MakesBelow (image : Image) (limit block : ℕ) (page : NodePage) (old
 
 module _ {D : Type 0} (disk : Ghosts D) where
   -- The trees of the pages below the page in a block can be made: the reader can read them, and the page was read of its block.
-  pub record CanMake (reader : BlockReader) (d : D) (block : ℕ) (page : NodePage) (nodes : NodesValue) : Type 0 where
+  pub record CanMake (reader : BlockReader) (d : D) (block : ℕ) (page : NodePage) (nodes : TreesValue) : Type 0 where
     pub can : CanRead disk reader d
     pub page_read : IsReadPage block reader.limit page
     pub device : disk.is_observable → IsStoredWith (disk.contents d) reader.limit block page nodes
 
   -- Trees of pages below the limit were made, and what was to be done is done, or a block is named that breaks the format.
-  pub record Makes (d : D) (limit block : ℕ) (page : NodePage) (old new : NodesValue) (done : Type 0) (broken : Option ℕ) : Type 0 where
+  pub record Makes (d : D) (limit block : ℕ) (page : NodePage) (old new : TreesValue) (done : Type 0) (broken : Option ℕ) : Type 0 where
     pub grows : GrowsBelow limit old new
     pub made : disk.is_observable → MakesBelow (disk.contents d) limit block page old new done broken
 
   -- What was to be done is that the child of a slot with a point has a tree.
-  abbrev pub MakesChild : D → ℕ → SlotAt → NodesValue → NodesValue → Option ℕ → Type 0
+  abbrev pub MakesChild : D → ℕ → SlotAt → TreesValue → TreesValue → Option ℕ → Type 0
   MakesChild d limit at old new broken =
       Makes d limit at.block at.page.now old new (KnowsChild at.block new at.slot.now) broken
 
@@ -152,7 +153,7 @@ abbrev pub IsSlotOf : SlotAt → Type 0
 IsSlotOf at = slice_get (slots_of_page at.page.now) at.i ≡ Some at.slot.now
 
 -- The slot has a point, and its child is in a lower block, of which no tree was made.
-pub record HasUnknownChild (at : SlotAt) (nodes : NodesValue) : Type 0 where
+pub record HasUnknownChild (at : SlotAt) (nodes : TreesValue) : Type 0 where
   pub some : 0 < at.slot.now.agg.count
   pub lower : at.slot.now.child < at.block
   pub fresh : IsNone (node_at nodes at.slot.now.child)
@@ -173,7 +174,7 @@ HaveNeeded limit bytes root pages =
     (block : ℕ) → IsNeeded bytes root block → 1 ≤ block → block < limit → IsSome (pages block)
 
 -- Of each page below the limit that the extent needs a tree was made, if it is among pages that stand rightly there.
-abbrev pub AreFetched : Image → ℕ → List ℕ → ℕ → NodesValue → Type 0
+abbrev pub AreFetched : Image → ℕ → List ℕ → ℕ → TreesValue → Type 0
 AreFetched image limit bytes root nodes =
     (pages : Pages) → StandBelow image limit pages
     → (block : ℕ) → IsNeeded bytes root block → block < limit → IsSome (pages block) → IsSome (node_at nodes block)
@@ -187,7 +188,7 @@ abbrev pub IsSlotChild : List PageSlot → ℕ → Type 0
 IsSlotChild slots k = (i : ℕ) × (slot : PageSlot) × (slice_get slots i ≡ Some slot) × (0 < slot.agg.count) × (k ≡ slot.child)
 
 -- The trees of the pages in these blocks, and of the pages below them, were made, as far as they stand rightly below the limit.
-pub record FetchesAll (image : Image) (limit : ℕ) (blocks : ℕ → Type 0) (old new : NodesValue) : Type 0 where
+pub record FetchesAll (image : Image) (limit : ℕ) (blocks : ℕ → Type 0) (old new : TreesValue) : Type 0 where
   pub adds : AddsBelow image limit old new
   pub part : (pages : Pages) → StandBelow image limit pages
       → ((block : ℕ) → blocks block → 1 ≤ block → block < limit → IsSome (pages block)) → ArePartOf pages old → ArePartOf pages new
@@ -198,13 +199,13 @@ pub record FetchesAll (image : Image) (limit : ℕ) (blocks : ℕ → Type 0) (o
 
 -- The tree of a root: that of no commit if the root is 0; else the one that was read from the page of the root, whatever the pages and the
 -- version are.
-pub record IsTreeOfRoot (nodes : NodesValue) (root : ℕ) (t : TreeValue) : Type 0 where
+pub record IsTreeOfRoot (nodes : TreesValue) (root : ℕ) (t : TreeValue) : Type 0 where
   pub empty : root ≡ 0 → IsTree nothing t
   pub read : 0 < root → (pages : Pages) (stream version : ℕ) → ArePartOf pages nodes → IsSome (node_at nodes root)
       → HasRootPage pages stream version root → IsReadRoot pages stream version root t
 
 -- The trees of streams: of each version from version 0 on, and each made of the version's root, whose page's tree was made.
-pub record AreTreesOf (nodes : NodesValue) (roll : List RollStreamValue) (trees : List (List TreeValue)) : Type 0 where
+pub record AreTreesOf (nodes : TreesValue) (roll : List RollStreamValue) (trees : List (List TreeValue)) : Type 0 where
   pub counted : length trees ≡ length roll
   pub long : (stream : ℕ) (s : RollStreamValue) (ts : List TreeValue) → slice_get roll stream ≡ Some s → slice_get trees stream ≡ Some ts
       → length ts ≡ length s.versions + 1

@@ -3,7 +3,8 @@ use Rattle.std.specs.Prelude.{◌≡◌, ◌⊎◌, ℕ, ◌+◌, ◌-◌, ◌*�
 use Rattle.btr_base.specs.declared.point.Point.{Point}
 use Rattle.btr_node.specs.Page.{Spells, Fits}
 use Rattle.btr_node.specs.declared.page.NodePage.{NodePage}
-use Rattle.btr_pages.specs.Pages.{Pages, IsRootPage, MayBeRoot}
+use Rattle.btr_tree.specs.PageNodes.{Pages, IsRootPage}
+use Rattle.btr_pages.specs.Pages.{MayBeRoot}
 use Rattle.btr_pages.specs.Blocks.{block_of_bytes, IsNoPage}
 use Rattle.btr_hist.specs.declared.entry.Entry.{Entry}
 use Rattle.btr_hist.specs.declared.entry.Entry.TheVariants.{Create, Define, Commit, Distillate, Retire}

@@ -8,7 +8,8 @@ use Rattle.btr_log.specs.Head.{content_blocks}
 use Rattle.btr_log.specs.Extents.{need, IsExtent, first_gate}
 use Rattle.btr_log.specs.Found.{IsDamagedExtent}
 use Rattle.btr_super.specs.declared.superblock.Super.{Super}
-use Rattle.btr_pages.specs.Pages.{Pages, HasRootPage, IsRootPage}
+use Rattle.btr_tree.specs.PageNodes.{Pages, IsRootPage}
+use Rattle.btr_pages.specs.Pages.{HasRootPage}
 use Rattle.btr_node.specs.declared.page.NodePage.{NodePage}
 use Rattle.btr_roll.specs.declared.roll.RollVersion.{RollVersion}
 use Rattle.btr_roll.specs.Roll.{RollStreamValue, IsRoll, has_firsts, roll_bytes, stream_bytes, first_bytes, version_bytes, kind_bytes}

@@ -10,7 +10,8 @@ use Rattle.btr_log.specs.Found.{IsDamagedExtent}
 use Rattle.btr_super.specs.declared.superblock.Super.{Super}
 use Rattle.btr_node.specs.Page.{page_bytes, Spells, Fits}
 use Rattle.btr_node.specs.declared.page.NodePage.{NodePage}
-use Rattle.btr_pages.specs.Pages.{Pages, with_pages, IsPageAt, ArePages}
+use Rattle.btr_tree.specs.PageNodes.{Pages}
+use Rattle.btr_pages.specs.Pages.{with_pages, IsPageAt, ArePages}
 use Rattle.btr_pages.specs.Blocks.{block_of_bytes, IsNoPage}
 use Rattle.btr_hist.specs.declared.entry.Entry.{Entry}
 use Rattle.btr_entry.specs.Grammar.{IsSpelled}

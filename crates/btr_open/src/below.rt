@@ -5,7 +5,7 @@ ghost use Rattle.btr_disk.specs.Bytes.{Image, IsBlockRange};
 ghost use Rattle.btr_log.specs.Piece.{IsPieceOf, HoldsBlocks};
 ghost use Rattle.btr_log.specs.Reads.{OnlyReads};
 ghost use Rattle.btr_node.specs.Page.{Keeps, Fits, slots_of_page};
-ghost use Rattle.btr_pages.specs.Pages.{IsChildPage};
+ghost use Rattle.btr_tree.specs.PageNodes.{IsChildPage};
 ghost use Rattle.btr_pages.specs.Known.{node_at};
 ghost use Rattle.btr_open.specs.Below.{IsStoredPage, HasNoPage};
 ghost use Rattle.btr_open.specs.Reading.{BlockCause};
@@ -18,7 +18,7 @@ use crate::opening::OpenCause;
 use btr_disk::Disk;
 use btr_log::{ExtentFault, Piece, READ_AHEAD};
 use btr_node::{NodePage, PAGE, PageSlot, decode};
-use btr_pages::{Nodes, block_at};
+use btr_pages::{Trees, block_at};
 use btr_tree::Steps;
 use std::alloc::Global;
 
@@ -88,7 +88,7 @@ impl BlockReader {
     pub(crate) fn fetch<D: Disk>(
         &mut self,
         disk: &mut D,
-        nodes: &mut Nodes,
+        nodes: &mut Trees,
         steps: &mut Steps<OpenWalk>,
         block: u64,
     ) -> Result<Fetched, OpenCause>
@@ -118,7 +118,7 @@ impl BlockReader {
     pub(crate) fn fetch_needed<D: Disk>(
         &mut self,
         disk: &mut D,
-        nodes: &mut Nodes,
+        nodes: &mut Trees,
         steps: &mut Steps<OpenWalk>,
         root: u64,
         bytes: &[u8],
@@ -148,7 +148,7 @@ impl BlockReader {
     fn fetch_children<D: Disk>(
         &mut self,
         disk: &mut D,
-        nodes: &mut Nodes,
+        nodes: &mut Trees,
         steps: &mut Steps<OpenWalk>,
         page: &NodePage,
     ) -> Result<(), OpenCause>
@@ -172,7 +172,7 @@ impl BlockReader {
     fn fetch_at<D: Disk>(
         &mut self,
         disk: &mut D,
-        nodes: &mut Nodes,
+        nodes: &mut Trees,
         steps: &mut Steps<OpenWalk>,
         block: u64,
     ) -> Result<(), OpenCause>
@@ -196,7 +196,7 @@ impl BlockReader {
     fn make<D: Disk>(
         &mut self,
         disk: &mut D,
-        nodes: &mut Nodes,
+        nodes: &mut Trees,
         steps: &mut Steps<OpenWalk>,
         block: u64,
         page: &NodePage,
@@ -234,7 +234,7 @@ impl BlockReader {
     fn make_child<D: Disk>(
         &mut self,
         disk: &mut D,
-        nodes: &mut Nodes,
+        nodes: &mut Trees,
         steps: &mut Steps<OpenWalk>,
         at: SlotAt,
     ) -> Result<Option<u64>, OpenCause>
@@ -263,7 +263,7 @@ impl BlockReader {
     fn make_unknown<D: Disk>(
         &mut self,
         disk: &mut D,
-        nodes: &mut Nodes,
+        nodes: &mut Trees,
         steps: &mut Steps<OpenWalk>,
         at: SlotAt,
     ) -> Result<Option<u64>, OpenCause>

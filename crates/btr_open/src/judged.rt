@@ -10,7 +10,7 @@ use crate::loading::Loader;
 use crate::log_walk::LogWalk;
 use crate::opening::OpenCause;
 use btr_disk::Disk;
-use btr_pages::Nodes;
+use btr_pages::Trees;
 use btr_super::{LOG_START, Super};
 use std::alloc::Global;
 
@@ -18,7 +18,7 @@ use std::alloc::Global;
 #[derive(Drop)]
 pub struct WholeLog {
     /// The trees of its pages, by their blocks.
-    pub nodes: Nodes,
+    pub nodes: Trees,
 
     /// The gate after its last extent.
     pub tail: u64,

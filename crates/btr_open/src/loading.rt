@@ -18,7 +18,7 @@ use btr_engine::Board;
 use btr_entry::format_of;
 use btr_hist::Entry;
 use btr_log::{Head, blocks_of_content};
-use btr_pages::Nodes;
+use btr_pages::Trees;
 use btr_tree::{Label, Steps};
 use std::alloc::{AllocError, Global};
 
@@ -31,7 +31,7 @@ impl Label for OpenWalk {}
 #[derive(Drop)]
 pub(crate) struct Loader {
     pub(crate) board: Board,
-    pub(crate) nodes: Nodes,
+    pub(crate) nodes: Trees,
     pub(crate) steps: Steps<OpenWalk>,
 
     /// The least format that a checkpoint may have: the greatest format of an entry that was read, or 1 if there is none.
@@ -47,7 +47,7 @@ impl Loader {
     {
         Loader {
             board: Board::empty(),
-            nodes: Nodes::new(alloc),
+            nodes: Trees::new(alloc),
             steps: Steps::new(),
             least: 1,
         }

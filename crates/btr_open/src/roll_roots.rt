@@ -7,7 +7,7 @@ use crate::below::{BlockReader, Fetched};
 use crate::loading::OpenWalk;
 use crate::opening::OpenCause;
 use btr_disk::Disk;
-use btr_pages::Nodes;
+use btr_pages::Trees;
 use btr_roll::{Roll, RollStream, RollVersion};
 use btr_tree::Steps;
 use std::alloc::{AllocError, Global};
@@ -53,7 +53,7 @@ fn push_roots(roots: &mut Vec<u64>, versions: &[RollVersion], limit: u64) -> Res
 pub(crate) fn fetch_roots<D: Disk>(
     disk: &mut D,
     reader: &mut BlockReader,
-    nodes: &mut Nodes,
+    nodes: &mut Trees,
     steps: &mut Steps<OpenWalk>,
     roots: &[u64],
 ) -> Result<(), OpenCause>
@@ -75,7 +75,7 @@ pub(crate) fn fetch_roots<D: Disk>(
 fn fetch_root<D: Disk>(
     disk: &mut D,
     reader: &mut BlockReader,
-    nodes: &mut Nodes,
+    nodes: &mut Trees,
     steps: &mut Steps<OpenWalk>,
     root: u64,
 ) -> Result<(), OpenCause>

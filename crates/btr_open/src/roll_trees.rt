@@ -6,7 +6,7 @@ ghost use Rattle.btr_open.specs.Start.{place_of_root};
 ghost use Rattle.btr_open.specs.Checkpoint.{IsVersionTree, MayBeRootOf, IsWrongRootOf, AreFirstTrees, AreAllTrees, TreesCause};
 
 use crate::opening::OpenCause;
-use btr_pages::Nodes;
+use btr_pages::Trees;
 use btr_roll::{RollStream, first_length, kind_length, streams_length, versions_length};
 use btr_tree::Tree;
 use std::alloc::{AllocError, Global};
@@ -16,7 +16,7 @@ use std::alloc::{AllocError, Global};
 /// of a checkpoint at the limit. Any other `Err` means out of memory.
 pub(crate) fn trees_of(
     alloc: Global,
-    nodes: &Nodes,
+    nodes: &Trees,
     format: u32,
     streams: &[RollStream],
     limit: u64,
@@ -37,7 +37,7 @@ pub(crate) fn trees_of(
 /// Returns the trees of the versions of the stream of this number, from version 0 on.
 fn trees_of_stream(
     alloc: Global,
-    nodes: &Nodes,
+    nodes: &Trees,
     format: u32,
     streams: &[RollStream],
     number: usize,
@@ -74,7 +74,7 @@ fn push<T: Drop>(items: &mut Vec<T>, item: T) -> Result<(), AllocError>
 
 /// Returns the tree of a version of a stream, whose root is this one, or `None` if it may not be.
 fn tree_of_version(
-    nodes: &Nodes,
+    nodes: &Trees,
     stream: u32,
     version: u64,
     root: u64,

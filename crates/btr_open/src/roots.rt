@@ -2,7 +2,7 @@
 ghost use Rattle.std.specs.Prelude.{◌≡◌, ◌≢◌, ◌↔◌, ◌+◌, ◌-◌, ◌*◌, ◌^◌, ◌%◌, ◌<◌, ◌≤◌, length, take, drop};
 ghost use Rattle.std.specs.Prelude.{IfSome, IsNone, IsTrue, true, false};
 ghost use Rattle.btr_node.specs.Page.{Keeps};
-ghost use Rattle.btr_pages.specs.Pages.{Pages, IsRootPage};
+ghost use Rattle.btr_tree.specs.PageNodes.{Pages, IsRootPage};
 ghost use Rattle.btr_pages.specs.Known.{AreKnown};
 ghost use Rattle.btr_streams.specs.Rolling.{rolled};
 ghost use Rattle.btr_open.specs.RootTest.{IsNamedRoot, IsNoPageIn, MayBeRootIn, MayLeadIn};
@@ -11,7 +11,7 @@ use crate::loading::Loader;
 use btr_base::ROOT_HEIGHT;
 use btr_hist::Entry;
 use btr_node::{NodePage, PAGE, decode};
-use btr_pages::{Nodes, block_at};
+use btr_pages::{Trees, block_at};
 
 /// What is found of the root of a commit.
 #[derive(Clone, Copy, PartialEq, Eq)]
@@ -76,7 +76,7 @@ pub(crate) fn wrong_root(
 }
 
 /// Tests the root of a commit that makes this version.
-fn test_root(nodes: &Nodes, made: NewVersion, root: u64, first: u64, bytes: &[u8]) -> RootTest
+fn test_root(nodes: &Trees, made: NewVersion, root: u64, first: u64, bytes: &[u8]) -> RootTest
     requires whole { length bytes.now % 4096 ≡ 0 }
     ensures right { (pages : Pages) → AreKnown pages nodes.now → result ≡ RootTest.Right
         → MayBeRootIn pages first bytes.now made.stream made.version made.some root }

@@ -16,8 +16,9 @@ use Rattle.btr_node.specs.declared.page.NodePage.{NodePage}
 use Rattle.btr_node.specs.declared.page.NodePage.TheVariants.{Leaf, Inner}
 use Rattle.btr_node.specs.declared.page.PageSlot.{PageSlot}
 use Rattle.btr_node.proofs.PageLemmas.{page-once}
-use Rattle.btr_pages.specs.Pages.{Pages, with_pages, IsPageAt}
-use Rattle.btr_pages.specs.Known.{NodesValue, AreKnown}
+use Rattle.btr_tree.specs.PageNodes.{Pages}
+use Rattle.btr_pages.specs.Pages.{with_pages, IsPageAt}
+use Rattle.btr_pages.specs.Known.{TreesValue, AreKnown}
 use Rattle.btr_pages.specs.Blocks.{block_of_bytes, AreAmong, AreAdded, AllWereAdded, IsNoPage, IsWrongPage, IsDamagedBlock}
 use Rattle.btr_pages.specs.Made.{IsAddedPage, IsDamagedPage}
 use Rattle.btr_pages.proofs.KnownLemmas.{IsAbove, pages-below, pages-from, knows-all}
@@ -109,21 +110,21 @@ pages-one (p ∷ pages) (q ∷ others) fits fit same =
 -- ---- blocks, one at a time
 
 -- Where no tree is of a block or of one above, no page is there.
-no-page : (pages : Pages) (nodes : NodesValue) (first b : ℕ) → AreKnown pages nodes → IsAbove first nodes → first ≤ b → pages b ≡ None
+no-page : (pages : Pages) (nodes : TreesValue) (first b : ℕ) → AreKnown pages nodes → IsAbove first nodes → first ≤ b → pages b ≡ None
 no-page pages nodes first b are above le =
     elim (pages b) as (λ o. pages b ≡ o → o ≡ None) [
       | None ↦ λ e. refl
       | Some page ↦ λ e. (let less = above b (are.all b (subst IsSome (sym e) refl)) in absurd (omega arith))
     ] refl
 
-with-none : (pages : Pages) (nodes : NodesValue) (first b : ℕ) → AreKnown pages nodes → IsAbove first nodes → with_pages pages first [] b ≡ pages b
+with-none : (pages : Pages) (nodes : TreesValue) (first b : ℕ) → AreKnown pages nodes → IsAbove first nodes → with_pages pages first [] b ≡ pages b
 with-none pages nodes first b are above =
     elim (cases_lt b first) [
       | inl less ↦ pages-below pages first b [] less
       | inr from ↦ pages-from pages first b [] from ∙ sym (no-page pages nodes first b are above from)
     ]
 
-pub added-none : (nodes : NodesValue) (first : ℕ) (bytes : List ℕ) → IsAbove first nodes → AreAdded nodes nodes first (take 0 bytes) []
+pub added-none : (nodes : TreesValue) (first : ℕ) (bytes : List ℕ) → IsAbove first nodes → AreAdded nodes nodes first (take 0 bytes) []
 added-none nodes first bytes above =
     record {
       bytes_are = refl;
@@ -134,7 +135,7 @@ added-none nodes first bytes above =
     }
 
 -- The pages that were added are as many as the blocks.
-pub added-length : (old new : NodesValue) (first n : ℕ) (bytes : List ℕ) (added : List NodePage) → AreAdded old new first bytes added → length bytes ≡ 4096 * n → length added ≡ n
+pub added-length : (old new : TreesValue) (first n : ℕ) (bytes : List ℕ) (added : List NodePage) → AreAdded old new first bytes added → length bytes ≡ 4096 * n → length added ≡ n
 added-length old new first n bytes added are size =
     let long = ap (λ (xs : List ℕ). length xs) are.bytes_are in
     omega (arith, long, size, length-pages added (each-places added are.fit))
@@ -163,7 +164,7 @@ among-last pages first i added page n among =
     let at : slice_get (added ++ page ∷ []) i ≡ Some page = ap (slice_get (added ++ page ∷ [])) (let e : i ≡ length added + 0 = omega arith in e) ∙ get-after added (page ∷ []) 0 in
     subst (λ o. IfSome o (λ p. pages (first + i) ≡ Some p)) at (among i)
 
-pub added-more : (old mid new : NodesValue) (first i : ℕ) (bytes : List ℕ) (added : List NodePage) → AreAdded old mid first (take (4096 * i) bytes) added → length added ≡ i → IsAbove (first + i) mid → (here : IsAddedPage mid new (first + i) (block_of_bytes bytes i)) → AreAdded old new first (take (4096 * (i + 1)) bytes) (added ++ here.page ∷ [])
+pub added-more : (old mid new : TreesValue) (first i : ℕ) (bytes : List ℕ) (added : List NodePage) → AreAdded old mid first (take (4096 * i) bytes) added → length added ≡ i → IsAbove (first + i) mid → (here : IsAddedPage mid new (first + i) (block_of_bytes bytes i)) → AreAdded old new first (take (4096 * (i + 1)) bytes) (added ++ here.page ∷ [])
 added-more old mid new first i bytes added are n above here =
     let page = here.page in
     record {
@@ -180,7 +181,7 @@ added-more old mid new first i bytes added are n above here =
 
 -- ---- a damaged block
 
-damaged-here : (old mid : NodesValue) (first i : ℕ) (bytes : List ℕ) (added : List NodePage) → AreAdded old mid first (take (4096 * i) bytes) added → IsDamagedPage mid (first + i) (block_of_bytes bytes i) → IsNoPage (block_of_bytes bytes i) ⊎ IsWrongPage old first added (first + i) (block_of_bytes bytes i)
+damaged-here : (old mid : TreesValue) (first i : ℕ) (bytes : List ℕ) (added : List NodePage) → AreAdded old mid first (take (4096 * i) bytes) added → IsDamagedPage mid (first + i) (block_of_bytes bytes i) → IsNoPage (block_of_bytes bytes i) ⊎ IsWrongPage old first added (first + i) (block_of_bytes bytes i)
 damaged-here old mid first i bytes added are (inl none) = inl none
 damaged-here old mid first i bytes added are (inr here) =
     inr (record {
@@ -192,7 +193,7 @@ damaged-here old mid first i bytes added are (inr here) =
           here.wrong with (are.known pages known).each (knows-all with mid here.page (are.known pages known));
     })
 
-pub damaged-block : (old mid : NodesValue) (first i : ℕ) (bytes : List ℕ) (added : List NodePage) → AreAdded old mid first (take (4096 * i) bytes) added → length added ≡ i → 4096 * i < length bytes → IsDamagedPage mid (first + i) (block_of_bytes bytes i) → IsDamagedBlock old mid first bytes (first + i)
+pub damaged-block : (old mid : TreesValue) (first i : ℕ) (bytes : List ℕ) (added : List NodePage) → AreAdded old mid first (take (4096 * i) bytes) added → length added ≡ i → 4096 * i < length bytes → IsDamagedPage mid (first + i) (block_of_bytes bytes i) → IsDamagedBlock old mid first bytes (first + i)
 damaged-block old mid first i bytes added are n lt here =
     record {
       before = added;
@@ -205,13 +206,13 @@ damaged-block old mid first i bytes added are n lt here =
 -- ---- the blocks so far
 
 -- The first i blocks were added.
-pub record AreAddedTo (i : ℕ) (old new : NodesValue) (first : ℕ) (bytes : List ℕ) : Type 0 where
+pub record AreAddedTo (i : ℕ) (old new : TreesValue) (first : ℕ) (bytes : List ℕ) : Type 0 where
   pub added : List NodePage
   pub number : length added ≡ i
   pub are : AreAdded old new first (take (4096 * i) bytes) added
   pub above : IsAbove (first + i) new
 
-pub to-none : (nodes : NodesValue) (first : ℕ) (bytes : List ℕ) → IsAbove first nodes → AreAddedTo 0 nodes nodes first bytes
+pub to-none : (nodes : TreesValue) (first : ℕ) (bytes : List ℕ) → IsAbove first nodes → AreAddedTo 0 nodes nodes first bytes
 to-none nodes first bytes above =
     let same : first ≡ first + 0 = omega arith in
     record { added = []; number = refl; are = added-none nodes first bytes above; above = subst (λ b. IsAbove b nodes) same above }
@@ -219,7 +220,7 @@ to-none nodes first bytes above =
 length-last : (xs : List NodePage) (x : NodePage) → length (xs ++ x ∷ []) ≡ length xs + 1
 length-last xs x = length-append xs (x ∷ [])
 
-pub to-more : (old mid new : NodesValue) (first i : ℕ) (bytes : List ℕ) → AreAddedTo i old mid first bytes → IsAddedPage mid new (first + i) (block_of_bytes bytes i) → IsAbove (first + i + 1) new → AreAddedTo (i + 1) old new first bytes
+pub to-more : (old mid new : TreesValue) (first i : ℕ) (bytes : List ℕ) → AreAddedTo i old mid first bytes → IsAddedPage mid new (first + i) (block_of_bytes bytes i) → IsAbove (first + i + 1) new → AreAddedTo (i + 1) old new first bytes
 to-more old mid new first i bytes to here above =
     let up : first + i + 1 ≡ first + (i + 1) = omega arith in
     record {
@@ -229,6 +230,6 @@ to-more old mid new first i bytes to here above =
       above = subst (λ b. IsAbove b new) up above;
     }
 
-pub to-all : (old new : NodesValue) (first i : ℕ) (bytes : List ℕ) → AreAddedTo i old new first bytes → length bytes ≤ 4096 * i → AllWereAdded old new first bytes
+pub to-all : (old new : TreesValue) (first i : ℕ) (bytes : List ℕ) → AreAddedTo i old new first bytes → length bytes ≤ 4096 * i → AllWereAdded old new first bytes
 to-all old new first i bytes to le =
     (to.added, subst (λ xs. AreAdded old new first xs to.added) (take_all (4096 * i) bytes le) to.are)

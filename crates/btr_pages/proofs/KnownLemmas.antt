@@ -31,19 +31,20 @@ use Rattle.btr_node.specs.declared.page.PageHeader.{PageHeader}
 use Rattle.btr_node.specs.declared.page.NodePage.{NodePage}
 use Rattle.btr_node.specs.declared.page.NodePage.TheVariants.{Leaf, Inner}
 use Rattle.btr_node.specs.declared.page.PageSlot.{PageSlot}
-use Rattle.btr_pages.specs.Pages.{Pages, with_pages, slot_of_page, node_of_page, node_of_stream, nodes_in, IsChildPage, HasChildPage, IsPageAt}
-use Rattle.btr_pages.specs.Known.{KnownValue, NodesValue, node_at, CameFrom, IsKnown, AreKnown, ArePartOf, KnowsChildren, TakesPage}
+use Rattle.btr_tree.specs.PageNodes.{Pages, slot_of_page, node_of_page, node_of_stream, nodes_in, IsChildPage}
+use Rattle.btr_pages.specs.Pages.{with_pages, HasChildPage, IsPageAt}
+use Rattle.btr_pages.specs.Known.{KnownValue, TreesValue, node_at, CameFrom, IsKnown, AreKnown, ArePartOf, KnowsChildren, TakesPage}
 use Rattle.btr_pages.specs.Made.{IsReadTree, IsKnownChild, HasKnownChild, MayHaveChild, IsBuildable, part_of, ArePartsTo, versions_of, AreLeafPoints, IsLeafMade, IsInnerMade, IsMadeAt}
 use Rattle.btr_pages.proofs.LeafLemmas.{leaf-points}
 use Rattle.btr_pages.proofs.NumberLemmas.{added-here, added-other, none-there}
 use Rattle.btr_pages.proofs.PartLemmas.{parts-count, all-have, version-at, at-slot, no-slot}
 
 -- No tree is of this block, nor of one above.
-abbrev pub IsAbove : ℕ → NodesValue → Type 0
+abbrev pub IsAbove : ℕ → TreesValue → Type 0
 IsAbove block nodes = (k : ℕ) → IsSome (node_at nodes k) → k < block
 
 -- The tree of a block is of that block.
-pub block-at : (nodes : NodesValue) (b : ℕ) (k : KnownValue) → node_at nodes b ≡ Some k → k.block ≡ b
+pub block-at : (nodes : TreesValue) (b : ℕ) (k : KnownValue) → node_at nodes b ≡ Some k → k.block ≡ b
 block-at [] b k e = absurd (cc)
 block-at (n ∷ ns) b k at =
     elim (nat_eq n.block b) as (λ t. nat_eq n.block b ≡ t → cond t (Some n) (node_at ns b) ≡ Some k → k.block ≡ b) [
@@ -55,11 +56,11 @@ block-at (n ∷ ns) b k at =
     ] refl at
 
 -- What is known of a tree that was made.
-pub known-at : (pages : Pages) (nodes : NodesValue) (b : ℕ) (k : KnownValue) → ArePartOf pages nodes → node_at nodes b ≡ Some k → IsKnown pages k
+pub known-at : (pages : Pages) (nodes : TreesValue) (b : ℕ) (k : KnownValue) → ArePartOf pages nodes → node_at nodes b ≡ Some k → IsKnown pages k
 known-at pages nodes b k are at = subst (λ o. IfSome o (IsKnown pages)) at (are b)
 
 -- If all pages have a tree, those of the children of a page have one.
-pub knows-all : (pages : Pages) (nodes : NodesValue) (page : NodePage) → AreKnown pages nodes → KnowsChildren pages nodes page
+pub knows-all : (pages : Pages) (nodes : TreesValue) (page : NodePage) → AreKnown pages nodes → KnowsChildren pages nodes page
 knows-all pages nodes page are i =
     elim (slice_get (slots_of_page page) i) as (λ o. IfSome o (λ slot. 0 < slot.agg.count → IsSome (pages slot.child) → IsSome (node_at nodes slot.child))) [
       | None ↦ tt
@@ -68,7 +69,7 @@ knows-all pages nodes page are i =
 
 -- ---- a page stands rightly exactly if the trees of its children were made
 
-child-right : (pages : Pages) (nodes : NodesValue) (block : ℕ) (page : NodePage) (i : ℕ) (slot : PageSlot) → ArePartOf pages nodes → HasKnownChild nodes block (slot_of (span_of_page page) i) (header page).stream slot → HasChildPage pages block page i slot
+child-right : (pages : Pages) (nodes : TreesValue) (block : ℕ) (page : NodePage) (i : ℕ) (slot : PageSlot) → ArePartOf pages nodes → HasKnownChild nodes block (slot_of (span_of_page page) i) (header page).stream slot → HasChildPage pages block page i slot
 child-right pages nodes block page i slot are has =
     let known = known-at pages nodes slot.child has.known are has.is in
     let at = block-at nodes slot.child has.known has.is in
@@ -84,11 +85,11 @@ child-right pages nodes block page i slot are has =
       };
     }
 
-slot-right : (pages : Pages) (nodes : NodesValue) (block : ℕ) (page : NodePage) (i : ℕ) (o : Option PageSlot) → ArePartOf pages nodes → IfSome o (MayHaveChild nodes block (slot_of (span_of_page page) i) (header page).stream) → IfSome o (λ slot. 0 < slot.agg.count → HasChildPage pages block page i slot)
+slot-right : (pages : Pages) (nodes : TreesValue) (block : ℕ) (page : NodePage) (i : ℕ) (o : Option PageSlot) → ArePartOf pages nodes → IfSome o (MayHaveChild nodes block (slot_of (span_of_page page) i) (header page).stream) → IfSome o (λ slot. 0 < slot.agg.count → HasChildPage pages block page i slot)
 slot-right pages nodes block page i None are may = may
 slot-right pages nodes block page i (Some slot) are may = λ some. child-right pages nodes block page i slot are (may some)
 
-pub page-right : (pages : Pages) (nodes : NodesValue) (block : ℕ) (page : NodePage) → ArePartOf pages nodes → Keeps page → IsBuildable nodes block page → IsPageAt pages block page
+pub page-right : (pages : Pages) (nodes : TreesValue) (block : ℕ) (page : NodePage) → ArePartOf pages nodes → Keeps page → IsBuildable nodes block page → IsPageAt pages block page
 page-right pages nodes block page are keeps may =
     record {
       keeps = keeps;
@@ -96,14 +97,14 @@ page-right pages nodes block page are keeps may =
     }
 
 -- A tree that was made, where there is one.
-some-known : (nodes : NodesValue) (b : ℕ) → IsSome (node_at nodes b) → (k : KnownValue) × (node_at nodes b ≡ Some k)
+some-known : (nodes : TreesValue) (b : ℕ) → IsSome (node_at nodes b) → (k : KnownValue) × (node_at nodes b ≡ Some k)
 some-known nodes b =
     elim (node_at nodes b) as (λ o. node_at nodes b ≡ o → IsSome o → (k : KnownValue) × (node_at nodes b ≡ Some k)) [
       | None ↦ λ e some. absurd (cc)
       | Some k ↦ λ e some. (k, e)
     ] refl
 
-child-known : (pages : Pages) (nodes : NodesValue) (block : ℕ) (page : NodePage) (i : ℕ) (slot : PageSlot) → ArePartOf pages nodes → (IsSome (pages slot.child) → IsSome (node_at nodes slot.child)) → HasChildPage pages block page i slot → HasKnownChild nodes block (slot_of (span_of_page page) i) (header page).stream slot
+child-known : (pages : Pages) (nodes : TreesValue) (block : ℕ) (page : NodePage) (i : ℕ) (slot : PageSlot) → ArePartOf pages nodes → (IsSome (pages slot.child) → IsSome (node_at nodes slot.child)) → HasChildPage pages block page i slot → HasKnownChild nodes block (slot_of (span_of_page page) i) (header page).stream slot
 child-known pages nodes block page i slot are knows has =
     let found = some-known nodes slot.child (knows (subst IsSome (sym has.is) refl)) in
     let known = known-at pages nodes slot.child found.0 are found.1 in
@@ -124,12 +125,12 @@ child-known pages nodes block page i slot are knows has =
       };
     }
 
-slot-known : (pages : Pages) (nodes : NodesValue) (block : ℕ) (page : NodePage) (i : ℕ) (o : Option PageSlot) → ArePartOf pages nodes → IfSome o (λ slot. 0 < slot.agg.count → IsSome (pages slot.child) → IsSome (node_at nodes slot.child)) → IfSome o (λ slot. 0 < slot.agg.count → HasChildPage pages block page i slot) → IfSome o (MayHaveChild nodes block (slot_of (span_of_page page) i) (header page).stream)
+slot-known : (pages : Pages) (nodes : TreesValue) (block : ℕ) (page : NodePage) (i : ℕ) (o : Option PageSlot) → ArePartOf pages nodes → IfSome o (λ slot. 0 < slot.agg.count → IsSome (pages slot.child) → IsSome (node_at nodes slot.child)) → IfSome o (λ slot. 0 < slot.agg.count → HasChildPage pages block page i slot) → IfSome o (MayHaveChild nodes block (slot_of (span_of_page page) i) (header page).stream)
 slot-known pages nodes block page i None are knows has = has
 slot-known pages nodes block page i (Some slot) are knows has = λ some.
     child-known pages nodes block page i slot are (knows some) (has some)
 
-pub page-known : (pages : Pages) (nodes : NodesValue) (block : ℕ) (page : NodePage) → ArePartOf pages nodes → KnowsChildren pages nodes page → IsPageAt pages block page → IsBuildable nodes block page
+pub page-known : (pages : Pages) (nodes : TreesValue) (block : ℕ) (page : NodePage) → ArePartOf pages nodes → KnowsChildren pages nodes page → IsPageAt pages block page → IsBuildable nodes block page
 page-known pages nodes block page are knows right i =
     slot-known pages nodes block page i (slice_get (slots_of_page page) i) are (knows i) (right.children i)
 
@@ -161,7 +162,7 @@ version-of_inner v x (Some d) is = version-of_inner_kind v x (out-NodeData d) is
 pub leaf-count : (block version : ℕ) (span : SpanValue) (points : List Point) (t : TreeValue) → IsLeafMade block span version points t → t.total.count ≡ length points
 leaf-count block version span points t m = ap (λ (a : AggValue). a.count) m.is.total ∙ agg-count points
 
-pub inner-count : (nodes : NodesValue) (block : ℕ) (span : SpanValue) (number version : ℕ) (slots : List PageSlot) (t : TreeValue) → IsInnerMade nodes block span number version slots t → length slots ≡ 64 → t.total.count ≡ sum_by (λ s. s.agg.count) slots
+pub inner-count : (nodes : TreesValue) (block : ℕ) (span : SpanValue) (number version : ℕ) (slots : List PageSlot) (t : TreeValue) → IsInnerMade nodes block span number version slots t → length slots ≡ 64 → t.total.count ≡ sum_by (λ s. s.agg.count) slots
 inner-count nodes block span number version slots t m full =
     ap (λ (a : AggValue). a.count) m.is.total ∙ parts-count nodes block span number slots m.parts full m.are
 
@@ -177,7 +178,7 @@ record IsPartRead (store : Store) (below : ℕ) (start : ℤ) (slot : PageSlot) 
   child : slot.child ≡ block_of (part_node part)
   read : IfSome part (λ t. IsRead store below start t.node)
 
-part-known : (pages : Pages) (nodes : NodesValue) (block : ℕ) (span : SpanValue) (below number s i : ℕ) (slot : PageSlot) (k : KnownValue) → ArePartOf pages nodes → span.height ≡ suc below → s ≡ number → node_at nodes slot.child ≡ Some k → IsKnownChild block (slot_of span i) number slot k → IsPartRead (nodes_in pages s) below (slot_start below span.start i) slot (Some k.tree)
+part-known : (pages : Pages) (nodes : TreesValue) (block : ℕ) (span : SpanValue) (below number s i : ℕ) (slot : PageSlot) (k : KnownValue) → ArePartOf pages nodes → span.height ≡ suc below → s ≡ number → node_at nodes slot.child ≡ Some k → IsKnownChild block (slot_of span i) number slot k → IsPartRead (nodes_in pages s) below (slot_start below span.start i) slot (Some k.tree)
 part-known pages nodes block span below number s i slot k are high e at fits =
     let known = known-at pages nodes slot.child k are at in
     let place : k.tree.span ≡ record { start = slot_start below span.start i; height = below } = fits.span ∙ slot-part span below i high in
@@ -187,7 +188,7 @@ part-known pages nodes block span below number s i slot k are high e at fits =
           subst (λ (u : SpanValue). IsRead (nodes_in pages s) u.height u.start k.tree.node) place (subst (λ n. IsRead (nodes_in pages n) k.tree.span.height k.tree.span.start k.tree.node) (fits.stream ∙ sym e) known.made.read);
     }
 
-part-read_of : (pages : Pages) (nodes : NodesValue) (block : ℕ) (span : SpanValue) (below number s i version : ℕ) (slot : PageSlot) → ArePartOf pages nodes → span.height ≡ suc below → s ≡ number → IsSlot version slot → MayHaveChild nodes block (slot_of span i) number slot → IsPartRead (nodes_in pages s) below (slot_start below span.start i) slot (part_of nodes (Some slot))
+part-read_of : (pages : Pages) (nodes : TreesValue) (block : ℕ) (span : SpanValue) (below number s i version : ℕ) (slot : PageSlot) → ArePartOf pages nodes → span.height ≡ suc below → s ≡ number → IsSlot version slot → MayHaveChild nodes block (slot_of span i) number slot → IsPartRead (nodes_in pages s) below (slot_start below span.start i) slot (part_of nodes (Some slot))
 part-read_of pages nodes block span below number s i version slot are high e keeps may =
     elim (nat_eq slot.agg.count 0) as (λ b. nat_eq slot.agg.count 0 ≡ b → IsPartRead (nodes_in pages s) below (slot_start below span.start i) slot (cond b None (option_map (λ k. k.tree) (node_at nodes slot.child)))) [
       | true ↦ λ t. record { child = keeps.no_child (grind (arith, nat_tests)); read = tt }
@@ -197,7 +198,7 @@ part-read_of pages nodes block span below number s i version slot are high e kee
           subst (λ o. IsPartRead (nodes_in pages s) below (slot_start below span.start i) slot (option_map (λ k. k.tree) o)) (sym has.is) (part-known pages nodes block span below number s i slot has.known are high e has.is has.fits)
     ] refl
 
-part-read_at : (pages : Pages) (nodes : NodesValue) (block : ℕ) (span : SpanValue) (below number s version : ℕ) (slots : List PageSlot) (parts : List (ℕ × TreeValue)) → ArePartOf pages nodes → span.height ≡ suc below → s ≡ number → length slots ≡ 64 → AllByRecursion (IsSlot version) slots → ArePartsTo 64 nodes block span number slots parts → (i : ℕ) → i < 64 → IsPartRead (nodes_in pages s) below (slot_start below span.start i) (get_or slots i no-slot) (part_at parts i)
+part-read_at : (pages : Pages) (nodes : TreesValue) (block : ℕ) (span : SpanValue) (below number s version : ℕ) (slots : List PageSlot) (parts : List (ℕ × TreeValue)) → ArePartOf pages nodes → span.height ≡ suc below → s ≡ number → length slots ≡ 64 → AllByRecursion (IsSlot version) slots → ArePartsTo 64 nodes block span number slots parts → (i : ℕ) → i < 64 → IsPartRead (nodes_in pages s) below (slot_start below span.start i) (get_or slots i no-slot) (part_at parts i)
 part-read_at pages nodes block span below number s version slots parts are high e full all a i lt =
     let at = at-slot slots i (omega arith) in
     let slot = get_or slots i no-slot in
@@ -215,7 +216,7 @@ slot-of_part slots below i start store part lt r =
     let at = at-slot slots i lt in
     subst (λ o. IsSlotOf o (get_or (versions_of slots) i 0) (part_node part)) (sym (slice_get-map slot_of_page slots i ∙ ap (option_map slot_of_page) at)) (sym (version-at slots i (get_or slots i no-slot) at), r.child)
 
-inner-known : (pages : Pages) (nodes : NodesValue) (block : ℕ) (page : NodePage) (s number version : ℕ) (span : SpanValue) (slots : List PageSlot) (t : TreeValue) → ArePartOf pages nodes → pages block ≡ Some page → 1 ≤ block → 1 ≤ span.height → s ≡ (header page).stream → s ≡ number → length slots ≡ 64 → AllByRecursion (IsSlot version) slots → node_of_page page ≡ record { span = span; version = version; points = []; slots = map slot_of_page slots } → IsInnerMade nodes block span number version slots t → IsRead (nodes_in pages s) t.span.height t.span.start t.node
+inner-known : (pages : Pages) (nodes : TreesValue) (block : ℕ) (page : NodePage) (s number version : ℕ) (span : SpanValue) (slots : List PageSlot) (t : TreeValue) → ArePartOf pages nodes → pages block ≡ Some page → 1 ≤ block → 1 ≤ span.height → s ≡ (header page).stream → s ≡ number → length slots ≡ 64 → AllByRecursion (IsSlot version) slots → node_of_page page ≡ record { span = span; version = version; points = []; slots = map slot_of_page slots } → IsInnerMade nodes block span number version slots t → IsRead (nodes_in pages s) t.span.height t.span.start t.node
 inner-known pages nodes block page s number version span slots t are here some high e f full all node m =
     let store = nodes_in pages s in
     let below = span.height - 1 in
@@ -233,7 +234,7 @@ inner-known pages nodes block page s number version span slots t are here some h
     }))
 
 -- The tree that was made was made of the page, with all below it.
-pub made-of_page : (pages : Pages) (nodes : NodesValue) (block : ℕ) (page : NodePage) (k : KnownValue) → ArePartOf pages nodes → pages block ≡ Some page → 1 ≤ block → Keeps page → Fits page → IsMadeAt nodes block page k → CameFrom pages page k
+pub made-of_page : (pages : Pages) (nodes : TreesValue) (block : ℕ) (page : NodePage) (k : KnownValue) → ArePartOf pages nodes → pages block ≡ Some page → 1 ≤ block → Keeps page → Fits page → IsMadeAt nodes block page k → CameFrom pages page k
 made-of_page pages nodes block (Leaf start height stream version count points) k are here some keeps fits m =
     let page = Leaf start height stream version count points in
     let span : SpanValue = record { start = start; height = height } in
@@ -279,11 +280,11 @@ page-here pages block page =
     pages-from pages block block (page ∷ []) (omega arith) ∙ ap (slice_get (page ∷ [])) (let e : block - block ≡ 0 = omega arith in e)
 
 -- Each block that has a page is below one that is above all trees.
-page-below : (pages : Pages) (nodes : NodesValue) (block b : ℕ) (p : NodePage) → AreKnown pages nodes → IsAbove block nodes → pages b ≡ Some p → b < block
+page-below : (pages : Pages) (nodes : TreesValue) (block b : ℕ) (p : NodePage) → AreKnown pages nodes → IsAbove block nodes → pages b ≡ Some p → b < block
 page-below pages nodes block b p are above at = above b (are.all b (subst IsSome (sym at) refl))
 
 -- The nodes of a stream stay in their blocks.
-store-along : (pages : Pages) (nodes : NodesValue) (block : ℕ) (new : List NodePage) → AreKnown pages nodes → IsAbove block nodes → (s b : ℕ) (n : NewNodeValue) → nodes_in pages s b ≡ Some n → nodes_in (with_pages pages block new) s b ≡ Some n
+store-along : (pages : Pages) (nodes : TreesValue) (block : ℕ) (new : List NodePage) → AreKnown pages nodes → IsAbove block nodes → (s b : ℕ) (n : NewNodeValue) → nodes_in pages s b ≡ Some n → nodes_in (with_pages pages block new) s b ≡ Some n
 store-along pages nodes block new are above s b n at =
     elim (pages b) as (λ o. pages b ≡ o → option_and_then (node_of_stream s) o ≡ Some n → nodes_in (with_pages pages block new) s b ≡ Some n) [
       | None ↦ λ e none. absurd (cc)
@@ -292,7 +293,7 @@ store-along pages nodes block new are above s b n at =
     ] refl at
 
 -- A tree that was made of one of the pages was made of one of those with more.
-made-along : (pages : Pages) (nodes : NodesValue) (block : ℕ) (new : List NodePage) (page : NodePage) (k : KnownValue) → AreKnown pages nodes → IsAbove block nodes → CameFrom pages page k → CameFrom (with_pages pages block new) page k
+made-along : (pages : Pages) (nodes : TreesValue) (block : ℕ) (new : List NodePage) (page : NodePage) (k : KnownValue) → AreKnown pages nodes → IsAbove block nodes → CameFrom pages page k → CameFrom (with_pages pages block new) page k
 made-along pages nodes block new page k are above m =
     record {
       keeps = m.keeps;
@@ -305,7 +306,7 @@ made-along pages nodes block new page k are above m =
       read = read-along (nodes_in pages k.stream) (nodes_in (with_pages pages block new) k.stream) (store-along pages nodes block new are above k.stream) k.tree.span.height k.tree.span.start k.tree.node m.read;
     }
 
-known-along : (pages : Pages) (nodes : NodesValue) (block : ℕ) (new : List NodePage) (k : KnownValue) → AreKnown pages nodes → IsAbove block nodes → IsKnown pages k → IsKnown (with_pages pages block new) k
+known-along : (pages : Pages) (nodes : TreesValue) (block : ℕ) (new : List NodePage) (k : KnownValue) → AreKnown pages nodes → IsAbove block nodes → IsKnown pages k → IsKnown (with_pages pages block new) k
 known-along pages nodes block new k are above is =
     record {
       page = is.page;
@@ -314,7 +315,7 @@ known-along pages nodes block new k are above is =
     }
 
 -- The trees are those of the pages with more.
-part-still : (pages : Pages) (nodes : NodesValue) (block : ℕ) (new : List NodePage) → AreKnown pages nodes → IsAbove block nodes → ArePartOf (with_pages pages block new) nodes
+part-still : (pages : Pages) (nodes : TreesValue) (block : ℕ) (new : List NodePage) → AreKnown pages nodes → IsAbove block nodes → ArePartOf (with_pages pages block new) nodes
 part-still pages nodes block new are above c =
     elim (node_at nodes c) as (λ o. node_at nodes c ≡ o → IfSome o (IsKnown (with_pages pages block new))) [
       | None ↦ λ e. tt
@@ -328,15 +329,15 @@ some-none None some none = absurd (cc)
 some-none (Some k) some none = absurd (cc)
 
 -- A tree is found as before.
-pub added-kept : (nodes : NodesValue) (k : KnownValue) (c : ℕ) → IsNone (node_at nodes k.block) → IsSome (node_at nodes c) → node_at (nodes ++ k ∷ []) c ≡ node_at nodes c
+pub added-kept : (nodes : TreesValue) (k : KnownValue) (c : ℕ) → IsNone (node_at nodes k.block) → IsSome (node_at nodes c) → node_at (nodes ++ k ∷ []) c ≡ node_at nodes c
 added-kept nodes k c fresh some =
     added-other nodes k c (λ same. some-none (node_at nodes c) some (subst (λ b. IsNone (node_at nodes b)) same fresh))
 
-pub added-itself : (nodes : NodesValue) (k : KnownValue) → IsNone (node_at nodes k.block) → node_at (nodes ++ k ∷ []) k.block ≡ Some k
+pub added-itself : (nodes : TreesValue) (k : KnownValue) → IsNone (node_at nodes k.block) → node_at (nodes ++ k ∷ []) k.block ≡ Some k
 added-itself nodes k fresh = added-here nodes k (none-there nodes k.block fresh)
 
 -- No other block gets a tree.
-pub added-only : (nodes : NodesValue) (k : KnownValue) (c : ℕ) → IsSome (node_at (nodes ++ k ∷ []) c) → (c ≡ k.block) ⊎ IsSome (node_at nodes c)
+pub added-only : (nodes : TreesValue) (k : KnownValue) (c : ℕ) → IsSome (node_at (nodes ++ k ∷ []) c) → (c ≡ k.block) ⊎ IsSome (node_at nodes c)
 added-only nodes k c some =
     elim (nat_eq k.block c) as (λ u. nat_eq k.block c ≡ u → (c ≡ k.block) ⊎ IsSome (node_at nodes c)) [
       | true ↦ λ e. inl (let same : c ≡ k.block = grind (arith, nat_tests) in same)
@@ -346,7 +347,7 @@ added-only nodes k c some =
     ] refl
 
 -- The trees with one that was made of one of the pages.
-pub part-more : (pages : Pages) (nodes : NodesValue) (page : NodePage) (k : KnownValue) → ArePartOf pages nodes → IsNone (node_at nodes k.block) → pages k.block ≡ Some page → CameFrom pages page k → ArePartOf pages (nodes ++ k ∷ [])
+pub part-more : (pages : Pages) (nodes : TreesValue) (page : NodePage) (k : KnownValue) → ArePartOf pages nodes → IsNone (node_at nodes k.block) → pages k.block ≡ Some page → CameFrom pages page k → ArePartOf pages (nodes ++ k ∷ [])
 part-more pages nodes page k are fresh here made c =
     elim (nat_eq k.block c) as (λ u. nat_eq k.block c ≡ u → IfSome (node_at (nodes ++ k ∷ []) c) (IsKnown pages)) [
       | true ↦ λ e.
@@ -362,7 +363,7 @@ from-page page zero some = refl
 from-page page (suc n) some = absurd (cc)
 
 -- Each block that has a page has a tree, also with one page and its tree more.
-all-more : (pages : Pages) (nodes : NodesValue) (page : NodePage) (k : KnownValue) (c : ℕ) → AreKnown pages nodes → IsNone (node_at nodes k.block) → IsSome (with_pages pages k.block (page ∷ []) c) → IsSome (node_at (nodes ++ k ∷ []) c)
+all-more : (pages : Pages) (nodes : TreesValue) (page : NodePage) (k : KnownValue) (c : ℕ) → AreKnown pages nodes → IsNone (node_at nodes k.block) → IsSome (with_pages pages k.block (page ∷ []) c) → IsSome (node_at (nodes ++ k ∷ []) c)
 all-more pages nodes page k c are fresh some =
     let block = k.block in
     elim (cases_lt c block) [
@@ -376,17 +377,17 @@ all-more pages nodes page k c are fresh some =
     ]
 
 -- The trees of a page's children were made, where its own was.
-pub made-buildable : (nodes : NodesValue) (block : ℕ) (page : NodePage) (k : KnownValue) → Fits page → IsMadeAt nodes block page k → IsBuildable nodes block page
+pub made-buildable : (nodes : TreesValue) (block : ℕ) (page : NodePage) (k : KnownValue) → Fits page → IsMadeAt nodes block page k → IsBuildable nodes block page
 made-buildable nodes block (Leaf start height stream version count points) k fits m i = tt
 made-buildable nodes block (Inner start height stream version count slots) k fits m i =
     all-have nodes block (record { start = start; height = height }) stream slots m.tree.parts fits.1 m.tree.are i
 
 -- No other block than this one has a tree that it had not before.
-abbrev pub HasOnly : NodesValue → NodesValue → ℕ → Type 0
+abbrev pub HasOnly : TreesValue → TreesValue → ℕ → Type 0
 HasOnly old new block = (k : ℕ) → IsSome (node_at new k) → (k ≡ block) ⊎ IsSome (node_at old k)
 
 -- The tree of the page in its own block was added.
-takes : (nodes : NodesValue) (page : NodePage) (k : KnownValue) → 1 ≤ k.block → IsNone (node_at nodes k.block) → Keeps page → Fits page → IsMadeAt nodes k.block page k → TakesPage nodes (nodes ++ k ∷ []) k.block page
+takes : (nodes : TreesValue) (page : NodePage) (k : KnownValue) → 1 ≤ k.block → IsNone (node_at nodes k.block) → Keeps page → Fits page → IsMadeAt nodes k.block page k → TakesPage nodes (nodes ++ k ∷ []) k.block page
 takes nodes page k some fresh keeps fits m =
     let block = k.block in
     let part : (pages : Pages) → ArePartOf pages nodes → pages block ≡ Some page → ArePartOf pages (nodes ++ k ∷ []) = λ pages are here.
@@ -403,7 +404,7 @@ takes nodes page k some fresh keeps fits m =
     }
 
 -- The tree that was made was added, and no other.
-pub addition : (old new : NodesValue) (block : ℕ) (page : NodePage) (k : KnownValue) → 1 ≤ block → IsNone (node_at old block) → Keeps page → Fits page → IsMadeAt old block page k → new ≡ old ++ k ∷ [] → TakesPage old new block page × HasOnly old new block
+pub addition : (old new : TreesValue) (block : ℕ) (page : NodePage) (k : KnownValue) → 1 ≤ block → IsNone (node_at old block) → Keeps page → Fits page → IsMadeAt old block page k → new ≡ old ++ k ∷ [] → TakesPage old new block page × HasOnly old new block
 addition old new block page k some fresh keeps fits m is =
     let at = m.its_block in
     let here : TakesPage old (old ++ k ∷ []) k.block page = takes old page k (subst (λ b. 1 ≤ b) (sym at) some) (subst (λ b. IsNone (node_at old b)) (sym at) fresh) keeps fits (subst (λ b. IsMadeAt old b page k) (sym at) m) in
@@ -415,6 +416,6 @@ leaf-counted block version span f points t keeps full m =
     let to = keeps.count_to in
     record { opened = m.opened; is = sym (leaf-count block version span (take f.count points) t m ∙ length-take-le f.count points (omega arith)) }
 
-pub inner-counted : (nodes : NodesValue) (block number version : ℕ) (span : SpanValue) (f : PageHeader) (slots : List PageSlot) (t : TreeValue) → IsInnerPage f slots → length slots ≡ 64 → IsInnerMade nodes block span number version slots t → IsReadTree f.count t
+pub inner-counted : (nodes : TreesValue) (block number version : ℕ) (span : SpanValue) (f : PageHeader) (slots : List PageSlot) (t : TreeValue) → IsInnerPage f slots → length slots ≡ 64 → IsInnerMade nodes block span number version slots t → IsReadTree f.count t
 inner-counted nodes block number version span f slots t keeps full m =
     record { opened = m.opened; is = sym (inner-count nodes block span number version slots t m full ∙ keeps.total) }

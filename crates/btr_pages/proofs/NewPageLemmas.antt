@@ -13,7 +13,8 @@ use Rattle.btr_node.specs.declared.page.PageHeader.{PageHeader}
 use Rattle.btr_node.specs.Page.{header_bytes, page_bytes, places_with, slot_bytes, zeros}
 use Rattle.btr_node.specs.declared.page.NodePage.TheVariants.{Leaf, Inner}
 use Rattle.btr_node.specs.declared.page.PageSlot.{PageSlot}
-use Rattle.btr_pages.specs.Pages.{unused, places_of, page_slot, unused_slot, page_slots_of, page_with, page_of}
+use Rattle.btr_tree.specs.PageNodes.{unused_slot}
+use Rattle.btr_pages.specs.Pages.{unused, places_of, page_slot, page_slots_of, page_with, page_of}
 use Rattle.btr_pages.proofs.PageOfLemmas.{fill-length, get_or-fill}
 
 -- ---- slots

@@ -24,7 +24,8 @@ use Rattle.btr_node.specs.Page.{header, IsInside, IsUnused, IsSlot, Keeps, FitsH
 use Rattle.btr_node.specs.declared.page.NodePage.{NodePage}
 use Rattle.btr_node.specs.declared.page.NodePage.TheVariants.{Leaf, Inner}
 use Rattle.btr_node.specs.declared.page.PageSlot.{PageSlot}
-use Rattle.btr_pages.specs.Pages.{slot_of_page, node_of_page, unused, page_slot, unused_slot, page_slots_of, page_by, page_with, page_of}
+use Rattle.btr_tree.specs.PageNodes.{slot_of_page, node_of_page, unused_slot}
+use Rattle.btr_pages.specs.Pages.{unused, page_slot, page_slots_of, page_by, page_with, page_of}
 
 -- ---- lists
 

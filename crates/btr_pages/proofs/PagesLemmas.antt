@@ -7,8 +7,9 @@ use Rattle.btr_tree.proofs.ReadLemmas.{read-along}
 use Rattle.btr_node.specs.declared.page.NodePage.{NodePage}
 use Rattle.btr_node.specs.declared.page.PageSlot.{PageSlot}
 use Rattle.btr_node.specs.Page.{slots_of_page}
-use Rattle.btr_pages.specs.Pages.{Pages, no_pages, with_pages, node_of_stream, nodes_in, HasChildPage, IsPageAt, ArePages}
-use Rattle.btr_pages.specs.Known.{KnownValue, NodesValue, node_at, IsKnown, AreKnown}
+use Rattle.btr_tree.specs.PageNodes.{Pages, node_of_stream, nodes_in}
+use Rattle.btr_pages.specs.Pages.{no_pages, with_pages, HasChildPage, IsPageAt, ArePages}
+use Rattle.btr_pages.specs.Known.{KnownValue, TreesValue, node_at, IsKnown, AreKnown}
 use Rattle.btr_pages.proofs.KnownLemmas.{pages-below, pages-from}
 
 -- ---- no pages
@@ -41,7 +42,7 @@ same-at pages more same None is = is
 same-at pages more same (Some k) is = same-known pages more same k is
 
 -- Trees of pages are trees of the same pages.
-pub known-same : (pages more : Pages) (nodes : NodesValue) → ((b : ℕ) → more b ≡ pages b) → AreKnown pages nodes → AreKnown more nodes
+pub known-same : (pages more : Pages) (nodes : TreesValue) → ((b : ℕ) → more b ≡ pages b) → AreKnown pages nodes → AreKnown more nodes
 known-same pages more nodes same are =
     record {
       each = λ b. same-at pages more same (node_at nodes b) (are.each b);

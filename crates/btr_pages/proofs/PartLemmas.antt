@@ -15,7 +15,7 @@ use Rattle.btr_tree.specs.Root.{TreeValue}
 use Rattle.btr_tree.proofs.OpenedLemmas.{parts-next, parts-first}
 use Rattle.btr_node.specs.Page.{IsSlot}
 use Rattle.btr_node.specs.declared.page.PageSlot.{PageSlot}
-use Rattle.btr_pages.specs.Known.{NodesValue, node_at}
+use Rattle.btr_pages.specs.Known.{TreesValue, node_at}
 use Rattle.btr_pages.specs.Made.{HasKnownChild, MayHaveChild, HaveKnownChildren, part_of, ArePartsTo, versions_of}
 
 -- ---- one part more
@@ -36,7 +36,7 @@ push-same (p ∷ ps) i t none =
 
 -- ---- the parts of the slots so far
 
-pub none-yet : (nodes : NodesValue) (block : ℕ) (span : SpanValue) (number : ℕ) (slots : List PageSlot) → ArePartsTo 0 nodes block span number slots []
+pub none-yet : (nodes : TreesValue) (block : ℕ) (span : SpanValue) (number : ℕ) (slots : List PageSlot) → ArePartsTo 0 nodes block span number slots []
 none-yet nodes block span number slots =
     record { have = λ i lt. absurd (omega arith); are = λ i lt. absurd (omega arith); no_more = λ i le. refl }
 
@@ -45,7 +45,7 @@ below P n i lt before here =
     elim (cases_lt i n) [ inl less ↦ before i less | inr le ↦ subst P (let e : n ≡ i = omega arith in e) here ]
 
 -- A slot without a point has no part.
-pub one-skipped : (n : ℕ) (nodes : NodesValue) (block : ℕ) (span : SpanValue) (number : ℕ) (slots : List PageSlot) (parts : List (ℕ × TreeValue)) (slot : PageSlot) → ArePartsTo n nodes block span number slots parts → slice_get slots n ≡ Some slot → slot.agg.count ≡ 0 → ArePartsTo (n + 1) nodes block span number slots parts
+pub one-skipped : (n : ℕ) (nodes : TreesValue) (block : ℕ) (span : SpanValue) (number : ℕ) (slots : List PageSlot) (parts : List (ℕ × TreeValue)) (slot : PageSlot) → ArePartsTo n nodes block span number slots parts → slice_get slots n ≡ Some slot → slot.agg.count ≡ 0 → ArePartsTo (n + 1) nodes block span number slots parts
 one-skipped n nodes block span number slots parts slot a at empty =
     record {
       have = λ i lt.
@@ -56,7 +56,7 @@ one-skipped n nodes block span number slots parts slot a at empty =
     }
 
 -- A slot with a point has the tree of its child as a part.
-pub one-more : (n : ℕ) (nodes : NodesValue) (block : ℕ) (span : SpanValue) (number : ℕ) (slots : List PageSlot) (parts : List (ℕ × TreeValue)) (slot : PageSlot) (t : TreeValue) → ArePartsTo n nodes block span number slots parts → slice_get slots n ≡ Some slot → HasKnownChild nodes block (slot_of span n) number slot → part_of nodes (Some slot) ≡ Some t → ArePartsTo (n + 1) nodes block span number slots (parts ++ (n, t) ∷ [])
+pub one-more : (n : ℕ) (nodes : TreesValue) (block : ℕ) (span : SpanValue) (number : ℕ) (slots : List PageSlot) (parts : List (ℕ × TreeValue)) (slot : PageSlot) (t : TreeValue) → ArePartsTo n nodes block span number slots parts → slice_get slots n ≡ Some slot → HasKnownChild nodes block (slot_of span n) number slot → part_of nodes (Some slot) ≡ Some t → ArePartsTo (n + 1) nodes block span number slots (parts ++ (n, t) ∷ [])
 one-more n nodes block span number slots parts slot t a at has is =
     record {
       have = λ i lt.
@@ -67,12 +67,12 @@ one-more n nodes block span number slots parts slot t a at has is =
     }
 
 -- A slot whose child is not there.
-pub not-all : (nodes : NodesValue) (block : ℕ) (span : SpanValue) (number i : ℕ) (slots : List PageSlot) (slot : PageSlot) → slice_get slots i ≡ Some slot → 0 < slot.agg.count → (HasKnownChild nodes block (slot_of span i) number slot → ⊥) → HaveKnownChildren nodes block span number slots → ⊥
+pub not-all : (nodes : TreesValue) (block : ℕ) (span : SpanValue) (number i : ℕ) (slots : List PageSlot) (slot : PageSlot) → slice_get slots i ≡ Some slot → 0 < slot.agg.count → (HasKnownChild nodes block (slot_of span i) number slot → ⊥) → HaveKnownChildren nodes block span number slots → ⊥
 not-all nodes block span number i slots slot at some none all =
     none (subst (λ o. IfSome o (MayHaveChild nodes block (slot_of span i) number)) at (all i) some)
 
 -- The children of all slots are there.
-pub all-have : (nodes : NodesValue) (block : ℕ) (span : SpanValue) (number : ℕ) (slots : List PageSlot) (parts : List (ℕ × TreeValue)) → length slots ≡ 64 → ArePartsTo 64 nodes block span number slots parts → HaveKnownChildren nodes block span number slots
+pub all-have : (nodes : TreesValue) (block : ℕ) (span : SpanValue) (number : ℕ) (slots : List PageSlot) (parts : List (ℕ × TreeValue)) → length slots ≡ 64 → ArePartsTo 64 nodes block span number slots parts → HaveKnownChildren nodes block span number slots
 all-have nodes block span number slots parts full a i =
     elim (cases_lt i 64) [
       | inl less ↦ a.have i less
@@ -82,7 +82,7 @@ all-have nodes block span number slots parts full a i =
 -- ---- the parts are those of an inner node
 
 -- A slot's part has the slot's count, version and span.
-part-is : (nodes : NodesValue) (block : ℕ) (span : SpanValue) (number i : ℕ) (slot : PageSlot) → MayHaveChild nodes block (slot_of span i) number slot → IfSome (part_of nodes (Some slot)) (IsPart span slot.version i)
+part-is : (nodes : TreesValue) (block : ℕ) (span : SpanValue) (number i : ℕ) (slot : PageSlot) → MayHaveChild nodes block (slot_of span i) number slot → IfSome (part_of nodes (Some slot)) (IsPart span slot.version i)
 part-is nodes block span number i slot may =
     elim (nat_eq slot.agg.count 0) as (λ b. nat_eq slot.agg.count 0 ≡ b → IfSome (cond b None (option_map (λ k. k.tree) (node_at nodes slot.child))) (IsPart span slot.version i)) [
       | true ↦ λ e. tt
@@ -98,7 +98,7 @@ part-is nodes block span number i slot may =
           })
     ] refl
 
-part-count : (nodes : NodesValue) (block : ℕ) (place : SpanValue) (number : ℕ) (slot : PageSlot) → MayHaveChild nodes block place number slot → (part_total (part_of nodes (Some slot))).count ≡ slot.agg.count
+part-count : (nodes : TreesValue) (block : ℕ) (place : SpanValue) (number : ℕ) (slot : PageSlot) → MayHaveChild nodes block place number slot → (part_total (part_of nodes (Some slot))).count ≡ slot.agg.count
 part-count nodes block place number slot may =
     elim (nat_eq slot.agg.count 0) as (λ b. nat_eq slot.agg.count 0 ≡ b → (part_total (cond b None (option_map (λ k. k.tree) (node_at nodes slot.child)))).count ≡ slot.agg.count) [
       | true ↦ λ e. grind (arith, nat_tests)
@@ -123,7 +123,7 @@ older-all [] version i all = omega arith
 older-all (s ∷ ss) version zero all = all.0.version_to
 older-all (s ∷ ss) version (suc i) all = older-all ss version i all.1
 
-counts-to : (n : ℕ) (nodes : NodesValue) (block : ℕ) (span : SpanValue) (number : ℕ) (slots : List PageSlot) (parts : List (ℕ × TreeValue)) → length slots ≡ 64 → n ≤ 64 → ArePartsTo 64 nodes block span number slots parts → (joined_parts n parts).count ≡ sum_by (λ s. s.agg.count) (take n slots)
+counts-to : (n : ℕ) (nodes : TreesValue) (block : ℕ) (span : SpanValue) (number : ℕ) (slots : List PageSlot) (parts : List (ℕ × TreeValue)) → length slots ≡ 64 → n ≤ 64 → ArePartsTo 64 nodes block span number slots parts → (joined_parts n parts).count ≡ sum_by (λ s. s.agg.count) (take n slots)
 counts-to zero nodes block span number slots parts full le a = sym (ap (λ x. x.count) (parts-first no_points parts refl))
 counts-to (suc n) nodes block span number slots parts full le a =
     let e : n + 1 ≡ suc n = omega arith in
@@ -136,11 +136,11 @@ counts-to (suc n) nodes block span number slots parts full le a =
     let more : sum_by (λ s. s.agg.count) (take (n + 1) slots) ≡ sum_by (λ s. s.agg.count) (take n slots) + slot.agg.count = sum_by_more (λ s. s.agg.count) slots n no-slot less in
     subst (λ m. (joined_parts m parts).count ≡ sum_by (λ s. s.agg.count) (take m slots)) e (omega arith)
 
-pub parts-count : (nodes : NodesValue) (block : ℕ) (span : SpanValue) (number : ℕ) (slots : List PageSlot) (parts : List (ℕ × TreeValue)) → length slots ≡ 64 → ArePartsTo 64 nodes block span number slots parts → (joined_parts 64 parts).count ≡ sum_by (λ s. s.agg.count) slots
+pub parts-count : (nodes : TreesValue) (block : ℕ) (span : SpanValue) (number : ℕ) (slots : List PageSlot) (parts : List (ℕ × TreeValue)) → length slots ≡ 64 → ArePartsTo 64 nodes block span number slots parts → (joined_parts 64 parts).count ≡ sum_by (λ s. s.agg.count) slots
 parts-count nodes block span number slots parts full a =
     counts-to 64 nodes block span number slots parts full (omega arith) a ∙ ap (sum_by (λ s. s.agg.count)) (take_all 64 slots (omega arith))
 
-pub parts-fit_page : (nodes : NodesValue) (block : ℕ) (span : SpanValue) (number version : ℕ) (slots : List PageSlot) (parts : List (ℕ × TreeValue)) → length slots ≡ 64 → LEAF_POINTS < sum_by (λ s. s.agg.count) slots → sum_by (λ s. s.agg.count) slots ≤ MAX_POINTS → AllByRecursion (IsSlot version) slots → ArePartsTo 64 nodes block span number slots parts → AreParts span version parts (versions_of slots)
+pub parts-fit_page : (nodes : TreesValue) (block : ℕ) (span : SpanValue) (number version : ℕ) (slots : List PageSlot) (parts : List (ℕ × TreeValue)) → length slots ≡ 64 → LEAF_POINTS < sum_by (λ s. s.agg.count) slots → sum_by (λ s. s.agg.count) slots ≤ MAX_POINTS → AllByRecursion (IsSlot version) slots → ArePartsTo 64 nodes block span number slots parts → AreParts span version parts (versions_of slots)
 parts-fit_page nodes block span number version slots parts full many few all a =
     let count = parts-count nodes block span number slots parts full a in
     record {

@@ -35,7 +35,8 @@ use Rattle.btr_tree.proofs.StoredLemmas.{stored-below}
 use Rattle.btr_node.specs.Page.{header, IsSlot, Keeps, FitsPoint, FitsSlot, Fits, span_of_page, slots_of_page}
 use Rattle.btr_node.specs.declared.page.NodePage.{NodePage}
 use Rattle.btr_node.specs.declared.page.PageSlot.{PageSlot}
-use Rattle.btr_pages.specs.Pages.{Pages, with_pages, node_of_page, node_of_stream, nodes_in, page_slot, page_of, pages_of, HasChildPage, IsPageAt, ArePages}
+use Rattle.btr_tree.specs.PageNodes.{Pages, node_of_page, node_of_stream, nodes_in}
+use Rattle.btr_pages.specs.Pages.{with_pages, page_slot, page_of, pages_of, HasChildPage, IsPageAt, ArePages}
 use Rattle.btr_pages.specs.Reported.{AreKept, IsReportedOf, IsReportedBy, AreReported}
 use Rattle.btr_pages.proofs.PageOfLemmas.{each-map, inner-page_of, leaf-again, inner-again, page_of-stream, HasPlaces, fits-places, page_of-places, page-span, page-version, page-versioned, leaf-count, inner-count, leaf-values, leaf-keeps, inner-keeps, slot-fits, leaf-fits, inner-fits}
 use Rattle.btr_pages.proofs.ReportedNodeLemmas.{each-get, each-first, version-same, version-at_most, older, older-is, stored-older, In, LeadsTo, leads-to, leads-nowhere, part-aligned, IsReported, laid-at, reported-node, IsLeafNode, IsInnerNode, node-kind, node_to-span, node_to-version, slots-get, slots-length, slots-count}

@@ -8,13 +8,14 @@ use Rattle.btr_tree.proofs.RootLemmas.{span-whole}
 use Rattle.btr_node.specs.Page.{Keeps, span_of_page}
 use Rattle.btr_node.specs.declared.page.NodePage.{NodePage}
 use Rattle.btr_node.specs.declared.page.NodePage.TheVariants.{Leaf, Inner}
-use Rattle.btr_pages.specs.Pages.{Pages, nodes_in, IsRootPage, HasRootPage}
-use Rattle.btr_pages.specs.Known.{KnownValue, NodesValue, node_at, IsKnown, ArePartOf, IsReadRoot}
+use Rattle.btr_tree.specs.PageNodes.{Pages, nodes_in, IsRootPage}
+use Rattle.btr_pages.specs.Pages.{HasRootPage}
+use Rattle.btr_pages.specs.Known.{KnownValue, TreesValue, node_at, IsKnown, ArePartOf, IsReadRoot}
 use Rattle.btr_pages.specs.Made.{IsKnownRoot}
 use Rattle.btr_pages.proofs.KnownLemmas.{block-at, known-at}
 
 -- If a tree was made of the page in a block, it is that of a root exactly if the page is.
-pub root-page : (pages : Pages) (nodes : NodesValue) (stream version block : ℕ) (k : KnownValue) → ArePartOf pages nodes → node_at nodes block ≡ Some k → IsKnownRoot stream version k → HasRootPage pages stream version block
+pub root-page : (pages : Pages) (nodes : TreesValue) (stream version block : ℕ) (k : KnownValue) → ArePartOf pages nodes → node_at nodes block ≡ Some k → IsKnownRoot stream version k → HasRootPage pages stream version block
 root-page pages nodes stream version block k are at root =
     let known = known-at pages nodes block k are at in
     record {
@@ -28,13 +29,13 @@ root-page pages nodes stream version block k are at root =
     }
 
 -- The page of the root that is in the block is that of which the tree was made.
-root-fits : (pages : Pages) (nodes : NodesValue) (stream version block : ℕ) (k : KnownValue) → (at : node_at nodes block ≡ Some k) → (known : IsKnown pages k) → HasRootPage pages stream version block → IsRootPage stream version known.page
+root-fits : (pages : Pages) (nodes : TreesValue) (stream version block : ℕ) (k : KnownValue) → (at : node_at nodes block ≡ Some k) → (known : IsKnown pages k) → HasRootPage pages stream version block → IsRootPage stream version known.page
 root-fits pages nodes stream version block k at known has =
     let two : Some known.page ≡ Some has.page = sym known.is ∙ ap pages (block-at nodes block k at) ∙ has.is in
     let same : has.page ≡ known.page = cc in
     subst (IsRootPage stream version) same has.fits
 
-pub page-root : (pages : Pages) (nodes : NodesValue) (stream version block : ℕ) (k : KnownValue) → ArePartOf pages nodes → node_at nodes block ≡ Some k → HasRootPage pages stream version block → IsKnownRoot stream version k
+pub page-root : (pages : Pages) (nodes : TreesValue) (stream version block : ℕ) (k : KnownValue) → ArePartOf pages nodes → node_at nodes block ≡ Some k → HasRootPage pages stream version block → IsKnownRoot stream version k
 page-root pages nodes stream version block k are at has =
     let known = known-at pages nodes block k are at in
     let fits = root-fits pages nodes stream version block k at known has in
@@ -49,7 +50,7 @@ page-aligned (Leaf start height stream version count points) keeps = keeps.field
 page-aligned (Inner start height stream version count slots) keeps = keeps.fields.span
 
 -- The tree that was made of the page of a root.
-root-read : (pages : Pages) (nodes : NodesValue) (stream version block : ℕ) (k : KnownValue) → ArePartOf pages nodes → node_at nodes block ≡ Some k → HasRootPage pages stream version block → IsReadRoot pages stream version block k.tree
+root-read : (pages : Pages) (nodes : TreesValue) (stream version block : ℕ) (k : KnownValue) → ArePartOf pages nodes → node_at nodes block ≡ Some k → HasRootPage pages stream version block → IsReadRoot pages stream version block k.tree
 root-read pages nodes stream version block k are at has =
     let known = known-at pages nodes block k are at in
     let root = page-root pages nodes stream version block k are at has in
@@ -66,7 +67,7 @@ root-read pages nodes stream version block k are at has =
     }
 
 -- The tree of a block, shared.
-pub shared-root : {E : Type 0} (r : Result TreeValue E) (pages : Pages) (nodes : NodesValue) (stream version block : ℕ) (k : KnownValue) → ArePartOf pages nodes → node_at nodes block ≡ Some k → IfOk r (λ t. t ≡ k.tree) → HasRootPage pages stream version block → IfOk r (IsReadRoot pages stream version block)
+pub shared-root : {E : Type 0} (r : Result TreeValue E) (pages : Pages) (nodes : TreesValue) (stream version block : ℕ) (k : KnownValue) → ArePartOf pages nodes → node_at nodes block ≡ Some k → IfOk r (λ t. t ≡ k.tree) → HasRootPage pages stream version block → IfOk r (IsReadRoot pages stream version block)
 shared-root (Err e) pages nodes stream version block k are at is has = tt
 shared-root (Ok t) pages nodes stream version block k are at is has =
     subst (IsReadRoot pages stream version block) (sym is) (root-read pages nodes stream version block k are at has)

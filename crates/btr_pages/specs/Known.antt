@@ -7,7 +7,8 @@ use Rattle.btr_tree.specs.Root.{TreeValue, WasOpened, root_part, version_of}
 use Rattle.btr_tree.specs.Slots.{block_of}
 use Rattle.btr_node.specs.Page.{header, Keeps, span_of_page, slots_of_page}
 use Rattle.btr_node.specs.declared.page.NodePage.{NodePage}
-use Rattle.btr_pages.specs.Pages.{Pages, with_pages, nodes_in, HasRootPage, IsPageAt}
+use Rattle.btr_tree.specs.PageNodes.{Pages, nodes_in}
+use Rattle.btr_pages.specs.Pages.{with_pages, HasRootPage, IsPageAt}
 
 -- The tree that was made of the page in a block, and the stream of the page.
 pub record KnownValue : Type 0 where
@@ -16,11 +17,11 @@ pub record KnownValue : Type 0 where
   pub tree : TreeValue
 
 -- The trees that were made, in the order in which they were made.
-abbrev pub NodesValue : Type 0
-NodesValue = List KnownValue
+abbrev pub TreesValue : Type 0
+TreesValue = List KnownValue
 
 -- The tree of a block, if one was made.
-abbrev pub node_at : NodesValue → ℕ → Option KnownValue
+abbrev pub node_at : TreesValue → ℕ → Option KnownValue
 node_at [] block = None
 node_at (known ∷ nodes) block = if nat_eq known.block block then Some known else node_at nodes block
 
@@ -42,23 +43,23 @@ pub record IsKnown (pages : Pages) (known : KnownValue) : Type 0 where
   pub made : CameFrom pages page known
 
 -- The trees are those of the pages: each tree was made of the page in its block, and each block that has a page has a tree.
-pub record AreKnown (pages : Pages) (nodes : NodesValue) : Type 0 where
+pub record AreKnown (pages : Pages) (nodes : TreesValue) : Type 0 where
   pub each : (block : ℕ) → IfSome (node_at nodes block) (IsKnown pages)
   pub all : (block : ℕ) → IsSome (pages block) → IsSome (node_at nodes block)
 
 -- The trees are those of pages: each was made of the page in its block. Not every page needs to have a tree.
-abbrev pub ArePartOf : Pages → NodesValue → Type 0
+abbrev pub ArePartOf : Pages → TreesValue → Type 0
 ArePartOf pages nodes = (block : ℕ) → IfSome (node_at nodes block) (IsKnown pages)
 
 -- The trees of those children of a page are known that have a page: of each slot with a point.
-abbrev pub KnowsChildren : Pages → NodesValue → NodePage → Type 0
+abbrev pub KnowsChildren : Pages → TreesValue → NodePage → Type 0
 KnowsChildren pages nodes page =
     (i : ℕ)
     → IfSome (slice_get (slots_of_page page) i)
     (λ slot. 0 < slot.agg.count → IsSome (pages slot.child) → IsSome (node_at nodes slot.child))
 
 -- The tree of the page in a block was added to others: whatever pages the old trees were made of, the page stands rightly among them.
-pub record TakesPage (old new : NodesValue) (block : ℕ) (page : NodePage) : Type 0 where
+pub record TakesPage (old new : TreesValue) (block : ℕ) (page : NodePage) : Type 0 where
   -- if the block is above those of the old trees, and all pages have a tree, the new trees are those of the pages before and of this
   -- one
   pub known :
@@ -89,7 +90,7 @@ ReturnsRoot pages stream version block result =
     HasRootPage pages stream version block → IfOk result (IsReadRoot pages stream version block)
 
 -- The block has a tree that was made, about the whole domain.
-pub record HasWholeTree (nodes : NodesValue) (block : ℕ) : Type 0 where
+pub record HasWholeTree (nodes : TreesValue) (block : ℕ) : Type 0 where
   pub known : KnownValue
   pub is : node_at nodes block ≡ Some known
   pub opened : WasOpened known.tree

@@ -12,8 +12,9 @@ use Rattle.btr_node.specs.declared.page.PageHeader.{PageHeader}
 use Rattle.btr_node.specs.declared.page.NodePage.{NodePage}
 use Rattle.btr_node.specs.declared.page.NodePage.TheVariants.{Leaf, Inner}
 use Rattle.btr_node.specs.declared.page.PageSlot.{PageSlot}
-use Rattle.btr_pages.specs.Pages.{Pages, IsPageAt}
-use Rattle.btr_pages.specs.Known.{KnownValue, NodesValue, node_at, ArePartOf, KnowsChildren, TakesPage}
+use Rattle.btr_tree.specs.PageNodes.{Pages}
+use Rattle.btr_pages.specs.Pages.{IsPageAt}
+use Rattle.btr_pages.specs.Known.{KnownValue, TreesValue, node_at, ArePartOf, KnowsChildren, TakesPage}
 use Rattle.btr_pages.specs.Blocks.{IsNoPage}
 
 -- ---- a tree that was made, and the table
@@ -28,12 +29,12 @@ abbrev pub table_number : List ℕ → ℕ → ℕ
 table_number table block = get_or table block 0
 
 -- The tree of a number, counted from 1.
-abbrev pub numbered : NodesValue → ℕ → Option KnownValue
+abbrev pub numbered : TreesValue → ℕ → Option KnownValue
 numbered nodes zero = None
 numbered nodes (suc place) = slice_get nodes place
 
 -- The table has the number of each tree, at the place of its block, and 0 for each other block.
-pub record IsTable (nodes : NodesValue) (table : List ℕ) : Type 0 where
+pub record IsTable (nodes : TreesValue) (table : List ℕ) : Type 0 where
   pub each : (block : ℕ) → node_at nodes block ≡ numbered nodes (table_number table block)
   pub within : (block : ℕ) → table_number table block ≤ length nodes
 
@@ -50,36 +51,36 @@ pub record IsKnownChild (block : ℕ) (place : SpanValue) (number : ℕ) (slot :
   pub opened : WasOpened known.tree
 
 -- The tree of the slot's child was made.
-pub record HasKnownChild (nodes : NodesValue) (block : ℕ) (place : SpanValue) (number : ℕ) (slot : PageSlot) : Type 0 where
+pub record HasKnownChild (nodes : TreesValue) (block : ℕ) (place : SpanValue) (number : ℕ) (slot : PageSlot) : Type 0 where
   pub known : KnownValue
   pub is : node_at nodes slot.child ≡ Some known
   pub fits : IsKnownChild block place number slot known
 
 -- If the slot has a point, the tree of its child was made.
-abbrev pub MayHaveChild : NodesValue → ℕ → SpanValue → ℕ → PageSlot → Type 0
+abbrev pub MayHaveChild : TreesValue → ℕ → SpanValue → ℕ → PageSlot → Type 0
 MayHaveChild nodes block place number slot = 0 < slot.agg.count → HasKnownChild nodes block place number slot
 
 -- The trees of the children of all slots of a span were made, for a page in this block.
-abbrev pub HaveKnownChildren : NodesValue → ℕ → SpanValue → ℕ → List PageSlot → Type 0
+abbrev pub HaveKnownChildren : TreesValue → ℕ → SpanValue → ℕ → List PageSlot → Type 0
 HaveKnownChildren nodes block span number slots =
     (i : ℕ) → IfSome (slice_get slots i) (MayHaveChild nodes block (slot_of span i) number)
 
 -- The trees of the children of the page in a block were made.
-abbrev pub IsBuildable : NodesValue → ℕ → NodePage → Type 0
+abbrev pub IsBuildable : TreesValue → ℕ → NodePage → Type 0
 IsBuildable nodes block page = HaveKnownChildren nodes block (span_of_page page) (header page).stream (slots_of_page page)
 
 -- The tree of a slot's child, if the slot has a point.
-abbrev pub part_of : NodesValue → Option PageSlot → Option TreeValue
+abbrev pub part_of : TreesValue → Option PageSlot → Option TreeValue
 part_of nodes None = None
 part_of nodes (Some slot) = if nat_eq slot.agg.count 0 then None else option_map (λ k. k.tree) (node_at nodes slot.child)
 
 -- The tree of the child of a slot that has a point was made, and is this one.
-abbrev pub IsChildTree : NodesValue → ℕ → SpanValue → ℕ → PageSlot → TreeValue → Type 0
+abbrev pub IsChildTree : TreesValue → ℕ → SpanValue → ℕ → PageSlot → TreeValue → Type 0
 IsChildTree nodes block place number slot t =
     HasKnownChild nodes block place number slot × (part_of nodes (Some slot) ≡ Some t)
 
 -- The parts are the trees of the children of the first n slots of the page in a block.
-pub record ArePartsTo (n : ℕ) (nodes : NodesValue) (block : ℕ) (span : SpanValue) (number : ℕ) (slots : List PageSlot)
+pub record ArePartsTo (n : ℕ) (nodes : TreesValue) (block : ℕ) (span : SpanValue) (number : ℕ) (slots : List PageSlot)
     (parts : List (ℕ × TreeValue)) : Type 0 where
   pub have : (i : ℕ) → i < n → IfSome (slice_get slots i) (MayHaveChild nodes block (slot_of span i) number)
   pub are : (i : ℕ) → i < n → part_at parts i ≡ part_of nodes (slice_get slots i)
@@ -108,7 +109,7 @@ pub record IsLeafMade (block : ℕ) (span : SpanValue) (version : ℕ) (points :
   pub opened : WasOpened t
 
 -- A tree was made of an inner node's page and of the trees of its children.
-pub record IsInnerMade (nodes : NodesValue) (block : ℕ) (span : SpanValue) (number version : ℕ) (slots : List PageSlot) (t : TreeValue)
+pub record IsInnerMade (nodes : TreesValue) (block : ℕ) (span : SpanValue) (number version : ℕ) (slots : List PageSlot) (t : TreeValue)
     : Type 0 where
   pub parts : List (ℕ × TreeValue)
   pub are : ArePartsTo 64 nodes block span number slots parts
@@ -117,20 +118,20 @@ pub record IsInnerMade (nodes : NodesValue) (block : ℕ) (span : SpanValue) (nu
   pub opened : WasOpened t
 
 -- Of an inner node's page in a block, with this header and these slots, a tree was made, or the trees of its children were not all made.
-abbrev pub IsInnerMadeOf : NodesValue → ℕ → PageHeader → List PageSlot → Option TreeValue → Type 0
+abbrev pub IsInnerMadeOf : TreesValue → ℕ → PageHeader → List PageSlot → Option TreeValue → Type 0
 IsInnerMadeOf nodes block f slots made =
     MatchOption made (HaveKnownChildren nodes block (header_span f) f.stream slots → ⊥)
     (IsInnerMade nodes block (header_span f) f.stream f.version slots)
 
 -- The tree was made of a page.
-abbrev pub IsTreeOfPage : NodesValue → ℕ → NodePage → TreeValue → Type 0
+abbrev pub IsTreeOfPage : TreesValue → ℕ → NodePage → TreeValue → Type 0
 IsTreeOfPage nodes block (Leaf start height stream version count points) t =
     IsLeafMade block (record { start = start; height = height }) version (take count points) t
 IsTreeOfPage nodes block (Inner start height stream version count slots) t =
     IsInnerMade nodes block (record { start = start; height = height }) stream version slots t
 
 -- The page in a block, its stream and the tree that was made of it.
-pub record IsMadeAt (nodes : NodesValue) (block : ℕ) (page : NodePage) (known : KnownValue) : Type 0 where
+pub record IsMadeAt (nodes : TreesValue) (block : ℕ) (page : NodePage) (known : KnownValue) : Type 0 where
   pub its_block : known.block ≡ block
   pub stream : known.stream ≡ (header page).stream
   pub tree : IsTreeOfPage nodes block page known.tree
@@ -138,21 +139,21 @@ pub record IsMadeAt (nodes : NodesValue) (block : ℕ) (page : NodePage) (known 
 -- ---- the page that a block is
 
 -- The bytes of a block are those of a page whose tree was added.
-pub record IsAddedPage (old new : NodesValue) (block : ℕ) (bytes : List ℕ) : Type 0 where
+pub record IsAddedPage (old new : TreesValue) (block : ℕ) (bytes : List ℕ) : Type 0 where
   pub page : NodePage
   pub fits : Fits page
   pub spells : Spells bytes page
   pub added : TakesPage old new block page
 
 -- The bytes of a block are those of a page that does not stand rightly.
-pub record IsMisplaced (nodes : NodesValue) (block : ℕ) (bytes : List ℕ) : Type 0 where
+pub record IsMisplaced (nodes : TreesValue) (block : ℕ) (bytes : List ℕ) : Type 0 where
   pub page : NodePage
   pub fits : Fits page
   pub spells : Spells bytes page
   pub wrong : (pages : Pages) → ArePartOf pages nodes → KnowsChildren pages nodes page → IsPageAt pages block page → ⊥
 
 -- The block is no page that stands rightly.
-abbrev pub IsDamagedPage : NodesValue → ℕ → List ℕ → Type 0
+abbrev pub IsDamagedPage : TreesValue → ℕ → List ℕ → Type 0
 IsDamagedPage nodes block bytes = IsNoPage bytes ⊎ IsMisplaced nodes block bytes
 
 -- ---- the tree of a root

@@ -1,24 +1,18 @@
--- Pages in blocks: the nodes of a stream that they are, and which of them stand rightly where they stand.
-use Rattle.std.specs.Prelude.{◌≡◌, ◌⊎◌, ℕ, ◌+◌, ◌-◌, ◌^◌, ◌%◌, ◌<◌, ◌≤◌, pos, nat_lt, nat_eq, Bool, false, List, [], ◌∷◌, ◌++◌}
-use Rattle.std.specs.Prelude.{length, take, replicate, map, slice_get, Option, Some, None, IfSome, if◌then◌else◌}
+-- The pages of nodes, and which pages in blocks stand rightly where they stand.
+use Rattle.std.specs.Prelude.{◌≡◌, ◌⊎◌, ℕ, ◌+◌, ◌-◌, ◌^◌, ◌%◌, ◌<◌, pos, nat_lt, Bool, false, List, [], ◌∷◌, ◌++◌}
+use Rattle.std.specs.Prelude.{length, take, replicate, map, slice_get, Some, None, IfSome, if◌then◌else◌}
 use Rattle.std.specs.List.{sum_by}
-use Rattle.std.specs.Option.{option_and_then}
-use Rattle.btr_base.specs.Agg.{no_points}
-use Rattle.btr_base.specs.Span.{SpanValue, slot_of}
+use Rattle.btr_base.specs.Span.{SpanValue}
 use Rattle.btr_base.specs.declared.point.Point.{Point}
 use Rattle.btr_tree.specs.NewNodes.{NewNodeValue}
-use Rattle.btr_tree.specs.Stored.{Store}
+use Rattle.btr_tree.specs.PageNodes.{Pages, unused_slot, IsChildPage, IsRootPage}
 use Rattle.btr_tree.specs.declared.node.Slot.{Slot}
-use Rattle.btr_node.specs.Page.{header, Keeps, span_of_page, slots_of_page}
+use Rattle.btr_node.specs.Page.{Keeps, slots_of_page}
 use Rattle.btr_node.specs.declared.page.NodePage.{NodePage}
 use Rattle.btr_node.specs.declared.page.NodePage.TheVariants.{Leaf, Inner}
 use Rattle.btr_node.specs.declared.page.PageSlot.{PageSlot}
 
 -- ---- pages in blocks
-
--- The page in each block, if there is one. It is a function, so that a clause can speak of all pages.
-abbrev pub Pages : Type 0
-Pages = ℕ → Option NodePage
 
 -- No block has a page.
 abbrev pub no_pages : Pages
@@ -27,41 +21,6 @@ no_pages block = None
 -- The pages below a block, and from there on these, one in each block.
 abbrev pub with_pages : Pages → ℕ → List NodePage → Pages
 with_pages pages first new block = if nat_lt block first then pages block else slice_get new (block - first)
-
--- ---- a page as a node
-
--- A slot of a page, as a slot of the tree.
-abbrev pub slot_of_page : PageSlot → Slot
-slot_of_page slot = record { agg = slot.agg; version = slot.version; child = slot.child }
-
--- The node that a page says.
-abbrev pub node_of_page : NodePage → NewNodeValue
-node_of_page (Leaf start height stream version count points) =
-    record {
-      span = record { start = start; height = height };
-      version = version;
-      points = take count points;
-      slots = [];
-    }
-node_of_page (Inner start height stream version count slots) =
-    record {
-      span = record { start = start; height = height };
-      version = version;
-      points = [];
-      slots = map slot_of_page slots;
-    }
-
--- The node that a page says, if the page is of this stream.
-abbrev pub node_of_stream : ℕ → NodePage → Option NewNodeValue
-node_of_stream stream page = if nat_eq (header page).stream stream then Some (node_of_page page) else None
-
--- The node of a stream that is in each block, if there is one.
-abbrev pub nodes_in : Pages → ℕ → Store
-nodes_in pages stream block = option_and_then (node_of_stream stream) (pages block)
-
--- The page in a block is that of this node of the stream.
-abbrev pub Stand : Pages → ℕ → ℕ → NewNodeValue → Type 0
-Stand pages stream block node = nodes_in pages stream block ≡ Some node
 
 -- ---- a node as a page
 
@@ -76,10 +35,6 @@ places_of points = take 252 (points ++ replicate 252 unused)
 -- A slot of the tree, as a slot of a page.
 abbrev pub page_slot : Slot → PageSlot
 page_slot slot = record { agg = slot.agg; version = slot.version; child = slot.child }
-
--- A slot without a point, a version and a child.
-abbrev pub unused_slot : PageSlot
-unused_slot = record { agg = no_points; version = 0; child = 0 }
 
 -- The slots as those of a page: 64 in all.
 abbrev pub page_slots_of : List Slot → List PageSlot
@@ -104,14 +59,6 @@ pages_of stream nodes = map (page_of stream) nodes
 
 -- ---- pages that stand rightly
 
--- A page is that of the child of slot i of a parent, where the slot has this version and count: of the same stream, of the
--- slot's span, with its version and its count.
-pub record IsChildPage (parent : NodePage) (i : ℕ) (slot : PageSlot) (child : NodePage) : Type 0 where
-  pub stream : (header child).stream ≡ (header parent).stream
-  pub span : span_of_page child ≡ slot_of (span_of_page parent) i
-  pub version : (header child).version ≡ slot.version
-  pub count : (header child).count ≡ slot.agg.count
-
 -- The child of slot i of the page in a block: it is in a lower block, and its page is that of the slot.
 pub record HasChildPage (pages : Pages) (block : ℕ) (parent : NodePage) (i : ℕ) (slot : PageSlot) : Type 0 where
   pub lower : slot.child < block
@@ -130,12 +77,6 @@ ArePages pages first new =
     (i : ℕ) → IfSome (slice_get new i) (λ page. IsPageAt (with_pages pages first new) (first + i) page)
 
 -- ---- the page of a root
-
--- The page of the root of a version of a stream: its height is that of the whole domain, and it is not newer than the version.
-pub record IsRootPage (stream version : ℕ) (page : NodePage) : Type 0 where
-  pub height : (header page).height ≡ 10
-  pub its_stream : (header page).stream ≡ stream
-  pub not_newer : (header page).version ≤ version
 
 -- The block has the page of the root of a version.
 pub record HasRootPage (pages : Pages) (stream version block : ℕ) : Type 0 where

@@ -10,7 +10,8 @@ use Rattle.btr_tree.specs.Nodes.{above_root}
 use Rattle.btr_tree.specs.Root.{TreeValue, IsTree}
 use Rattle.btr_tree.specs.Stored.{Store, IsBelow, IsLaid}
 use Rattle.btr_node.specs.Page.{Keeps, Fits}
-use Rattle.btr_pages.specs.Pages.{Pages, with_pages, nodes_in, pages_of, ArePages}
+use Rattle.btr_tree.specs.PageNodes.{Pages, nodes_in}
+use Rattle.btr_pages.specs.Pages.{with_pages, pages_of, ArePages}
 
 -- Each page keeps the table, and its numbers fit their widths.
 abbrev pub AreKept : Pages → Type 0

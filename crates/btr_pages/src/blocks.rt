@@ -5,14 +5,14 @@ ghost use Rattle.btr_pages.specs.Blocks.{AllWereAdded, IsDamagedBlock};
 ghost use Rattle.btr_pages.specs.Known.{node_at};
 ghost use Rattle.btr_pages.specs.Made.{IsAddedPage, IsDamagedPage};
 
-use crate::nodes::Nodes;
+use crate::trees::Trees;
 use btr_node::{PAGE, decode};
 use btr_tree::Steps;
 use std::alloc::{AllocError, Global};
 
-impl Nodes {
+impl Trees {
     /// Makes the trees of the pages that blocks are, one in each block from `first` on, and adds them. Returns the first block
-    /// that is damaged, if there is one: no page, or a page that does not fit those before it, as [`Nodes::add`] says. Then the
+    /// that is damaged, if there is one: no page, or a page that does not fit those before it, as [`Trees::add`] says. Then the
     /// pages of all blocks before it were added.
     ///
     /// All blocks are above those that have a tree. The cost is the blocks, and those between the highest one that had a tree and

@@ -5,7 +5,7 @@ ghost use Rattle.btr_pages.specs.Known.{node_at};
 ghost use Rattle.btr_pages.specs.Made.{ArePartsTo, HasKnownChild, HaveKnownChildren, IsChildTree, IsKnownChild, versions_of};
 
 use crate::known::Known;
-use crate::nodes::Nodes;
+use crate::trees::Trees;
 use btr_base::{FAN_OUT, Span};
 use btr_node::PageSlot;
 use btr_tree::Tree;
@@ -15,7 +15,7 @@ use std::alloc::{AllocError, Global};
 /// has a point and the tree of its child was not made, or is not in a lower block. An `Err` is out of memory.
 pub(crate) fn parts_of(
     alloc: Global,
-    nodes: &Nodes,
+    nodes: &Trees,
     block: u64,
     span: Span,
     stream: u32,
@@ -40,7 +40,7 @@ pub(crate) fn parts_of(
 
 /// The tree of the child of a slot of the page in a block, if it was made. An `Err` is out of memory.
 fn part(
-    nodes: &Nodes,
+    nodes: &Trees,
     block: u64,
     place: Span,
     stream: u32,
@@ -58,7 +58,7 @@ fn part(
 
 /// The child of a slot of the page in a block, if its tree was made.
 fn child<'a>(
-    nodes: &'a Nodes,
+    nodes: &'a Trees,
     block: u64,
     place: Span,
     stream: u32,

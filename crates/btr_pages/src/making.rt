@@ -6,7 +6,7 @@ ghost use Rattle.btr_pages.specs.Made.{AreLeafPoints, IsBuildable, IsInnerMadeOf
 
 use crate::children::{parts_of, versions};
 use crate::known::Known;
-use crate::nodes::Nodes;
+use crate::trees::Trees;
 use btr_base::{Bag, Point, Span};
 use btr_node::{NodePage, PageHeader, PageSlot};
 use btr_tree::{Steps, Tree};
@@ -16,7 +16,7 @@ use std::alloc::{AllocError, Global};
 /// `Err` is out of memory.
 pub(crate) fn make<L>(
     alloc: Global,
-    nodes: &Nodes,
+    nodes: &Trees,
     block: u64,
     page: &NodePage,
     steps: &mut Steps<L>,
@@ -67,7 +67,7 @@ fn make_leaf<L>(
 /// lower block. An `Err` is out of memory.
 fn make_inner<L>(
     alloc: Global,
-    nodes: &Nodes,
+    nodes: &Trees,
     block: u64,
     header: &PageHeader,
     slots: &[PageSlot; 64],

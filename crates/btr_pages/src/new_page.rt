@@ -3,7 +3,8 @@ ghost use Rattle.std.specs.Prelude.{◌≡◌, ◌<◌, ◌%◌, ◌^◌, ◌++�
 ghost use Rattle.std.specs.List.{flat_map, sum_by};
 ghost use Rattle.btr_node.specs.Page.{page_bytes, slot_bytes};
 ghost use Rattle.btr_node.specs.declared.page.NodePage.TheVariants.{Inner};
-ghost use Rattle.btr_pages.specs.Pages.{page_of, page_slots_of, page_slot, unused_slot};
+ghost use Rattle.btr_tree.specs.PageNodes.{unused_slot};
+ghost use Rattle.btr_pages.specs.Pages.{page_of, page_slots_of, page_slot};
 
 use btr_base::{Agg, LEAF_POINTS, Point};
 use btr_node::{

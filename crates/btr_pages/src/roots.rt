@@ -2,17 +2,18 @@
 ghost use Rattle.std.specs.Prelude.{◌≡◌, ◌↔◌, ℕ, ◌<◌, IfOk, IfSome, IsNone, IsSome, IsTrue};
 ghost use Rattle.btr_tree.specs.History.{nothing};
 ghost use Rattle.btr_tree.specs.Root.{IsTree, WasOpened};
-ghost use Rattle.btr_pages.specs.Pages.{Pages, HasRootPage};
+ghost use Rattle.btr_tree.specs.PageNodes.{Pages};
+ghost use Rattle.btr_pages.specs.Pages.{HasRootPage};
 ghost use Rattle.btr_pages.specs.Known.{AreKnown, ArePartOf, HasWholeTree, ReturnsRoot, node_at};
 ghost use Rattle.btr_pages.specs.Made.{IsKnownRoot};
 
 use crate::known::Known;
-use crate::nodes::Nodes;
+use crate::trees::Trees;
 use btr_base::ROOT_HEIGHT;
 use btr_tree::Tree;
 use std::alloc::AllocError;
 
-impl Nodes {
+impl Trees {
     /// Whether a block has the page of the root of a version of a stream: its span is the whole domain, and it is not newer than
     /// the version. The answer holds if the block has no page, or one whose tree was made. It takes constant time and no memory.
     pub fn is_root(&self, block: u64, stream: u32, version: u64) -> bool

@@ -1,7 +1,7 @@
 -- Lemmas on the first and the last of two lists in a row.
-use Rattle.std.specs.Prelude.{◌≡◌, ◌-◌, ◌<◌, List, [], ◌∷◌, ◌++◌, length, Option, Some, None, slice_get, IsNone}
+use Rattle.std.specs.Prelude.{◌≡◌, ◌-◌, ◌<◌, List, [], ◌∷◌, ◌++◌, length, Option, Some, None, slice_get, IsSome}
 use Rattle.std.specs.List.{last_or}
-use Rattle.std.proofs.Common.{refl, sym, ap, ◌∙◌, arith, subst, append-nil}
+use Rattle.std.proofs.Common.{refl, sym, ap, ◌∙◌, arith, append-nil}
 
 pub first-found : {X : Type 0} (a b : List X) (x : X) → slice_get a 0 ≡ Some x → slice_get (a ++ b) 0 ≡ Some x
 first-found [] b x h = absurd (cc)
@@ -14,11 +14,6 @@ first-missed (y ∷ a) b h = absurd (cc)
 pub first-some : {X : Type 0} (a b : List X) → 0 < length a → slice_get (a ++ b) 0 ≡ slice_get a 0
 first-some [] b h = absurd (omega arith)
 first-some (y ∷ a) b h = refl
-
--- A list that is not empty has a first and a last.
-pub first-any : {X : Type 0} (a : List X) (r : Option X) → 0 < length a → r ≡ slice_get a 0 → IsNone r → ⊥
-first-any [] r some e none = omega arith
-first-any (y ∷ a) r some e none = let n : IsNone (Some y) = subst IsNone e none in cc
 
 last-append : {X : Type 0} (o : Option X) (a b : List X) → last_or o (a ++ b) ≡ last_or (last_or o a) b
 last-append o [] b = refl
@@ -40,10 +35,11 @@ pub last-some : {X : Type 0} (a b : List X) → 0 < length b → last_or None (a
 last-some a [] h = absurd (omega arith)
 last-some a (y ∷ b) h = last-append None a (y ∷ b)
 
-pub last-any : {X : Type 0} (a : List X) (r : Option X) → 0 < length a → r ≡ last_or None a → IsNone r → ⊥
-last-any [] r some e none = omega arith
-last-any (y ∷ a) None some e none = last-none y a (sym e)
-last-any (y ∷ a) (Some x) some e none = cc
+-- A list that is not empty has a last.
+pub last-is-some : {X : Type 0} (a : List X) (r : Option X) → 0 < length a → r ≡ last_or None a → IsSome r
+last-is-some [] r some e = absurd (omega arith)
+last-is-some (y ∷ a) None some e = absurd (last-none y a (sym e))
+last-is-some (y ∷ a) (Some x) some e = refl
 
 last-behind : {X : Type 0} (x : X) (a : List X) → slice_get (x ∷ a) (length a) ≡ last_or (Some x) a
 last-behind x [] = refl

@@ -4,4 +4,6 @@ pub mod Firsts
 pub mod Places
 pub mod Runs
 pub mod Parts
-pub mod Domain
+pub mod Outside
+-- Lemmas on refusals.
+pub mod Refusals

@@ -1,23 +1,25 @@
--- Lemmas on what a walk finds in a node: the points of a leaf, the slots of an inner node, and a slot's child.
-use Rattle.std.specs.Prelude.{◌≡◌, ℕ, suc, ◌+◌, ◌<◌, ◌^◌, ℤ, pos, ◌+ℤ◌, ◌≤ℤ◌, Bool, not, int_le, int_lt, List, [], length, Option, Result, Ok, Err, OnOk, if◌then◌else◌}
+-- Lemmas on what a walk finds at a place: the points of a leaf, and slots without a point.
+use Rattle.std.specs.Prelude.{◌≡◌, ℕ, ◌+◌, ◌<◌, ◌≤◌, ℤ, pos, ◌+ℤ◌, ◌≤ℤ◌, Bool, not, int_le, int_lt, List, [], length, Option, Some, None, IsNone, IsSome, Result, Ok, Err, OnOk, if◌then◌else◌}
+use Rattle.std.specs.List.{filter}
 use Rattle.std.specs.Result.{is_ok}
-use Rattle.std.proofs.Common.{Bor, sym, ap, ◌∙◌, arith, subst}
+use Rattle.std.proofs.Common.{zero, suc, refl, sym, ap, ◌∙◌, arith, subst}
+use Rattle.std.proofs.lemmas.Int.{ints}
+use Rattle.btr_base.specs.Agg.{AggValue}
 use Rattle.btr_base.specs.declared.point.Point.{Point}
-use Rattle.btr_base.specs.Bag.{IsInOrder, within}
+use Rattle.btr_base.specs.Bag.{within}
+use Rattle.btr_base.specs.Span.{width, SpanValue, slot_of}
 use Rattle.btr_base.proofs.ListLemmas.{filter-same}
 use Rattle.btr_base.proofs.WithinLemmas.{within-from, within-before}
-use Rattle.std.specs.List.{filter}
-use Rattle.std.proofs.lemmas.Int.{ints}
-use Rattle.btr_base.specs.Span.{width, SpanValue}
-use Rattle.btr_tree.specs.declared.node.Node.{Node}
-use Rattle.btr_tree.specs.declared.node.Node.TheVariants.{Leaf}
+use Rattle.btr_tree.specs.declared.found.FoundNode.{FoundNode}
+use Rattle.btr_tree.specs.declared.found.FoundNode.TheVariants.{Nothing, Leaf, Inner}
+use Rattle.btr_tree.specs.declared.node.Slot.{Slot}
+use Rattle.btr_tree.specs.Change.{joined_first}
 use Rattle.btr_tree.specs.History.{Past, bag}
 use Rattle.btr_tree.specs.Nodes.{points_of, is_inner}
-use Rattle.btr_tree.specs.declared.node.NodeData.{NodeData}
-use Rattle.btr_tree.specs.Shape.{slot_start, IsChild, IsNode}
-use Rattle.btr_tree.proofs.NodeLemmas.{leaf-is, slot-few}
-use Rattle.btr_tree.specs.Change.{IsSomeChild}
-use Rattle.btr_tree.proofs.VersionLemmas.{points-in_order}
+use Rattle.btr_tree.specs.Slots.{AreEmpty}
+use Rattle.btr_tree.specs.NodeSource.{count_in, AreSlotsAt, AreSafeSlots, IsSafeFound, IsFoundAt}
+use Rattle.btr_tree.proofs.NodeLemmas.{joined-none, joined-suc}
+use Rattle.btr_tree.proofs.SourceLemmas.{place-safe, place-at}
 
 -- What a list is after a call that leaves it as it was if the call fails.
 pub where_ok : {E : Type 0} (r : Result (Unit {0}) E) (new all old : List Point) → new ≡ (if is_ok r then all else old) → OnOk r (new ≡ all)
@@ -26,14 +28,6 @@ where_ok (Err x) new all old e = tt
 
 not_before : (time t : ℤ) → not (int_lt t time) ≡ int_le time t
 not_before time t = grind (arith, ints)
-
--- The points of a leaf are those of its span.
-pub leaf-points : (k : ℕ) (s : ℤ) (above : List Point → Bool) (h : Past) (n : Node) (v : ℕ) (ps : Bor (List Point)) → n ≡ Leaf v ps → IsNode k s above h n → ps.now ≡ points_of k s (bag h)
-leaf-points k s above h n v ps e holds = (leaf-is k s above h n v ps e holds).same
-
-pub leaf-in_order : (k : ℕ) (s : ℤ) (above : List Point → Bool) (h : Past) (n : Node) (v : ℕ) (ps : Bor (List Point)) → n ≡ Leaf v ps → IsNode k s above h n → IsInOrder ps.now
-leaf-in_order k s above h n v ps e holds =
-    subst IsInOrder (sym (leaf-points k s above h n v ps e holds)) (points-in_order k s h)
 
 -- The points of a leaf from a time on, and before it.
 pub leaf-from : (k : ℕ) (s : ℤ) (b : List Point) (points behind : List Point) (time at : ℤ) → at ≡ time → s ≤ℤ time → points ≡ points_of k s b → behind ≡ filter (λ p. not (int_lt p.time at)) points → behind ≡ within time (s +ℤ pos (width k)) b
@@ -58,15 +52,71 @@ pub none-until : (k : ℕ) (s : ℤ) (b : List Point) (time : ℤ) → time ≤�
 none-until k s b time high none =
     sym (within-before s (s +ℤ pos (width k)) time b high) ∙ ap (filter (λ p. int_lt p.time time)) none
 
--- ---- a slot's child
+-- ---- slots without a point
 
--- A slot's child is of a history if its inner node is.
-pub child-stands : (below : ℕ) (s : ℤ) (h : Past) (i : ℕ) (part : SpanValue) (child : Option NodeData) → part ≡ record { start = slot_start below s i; height = below } → IsChild part.height part.start (is_inner (suc below) s) h child → i < 64 → length (points_of (suc below) s (bag h)) + 0 < 2 ^ 64 → IsSomeChild part.height part.start child 0
-child-stands below s h i part child is holds place few =
-    let fewer = slot-few below s h i part place is in
-    record {
-      above = is_inner (suc below) s;
-      commits = h;
-      holds = holds;
-      few = omega arith;
-    }
+none-first : (f : ℕ → Slot) → AreEmpty f 0 64 → (n : ℕ) → n ≤ 64 → (joined_first n f).count ≡ 0
+none-first f none zero le = ap (λ (a : AggValue). a.count) (joined-none f)
+none-first f none (suc n) le =
+    let next : (joined_first (suc n) f).count ≡ (joined_first n f).count + (f n).agg.count = ap (λ (a : AggValue). a.count) (joined-suc n f) in
+    omega (arith, next, none-first f none n (omega arith), none n (omega arith) (omega arith))
+
+-- Slots none of which has a point have none together.
+pub none-counted : (f : ℕ → Slot) → AreEmpty f 0 64 → count_in f ≡ 0
+none-counted f none = none-first f none 64 (omega arith)
+
+-- If slots that have points together are empty where none is found, then one is found.
+pub some-found : (f : ℕ → Slot) (r : Option Point) → 0 < count_in f → (IsNone r → AreEmpty f 0 64) → IsSome r
+some-found f None some none = let no = none-counted f (none refl) in absurd (omega arith)
+some-found f (Some p) some none = refl
+
+-- ---- what was found at a place
+
+-- The slots that were found can be walked.
+pub safe-slots : {Site F I : Type 0} (IsSafe : Site → ℕ → ℤ → Type 0) (count : Site → ℕ) (points : F → List Point) (slot : I → ℕ → Slot) (place : I → ℕ → Site) (most : ℕ) (span : SpanValue) (found : FoundNode F I) (version : ℕ) (inner : I) → IsSafeFound IsSafe count points slot place most span found → found ≡ Inner version inner → AreSafeSlots IsSafe count (place inner) (slot inner) span
+safe-slots IsSafe count points slot place most span found version inner safe e =
+    (subst (IsSafeFound IsSafe count points slot place most span) e safe).0
+
+-- The points of a leaf that was found are some.
+pub some-points : {Site F I : Type 0} (IsSafe : Site → ℕ → ℤ → Type 0) (count : Site → ℕ) (points : F → List Point) (slot : I → ℕ → Slot) (place : I → ℕ → Site) (most : ℕ) (span : SpanValue) (found : FoundNode F I) (version : ℕ) (leaf : F) → IsSafeFound IsSafe count points slot place most span found → found ≡ Leaf version leaf → 0 < length (points leaf)
+some-points IsSafe count points slot place most span found version leaf safe e =
+    (subst (IsSafeFound IsSafe count points slot place most span) e safe).some
+
+-- A walk may go to the place of a slot.
+pub safe-at : {Site : Type 0} (IsSafe : Site → ℕ → ℤ → Type 0) (count : Site → ℕ) (place : ℕ → Site) (f : ℕ → Slot) (span part : SpanValue) (i : ℕ) (site : Site) → AreSafeSlots IsSafe count place f span → i < 64 → part ≡ slot_of span i → site ≡ place i → IsSafe site part.height part.start
+safe-at {Site} IsSafe count place f span part i site safe lt e same =
+    subst (λ (x : Site). IsSafe x part.height part.start) (sym same) (place-safe IsSafe count place f span part i safe lt e)
+
+-- The place of a slot is that of its span.
+pub held-at : {Site : Type 0} (IsAt : Site → ℕ → ℤ → (List Point → Bool) → Past → Type 0) (place : ℕ → Site) (f : ℕ → Slot) (span part : SpanValue) (h : Past) (i : ℕ) (site : Site) (at : AreSlotsAt IsAt place f span h) → i < 64 → part ≡ slot_of span i → site ≡ place i → IsAt site part.height part.start (is_inner (suc at.below) span.start) h
+held-at {Site} IsAt place f span part h i site at lt e same =
+    subst (λ (x : Site). IsAt x part.height part.start (is_inner (suc at.below) span.start) h) (sym same) (place-at IsAt place f span part h i at lt e).holds
+
+-- The same, by what another state tells that is the same.
+pub held-later : {Told Site : Type 0} (IsAt : Told → Site → ℕ → ℤ → (List Point → Bool) → Past → Type 0) (old new : Told) (place : ℕ → Site) (f : ℕ → Slot) (span part : SpanValue) (h : Past) (i : ℕ) (site : Site) → new ≡ old → (at : AreSlotsAt (IsAt old) place f span h) → i < 64 → part ≡ slot_of span i → site ≡ place i → IsAt new site part.height part.start (is_inner (suc at.below) span.start) h
+held-later IsAt old new place f span part h i site e at lt is same =
+    subst (λ t. IsAt t site part.height part.start (is_inner (suc at.below) span.start) h) (sym e) (held-at (IsAt old) place f span part h i site at lt is same)
+
+-- The points of a leaf that was found are those of the span.
+pub leaf-found : {Site F I : Type 0} (IsAt : Site → ℕ → ℤ → (List Point → Bool) → Past → Type 0) (points : F → List Point) (slot : I → ℕ → Slot) (place : I → ℕ → Site) (span : SpanValue) (above : List Point → Bool) (h : Past) (found : FoundNode F I) (version : ℕ) (leaf : F) → IsFoundAt IsAt points slot place span above h found → found ≡ Leaf version leaf → points leaf ≡ points_of span.height span.start (bag h)
+leaf-found IsAt points slot place span above h found version leaf is e =
+    (subst (IsFoundAt IsAt points slot place span above h) e is).same
+
+-- The slots of an inner node that was found, at their places.
+pub inner-found : {Site F I : Type 0} (IsAt : Site → ℕ → ℤ → (List Point → Bool) → Past → Type 0) (points : F → List Point) (slot : I → ℕ → Slot) (place : I → ℕ → Site) (span : SpanValue) (above : List Point → Bool) (h : Past) (found : FoundNode F I) (version : ℕ) (inner : I) → IsFoundAt IsAt points slot place span above h found → found ≡ Inner version inner → AreSlotsAt IsAt (place inner) (slot inner) span h
+inner-found IsAt points slot place span above h found version inner is e =
+    (subst (IsFoundAt IsAt points slot place span above h) e is).inner
+
+-- Where nothing was found the span has no point.
+pub nothing-found : {Site F I : Type 0} (IsAt : Site → ℕ → ℤ → (List Point → Bool) → Past → Type 0) (points : F → List Point) (slot : I → ℕ → Slot) (place : I → ℕ → Site) (span : SpanValue) (above : List Point → Bool) (h : Past) (found : FoundNode F I) → IsFoundAt IsAt points slot place span above h found → found ≡ Nothing → points_of span.height span.start (bag h) ≡ []
+nothing-found IsAt points slot place span above h found is e =
+    subst (IsFoundAt IsAt points slot place span above h) e is
+
+-- The slots of a span at their places, by what another state tells that is the same.
+pub slots-same : {Told Site : Type 0} (IsAt : Told → Site → ℕ → ℤ → (List Point → Bool) → Past → Type 0) (old new : Told) (place : ℕ → Site) (f : ℕ → Slot) (span : SpanValue) (h : Past) → new ≡ old → AreSlotsAt (IsAt old) place f span h → AreSlotsAt (IsAt new) place f span h
+slots-same IsAt old new place f span h e at =
+    subst (λ t. AreSlotsAt (IsAt t) place f span h) (sym e) at
+
+-- The slots that a walk may visit, by what another state tells that is the same.
+pub safe-same : {Told Site : Type 0} (IsSafe : Told → Site → ℕ → ℤ → Type 0) (count : Site → ℕ) (old new : Told) (place : ℕ → Site) (f : ℕ → Slot) (span : SpanValue) → new ≡ old → AreSafeSlots (IsSafe old) count place f span → AreSafeSlots (IsSafe new) count place f span
+safe-same IsSafe count old new place f span e safe =
+    subst (λ t. AreSafeSlots (IsSafe t) count place f span) (sym e) safe

@@ -1,2 +1,4 @@
--- What the private functions promise: the points from a slot on, and before it.
-pub mod SlotStart
+-- What a walk over a range promises.
+pub mod Rows
+-- What the private functions promise: the first and the last of the points between two times.
+pub mod FirstLast

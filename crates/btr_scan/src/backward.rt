@@ -1,112 +1,149 @@
 //! The last point before a time.
-ghost use Rattle.std.specs.Prelude.{◌≡◌, ◌+◌, ◌*◌, ◌≤◌, ℕ, ℤ, suc, ◌≤ℤ◌, ◌<ℤ◌, int_lt, None, filter, IsNone};
+ghost use Rattle.std.specs.Prelude.{◌≡◌, ◌+◌, ◌*◌, ◌<◌, ◌≤◌, ℕ, ℤ, ◌≤ℤ◌, ◌<ℤ◌, None, IfOk, IfErr, IsNone, IsSome};
 ghost use Rattle.std.specs.List.{last_or};
-ghost use Rattle.btr_base.specs.Bag.{within};
-ghost use Rattle.btr_base.specs.declared.limits.TheConstants.{FIRST as FIRST_TIME};
-ghost use Rattle.btr_tree.specs.History.{Past, bag};
-ghost use Rattle.btr_tree.specs.Nodes.{above_root};
-ghost use Rattle.btr_tree.specs.Shape.{IsChild};
-ghost use Rattle.btr_tree.specs.EachHistory.{AtEachHistory, AtEachInner, points_in};
-ghost use Rattle.btr_tree.specs.Change.{IsSomeChild, AreSomeSlots, end_of};
-ghost use Rattle.btr_tree.specs.Slots.{node_of};
-ghost use Rattle.btr_base.specs.Point.{AreInDomain};
-ghost use Rattle.btr_scan.specs.SlotStart.{AtEachSlotStart};
+ghost use Rattle.btr_base.specs.Nearest.{nearest as nearest_in};
+ghost use Rattle.btr_base.specs.declared.toward.Toward.TheVariants.{Backward as BACKWARD};
+ghost use Rattle.btr_tree.specs.History.{bag};
+ghost use Rattle.btr_tree.specs.EachHistory.{points_in};
+ghost use Rattle.btr_tree.specs.Change.{end_of};
+ghost use Rattle.btr_tree.specs.Slots.{AreEmpty};
+ghost use Rattle.btr_tree.specs.NodeSource.{AtEachPlace, AtEachSlots, AreSafeSlots, UsesSource, RisesUpTo};
+ghost use Rattle.btr_scan.specs.FirstLast.{last_within, last_before_slot};
 
-use btr_base::{END, FAN_OUT, FIRST, Point, Span, parted};
-use btr_tree::{Child, Node, Slots, Steps, root_span, visit};
+use btr_base::{FAN_OUT, Point, Span, parted};
+use btr_tree::{FoundNode, NodeSource, Steps};
 
-/// Returns the last point of the tree before a time. It visits at most 21 nodes.
-pub(crate) fn previous_in_root<L>(
-    child: Child<'_>,
+/// Returns the last point of a span before a time. It visits at most two nodes a height, and one. An `Err` is a refusal of the
+/// source.
+pub(crate) fn previous_in_span<S: NodeSource, L>(
+    state: &mut S::State,
+    span: Span,
+    at: S::Place,
     time: i64,
     steps: &mut Steps<L>,
-) -> Option<Point>
-    requires { IsSomeChild 10 FIRST_TIME (node_of child) 0 }
-    ensures point { (h : Past) → IsChild 10 FIRST_TIME above_root h (node_of child.entry) → AreInDomain (bag h)
-        → result ≡ last_or None (filter (λ p. int_lt p.time time) (bag h)) }
-    ensures bounded { steps.new ≤ steps.old + 21 }
-    ensures never_falls { steps.old ≤ steps.new }
+) -> Result<Option<Point>, S::Fault>
+    requires safe { S.IsSafe (S.told state.old) (S.site at) span.height span.start }
+    ensures point { IfOk result (λ r. AtEachPlace (S.IsAt (S.told state.old)) (S.site at) span (λ h.
+        r ≡ nearest_in BACKWARD time (points_in span (bag h)))) }
+    ensures sound { IfErr result (λ e. AtEachPlace (S.IsAt (S.told state.old)) (S.site at) span (λ h. S.IsHarmless e)) }
+    ensures uses { UsesSource S.told S.faults S.IsCaused state.old state.new result }
+    ensures bounded { RisesUpTo (2 * span.height + 1) steps.old steps.new }
 {
-    if time <= FIRST {
-        return None;
+    if time <= span.start {
+        return Ok(None);
     }
-    if time >= END {
-        return last_in_child(root_span(), child, steps);
+    if time >= span.end() {
+        return last_in_place::<S, L>(state, span, at, steps);
     }
-    previous_in_child(root_span(), child, time, steps)
+    previous_in_place::<S, L>(state, span, at, time, steps)
 }
 
-/// Returns the last point of a child before a time, which is above the span's start and at most its end. It visits at most
-/// two nodes a height, and at most one if it finds none.
+/// Returns the last point of a span before a time, which is above the span's start and at most its end. It visits at most two
+/// nodes a height, and at most one if it finds none.
 #[cycle(previous)]
-fn previous_in_child<L>(
+fn previous_in_place<S: NodeSource, L>(
+    state: &mut S::State,
     span: Span,
-    child: Child<'_>,
+    at: S::Place,
     time: i64,
     steps: &mut Steps<L>,
-) -> Option<Point>
-    requires some { IsSomeChild span.height span.start (node_of child) 0 }
-    requires begins { span.start <ℤ time }
-    requires ends { time ≤ℤ end_of span }
-    ensures point { AtEachHistory span (node_of child.entry) (λ h. result ≡ last_or None (within span.start time (bag h))) }
-    ensures bounded { steps.new ≤ steps.old + 2 * span.height + 1 }
-    ensures none { IsNone result → steps.new ≤ steps.old + span.height + 1 }
-    ensures never_falls { steps.old ≤ steps.new }
+) -> Result<Option<Point>, S::Fault>
+    requires safe { S.IsSafe (S.told state.old) (S.site at) span.height span.start }
+    requires inside { (span.start <ℤ time) × (time ≤ℤ end_of span) }
+    ensures point { IfOk result (λ r. AtEachPlace (S.IsAt (S.told state.old)) (S.site at) span (λ h.
+        r ≡ last_within span.start time (bag h))) }
+    ensures sound { IfErr result (λ e. AtEachPlace (S.IsAt (S.told state.old)) (S.site at) span (λ h. S.IsHarmless e)) }
+    ensures uses { UsesSource S.told S.faults S.IsCaused state.old state.new result }
+    ensures bounded { RisesUpTo (2 * span.height + 1) steps.old steps.new }
+    ensures none { IfOk result (λ r. IsNone r → steps.new ≤ steps.old + span.height + 1) }
 {
-    match visit(child, steps)? {
-        Node::Leaf { points, .. } => {
-            let (before, _) = parted(points, time);
-            last_of(before)
+    match S::visit(state, span, at, steps)? {
+        FoundNode::Nothing => Ok(None),
+        FoundNode::Leaf { points, .. } => {
+            let (before, _) = parted(S::points(&points), time);
+            Ok(last_of(before))
         }
-        Node::Inner { slots, .. } => previous_in_slots(span, slots, time, steps),
+        FoundNode::Inner { slots, .. } => previous_in_slots::<S, L>(
+            state, span, &slots, time, steps,
+        ),
     }
 }
 
 /// Returns the last point of an inner node before a time: of the last slot that begins before the time, or else of the slots
 /// before that one.
 #[cycle(previous)]
-fn previous_in_slots<L>(span: Span, slots: &Slots, time: i64, steps: &mut Steps<L>) -> Option<Point>
-    requires some { (below : ℕ) × (span.height ≡ suc below) × AreSomeSlots below span.start slots.now 0 }
-    requires begins { span.start <ℤ time }
-    requires ends { time ≤ℤ end_of span }
-    ensures point { AtEachInner span slots.now (λ h. result ≡ last_or None (within span.start time (bag h))) }
-    ensures bounded { steps.new ≤ steps.old + 2 * span.height }
-    ensures none { IsNone result → steps.new ≤ steps.old + span.height }
-    ensures never_falls { steps.old ≤ steps.new }
+fn previous_in_slots<S: NodeSource, L>(
+    state: &mut S::State,
+    span: Span,
+    slots: &S::Inner,
+    time: i64,
+    steps: &mut Steps<L>,
+) -> Result<Option<Point>, S::Fault>
+    requires safe { AreSafeSlots (S.IsSafe (S.told state.old)) S.count (S.inner_place slots.now) (S.inner_slot slots.now) span }
+    requires inside { (span.start <ℤ time) × (time ≤ℤ end_of span) }
+    ensures point { IfOk result (λ r. AtEachSlots (S.IsAt (S.told state.old)) (S.inner_place slots.now) (S.inner_slot slots.now) span (λ h.
+        r ≡ last_within span.start time (bag h))) }
+    ensures sound { IfErr result (λ e. AtEachSlots (S.IsAt (S.told state.old)) (S.inner_place slots.now) (S.inner_slot slots.now)
+        span (λ h. S.IsHarmless e)) }
+    ensures uses { UsesSource S.told S.faults S.IsCaused state.old state.new result }
+    ensures bounded { RisesUpTo (2 * span.height) steps.old steps.new }
+    ensures none { IfOk result (λ r. IsNone r → steps.new ≤ steps.old + span.height) }
 {
     let (_, i) = span.slots_between(span.start, time);
-    match previous_in_child(span.slot(i), slots.child(i), time, steps) {
-        Some(point) => Some(point),
-        None => last_in_slots(span, slots, i, steps),
+    match previous_in_place::<S, L>(state, span.slot(i), S::place(slots, i), time, steps)? {
+        Some(point) => Ok(Some(point)),
+        None => last_in_slots::<S, L>(state, span, slots, i, steps),
     }
 }
 
-/// Returns the last point of a child. It visits at most one node a height.
+/// Returns the last point of a span. It visits at most one node a height, and one.
 #[cycle(last)]
-fn last_in_child<L>(span: Span, child: Child<'_>, steps: &mut Steps<L>) -> Option<Point>
-    requires { IsSomeChild span.height span.start (node_of child) 0 }
-    ensures point { AtEachHistory span (node_of child.entry) (λ h. result ≡ last_or None (points_in span (bag h))) }
-    ensures bounded { steps.new ≤ steps.old + span.height + 1 }
-    ensures never_falls { steps.old ≤ steps.new }
+fn last_in_place<S: NodeSource, L>(
+    state: &mut S::State,
+    span: Span,
+    at: S::Place,
+    steps: &mut Steps<L>,
+) -> Result<Option<Point>, S::Fault>
+    requires safe { S.IsSafe (S.told state.old) (S.site at) span.height span.start }
+    ensures point { IfOk result (λ r. AtEachPlace (S.IsAt (S.told state.old)) (S.site at) span (λ h.
+        r ≡ last_within span.start (end_of span) (bag h))) }
+    ensures some { IfOk result (λ r. 0 < S.count (S.site at) → IsSome r) }
+    ensures sound { IfErr result (λ e. AtEachPlace (S.IsAt (S.told state.old)) (S.site at) span (λ h. S.IsHarmless e)) }
+    ensures uses { UsesSource S.told S.faults S.IsCaused state.old state.new result }
+    ensures bounded { RisesUpTo (span.height + 1) steps.old steps.new }
 {
-    match visit(child, steps)? {
-        Node::Leaf { points, .. } => last_of(points),
-        Node::Inner { slots, .. } => last_in_slots(span, slots, FAN_OUT, steps),
+    match S::visit(state, span, at, steps)? {
+        FoundNode::Nothing => Ok(None),
+        FoundNode::Leaf { points, .. } => Ok(last_of(S::points(&points))),
+        FoundNode::Inner { slots, .. } => last_in_slots::<S, L>(
+            state, span, &slots, FAN_OUT, steps,
+        ),
     }
 }
 
 /// Returns the last point of the slots of an inner node with a number below `to`. It visits no node if it finds none.
 #[cycle(last)]
-fn last_in_slots<L>(span: Span, slots: &Slots, to: u8, steps: &mut Steps<L>) -> Option<Point>
-    requires some { (below : ℕ) × (span.height ≡ suc below) × AreSomeSlots below span.start slots.now 0 }
+fn last_in_slots<S: NodeSource, L>(
+    state: &mut S::State,
+    span: Span,
+    slots: &S::Inner,
+    to: u8,
+    steps: &mut Steps<L>,
+) -> Result<Option<Point>, S::Fault>
+    requires safe { AreSafeSlots (S.IsSafe (S.told state.old)) S.count (S.inner_place slots.now) (S.inner_slot slots.now) span }
     requires place { to ≤ 64 }
-    ensures point { AtEachSlotStart span slots.now to (λ start h. result ≡ last_or None (within span.start start (bag h))) }
-    ensures bounded { steps.new ≤ steps.old + span.height }
-    ensures none { IsNone result → steps.new ≡ steps.old }
-    ensures never_falls { steps.old ≤ steps.new }
+    ensures point { IfOk result (λ r. AtEachSlots (S.IsAt (S.told state.old)) (S.inner_place slots.now) (S.inner_slot slots.now) span (λ h.
+        r ≡ last_before_slot span to (bag h))) }
+    ensures none { IfOk result (λ r. IsNone r → (steps.new ≡ steps.old) × AreEmpty (S.inner_slot slots.now) 0 to) }
+    ensures sound { IfErr result (λ e. AtEachSlots (S.IsAt (S.told state.old)) (S.inner_place slots.now) (S.inner_slot slots.now)
+        span (λ h. S.IsHarmless e)) }
+    ensures uses { UsesSource S.told S.faults S.IsCaused state.old state.new result }
+    ensures bounded { RisesUpTo span.height steps.old steps.new }
 {
-    let i = slots.previous_occupied(to)?;
-    last_in_child(span.slot(i), slots.child(i), steps)
+    match S::previous_occupied(slots, to) {
+        None => Ok(None),
+        Some(i) => last_in_place::<S, L>(state, span.slot(i), S::place(slots, i), steps),
+    }
 }
 
 /// Returns the last point of a list.

@@ -1,14 +1,15 @@
 //! The points of a range.
-ghost use Rattle.std.specs.Prelude.{◌≡◌, ◌++◌, ℕ, ℤ, suc, ◌<ℤ◌, IfOk, OnOk};
+ghost use Rattle.std.specs.Prelude.{◌≡◌, ◌++◌, ◌≤◌, IfOk, IfErr, OnOk};
 ghost use Rattle.btr_base.specs.Bag.{within};
 ghost use Rattle.btr_tree.specs.History.{bag};
-ghost use Rattle.btr_tree.specs.EachHistory.{AtEachHistory, AtEachInner, points_in};
-ghost use Rattle.btr_tree.specs.Change.{IsSomeChild, AreSomeSlots, end_of};
 ghost use Rattle.btr_tree.specs.Root.{AtEachTree};
-ghost use Rattle.btr_tree.specs.Slots.{node_of};
+ghost use Rattle.btr_tree.specs.Spots.{AtEachRoot, IsHarmlessFault, IsWalkCause};
 
-use btr_base::{END, FIRST, Point, Range, Span, points_between};
-use btr_tree::{Child, Label, Node, Slots, Steps, Tree, root_span, visit};
+use crate::span_walk::append_in_place;
+use btr_base::{END, FIRST, Point, Range};
+use btr_tree::{
+    Fetched, Label, Memory, NodeFault, Nodes, Root, Steps, Tree, WalkFault, find_root, root_span,
+};
 use std::alloc::{AllocError, Global};
 
 /// The label of the counters of walks over a range, on whose nodes no bound is claimed.
@@ -33,59 +34,56 @@ pub fn append_range(tree: &Tree, range: Range, rows: &mut Vec<Point>) -> Result<
 {
     let mut steps = Steps::<RangeWalk>::new();
     prove!(FIRST < range.to && range.from < END);
-    walk_child(root_span(), tree.link(), range, rows, &mut steps)
-}
-
-/// Appends the points of a child whose times are in a range that meets the span.
-#[cycle(walk)]
-fn walk_child<L>(
-    span: Span,
-    child: Child<'_>,
-    range: Range,
-    rows: &mut Vec<Point>,
-    steps: &mut Steps<L>,
-) -> Result<(), AllocError>
-    requires some { IsSomeChild span.height span.start (node_of child) 0 }
-    requires begins { range.from <ℤ end_of span }
-    requires ends { span.start <ℤ range.to }
-    ensures { OnOk result (AtEachHistory span (node_of child.entry) (λ h.
-        rows.new.items ≡ rows.old.items ++ within range.from range.to (points_in span (bag h)))) }
-{
-    match visit(child, steps) {
-        None => Ok(()),
-        Some(node) => match node {
-            Node::Leaf { points, .. } => {
-                rows.extend_from_slice(points_between(points, range.from, range.to))
-            }
-            Node::Inner { slots, .. } => walk_slots(span, slots, range, rows, steps),
-        },
+    match append_in_place::<Memory<'_>, RangeWalk>(
+        &mut (),
+        root_span(),
+        tree.link(),
+        range,
+        rows,
+        &mut steps,
+    ) {
+        Ok(()) => Ok(()),
+        Err(WalkFault::Want) => Err(AllocError),
+        Err(WalkFault::Refused(never)) => match never {},
     }
 }
 
-/// Appends the points of an inner node whose times are in a range. It walks from one slot with a point to the next, through
-/// those that meet the range.
-#[cycle(walk)]
-fn walk_slots<L>(
-    span: Span,
-    slots: &Slots,
+/// Returns the points of a root's version with `from <= time < to`, by time and value, as [`range`] does for a tree in memory.
+/// Equal points each count. It fetches pages one at a time. The cost is its points, one call of `nodes` for each node on the
+/// way to them and to the two ends of the range, and one call more for the root.
+///
+/// `Failed` is a call that failed. `Damaged` names the root's block if that has no page of a root of the stream which is not
+/// newer than the version; or the block of a slot's child if that has no page; or else the block whose page has a slot with
+/// another span, count, version or stream than the page of its child. It is not returned if the pages are those of a past.
+/// `Want` is out of memory.
+pub fn range_from<N: Nodes>(
+    alloc: Global,
+    nodes: &mut N,
+    root: Root,
     range: Range,
-    rows: &mut Vec<Point>,
-    steps: &mut Steps<L>,
-) -> Result<(), AllocError>
-    requires some { (below : ℕ) × (span.height ≡ suc below) × AreSomeSlots below span.start slots.now 0 }
-    requires begins { range.from <ℤ end_of span }
-    requires ends { span.start <ℤ range.to }
-    ensures { OnOk result (AtEachInner span slots.now (λ h.
-        rows.new.items ≡ rows.old.items ++ within range.from range.to (points_in span (bag h)))) }
+) -> Result<Vec<Point>, NodeFault>
+    ensures rows { N.is_observable → IfOk result (λ v. AtEachRoot (N.IsPage (N.contents nodes.old)) root (λ h.
+        v.items ≡ within range.from range.to (bag h))) }
+    ensures sound { N.is_observable → IfErr result (λ e. AtEachRoot (N.IsPage (N.contents nodes.old)) root (λ h. IsHarmlessFault e)) }
+    ensures same { N.is_observable → N.contents nodes.new ≡ N.contents nodes.old }
+    ensures rises { N.faults nodes.old ≤ N.faults nodes.new }
+    ensures cause { IfErr result (IsWalkCause N.is_observable root (λ o. N.IsPage (N.contents nodes.old))
+        (N.faults nodes.old) (N.faults nodes.new)) }
 {
-    let (first, last) = span.slots_between(range.from, range.to);
-    let mut from = first;
-    while let Some(i) = slots.next_occupied(from) {
-        if i > last {
-            return Ok(());
-        }
-        walk_child(span.slot(i), slots.child(i), range, rows, steps)?;
-        from = i + 1;
+    let at = find_root(nodes, root)?;
+    let mut rows = Vec::new(alloc);
+    let mut steps = Steps::<RangeWalk>::new();
+    prove!(FIRST < range.to && range.from < END);
+    match append_in_place::<Fetched<N>, RangeWalk>(
+        nodes,
+        root_span(),
+        at,
+        range,
+        &mut rows,
+        &mut steps,
+    ) {
+        Ok(()) => Ok(rows),
+        Err(WalkFault::Want) => Err(NodeFault::Want),
+        Err(WalkFault::Refused(fault)) => Err(fault),
     }
-    Ok(())
 }

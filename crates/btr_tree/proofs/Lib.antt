@@ -3,7 +3,10 @@ pub mod BuiltNodeLemmas
 pub mod CrowdLemmas
 pub mod CutLemmas
 pub mod LeadsLemmas
+pub mod MemoryLemmas
 pub mod NewNodeCountLemmas
+pub mod FetchedLemmas
+pub mod FromLemmas
 pub mod KeptSlotLemmas
 pub mod NewNodeLemmas
 pub mod NodeLemmas
@@ -15,6 +18,8 @@ pub mod ReadLemmas
 pub mod RootLemmas
 pub mod SharedLemmas
 pub mod SlotSplitLemmas
+pub mod SourceLemmas
+pub mod SpotLemmas
 pub mod StoredLemmas
 pub mod UntouchedNodeLemmas
 pub mod VersionLemmas

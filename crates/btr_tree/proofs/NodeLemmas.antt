@@ -27,7 +27,7 @@ use Rattle.btr_tree.specs.History.{bag, Past}
 use Rattle.btr_tree.specs.Nodes.{points_of, is_inner}
 use Rattle.btr_tree.proofs.VersionLemmas.{bag-in_order}
 use Rattle.btr_tree.specs.Change.{joined_first, IsSomeChild, AreSomeSlots}
-use Rattle.btr_tree.specs.Shape.{ByKind, slot_start, IsLeaf, IsInner, HasSlots, HasChildren, IsNodeData, IsNode, IsChild}
+use Rattle.btr_tree.specs.Shape.{ByKind, slot_start, IsLeaf, IsInner, AreSlots, HasSlots, HasChildren, IsNodeData, IsNode, IsChild}
 
 -- ---- a node in memory
 
@@ -149,32 +149,35 @@ rest-next below s i h place =
 
 -- ---- the aggregates of the slots
 
-pub joined-suc : (n : ℕ) (x : Slots) → joined_first (suc n) x ≡ joined (joined_first n x) (slot_in x n).agg
+pub joined-suc : (n : ℕ) (f : ℕ → Slot) → joined_first (suc n) f ≡ joined (joined_first n f) (f n).agg
 unfolding joined_first
-joined-suc n x = refl
+joined-suc n f = refl
 
-pub joined-none : (x : Slots) → joined_first 0 x ≡ no_points
+pub joined-none : (f : ℕ → Slot) → joined_first 0 f ≡ no_points
 unfolding joined_first
-joined-none x = refl
+joined-none f = refl
 
-pub joined-next : (n : ℕ) (x : Slots) → joined_first (n + 1) x ≡ joined (joined_first n x) (slot_in x n).agg
-joined-next n x = ap (λ m. joined_first m x) (let e : n + 1 ≡ suc n = omega arith in e) ∙ joined-suc n x
+pub joined-next : (n : ℕ) (f : ℕ → Slot) → joined_first (n + 1) f ≡ joined (joined_first n f) (f n).agg
+joined-next n f = ap (λ m. joined_first m f) (let e : n + 1 ≡ suc n = omega arith in e) ∙ joined-suc n f
 
-pub total-first : (below : ℕ) (s : ℤ) (h : Past) (x : Slots) → HasSlots below s h x → (n : ℕ) → n ≤ 64 → joined_first n x ≡ agg (within s (slot_start below s n) (bag h))
+pub total-first : (below : ℕ) (s : ℤ) (h : Past) (f : ℕ → Slot) → AreSlots below s h f → (n : ℕ) → n ≤ 64 → joined_first n f ≡ agg (within s (slot_start below s n) (bag h))
 unfolding joined_first
-total-first below s h x holds zero le = sym (ap agg (prefix-none below s h))
-total-first below s h x holds (suc n) le =
+total-first below s h f each zero le = sym (ap agg (prefix-none below s h))
+total-first below s h f each (suc n) le =
     let next : n + 1 ≡ suc n = omega arith in
     let before = within s (slot_start below s n) (bag h) in
     let here = points_of below (slot_start below s n) (bag h) in
-    ap (λ a. joined a (slot_in x n).agg) (total-first below s h x holds n (omega arith))
-    ∙ ap (λ y. joined (agg before) y.agg) (holds.each n (omega arith))
+    ap (λ a. joined a (f n).agg) (total-first below s h f each n (omega arith))
+    ∙ ap (λ y. joined (agg before) y.agg) (each n (omega arith))
     ∙ sym (agg-append before here)
     ∙ sym (ap agg (prefix-next below s n h))
     ∙ ap (λ j. agg (within s (slot_start below s j) (bag h))) next
 
-pub total-of : (below : ℕ) (s : ℤ) (h : Past) (x : Slots) → HasSlots below s h x → joined_first 64 x ≡ agg (points_of (suc below) s (bag h))
-total-of below s h x holds = total-first below s h x holds 64 (omega arith) ∙ ap agg (prefix-all below s h)
+pub total-all : (below : ℕ) (s : ℤ) (h : Past) (f : ℕ → Slot) → AreSlots below s h f → joined_first 64 f ≡ agg (points_of (suc below) s (bag h))
+total-all below s h f each = total-first below s h f each 64 (omega arith) ∙ ap agg (prefix-all below s h)
+
+pub total-of : (below : ℕ) (s : ℤ) (h : Past) (x : Slots) → HasSlots below s h x → joined_first 64 (slot_in x) ≡ agg (points_of (suc below) s (bag h))
+total-of below s h x holds = total-all below s h (slot_in x) holds.each
 
 -- ---- one slot of an inner node
 

@@ -337,10 +337,10 @@ parts-put n parts versions slot child old new put e f has i lt =
       | inr less ↦ (put.slots i less ∙ (has i less).0, put.children i less ∙ (has i less).1)
     ]
 
-joined-slots : (parts : List (ℕ × TreeValue)) (versions : List ℕ) (x : Slots) → HasParts 64 parts versions x → (n : ℕ) → n ≤ 64 → joined_first n x ≡ joined_parts n parts
-joined-slots parts versions x has zero le = joined-none x ∙ sym (parts-none parts)
+joined-slots : (parts : List (ℕ × TreeValue)) (versions : List ℕ) (x : Slots) → HasParts 64 parts versions x → (n : ℕ) → n ≤ 64 → joined_first n (slot_in x) ≡ joined_parts n parts
+joined-slots parts versions x has zero le = joined-none (slot_in x) ∙ sym (parts-none parts)
 joined-slots parts versions x has (suc n) le =
-    joined-suc n x
+    joined-suc n (slot_in x)
     ∙ ap (λ a. joined a (slot_in x n).agg) (joined-slots parts versions x has n (omega arith))
     ∙ ap (joined (joined_parts n parts)) (ap (λ y. y.agg) (has n (omega arith)).0 ∙ part-slot_agg (part_at parts n) (get_or versions n 0))
     ∙ sym (parts-suc n parts)

@@ -12,12 +12,12 @@ use Rattle.btr_base.specs.Span.{width, SpanValue, slot_of}
 use Rattle.btr_base.proofs.AggLemmas.{agg-count}
 use Rattle.btr_base.proofs.ListLemmas.{filter-filter, filter-same}
 use Rattle.btr_base.proofs.WithinLemmas.{within-empty}
-use Rattle.btr_tree.specs.declared.slots.Slots.{Slots}
+use Rattle.btr_tree.specs.declared.node.Slot.{Slot}
 use Rattle.btr_tree.specs.Change.{end_of}
 use Rattle.btr_tree.specs.History.{Past, bag}
 use Rattle.btr_tree.specs.Nodes.{points_of}
-use Rattle.btr_tree.specs.Shape.{slot_start, HasSlots}
-use Rattle.btr_tree.specs.Slots.{slot_in, AreEmpty}
+use Rattle.btr_tree.specs.Shape.{slot_start, AreSlots}
+use Rattle.btr_tree.specs.Slots.{AreEmpty}
 use Rattle.btr_tree.proofs.NodeLemmas.{slot-next, slot-end, slot-first, slot-order, slot-part, prefix-next}
 
 -- ---- a range as numbers of 64 bits
@@ -61,25 +61,25 @@ within-longer a b e c d xs h k =
 
 -- ---- slots without a point
 
-pub slot-count : (below : ℕ) (s : ℤ) (h : Past) (x : Slots) (i : ℕ) → HasSlots below s h x → i < 64 → (slot_in x i).agg.count ≡ length (points_of below (slot_start below s i) (bag h))
-slot-count below s h x i slots place =
-    ap (λ y. y.agg.count) (slots.each i place) ∙ agg-count (points_of below (slot_start below s i) (bag h))
+pub slot-count : (below : ℕ) (s : ℤ) (h : Past) (f : ℕ → Slot) (i : ℕ) → AreSlots below s h f → i < 64 → (f i).agg.count ≡ length (points_of below (slot_start below s i) (bag h))
+slot-count below s h f i slots place =
+    ap (λ y. y.agg.count) (slots i place) ∙ agg-count (points_of below (slot_start below s i) (bag h))
 
-pub slot-empty : (below : ℕ) (s : ℤ) (h : Past) (x : Slots) (i : ℕ) → HasSlots below s h x → i < 64 → (slot_in x i).agg.count ≡ 0 → points_of below (slot_start below s i) (bag h) ≡ []
-slot-empty below s h x i slots place none = nil_from_length _ (sym (slot-count below s h x i slots place) ∙ none)
+pub slot-empty : (below : ℕ) (s : ℤ) (h : Past) (f : ℕ → Slot) (i : ℕ) → AreSlots below s h f → i < 64 → (f i).agg.count ≡ 0 → points_of below (slot_start below s i) (bag h) ≡ []
+slot-empty below s h f i slots place none = nil_from_length _ (sym (slot-count below s h f i slots place) ∙ none)
 
-prefix-skip : (n below : ℕ) (s : ℤ) (h : Past) (x : Slots) (i j : ℕ) → n + i ≡ j → HasSlots below s h x → j ≤ 64 → AreEmpty x i j → within s (slot_start below s j) (bag h) ≡ within s (slot_start below s i) (bag h)
-prefix-skip zero below s h x i j e slots up none =
+prefix-skip : (n below : ℕ) (s : ℤ) (h : Past) (f : ℕ → Slot) (i j : ℕ) → n + i ≡ j → AreSlots below s h f → j ≤ 64 → AreEmpty f i j → within s (slot_start below s j) (bag h) ≡ within s (slot_start below s i) (bag h)
+prefix-skip zero below s h f i j e slots up none =
     let same : j ≡ i = omega arith in ap (λ k. within s (slot_start below s k) (bag h)) same
-prefix-skip (suc n) below s h x i j e slots up none =
-    prefix-skip n below s h x (i + 1) j (omega arith) slots up (λ m low high. none m (omega arith) high)
+prefix-skip (suc n) below s h f i j e slots up none =
+    prefix-skip n below s h f (i + 1) j (omega arith) slots up (λ m low high. none m (omega arith) high)
     ∙ prefix-next below s i h
-    ∙ ap (λ b. within s (slot_start below s i) (bag h) ++ b) (slot-empty below s h x i slots (omega arith) (none i (omega arith) (omega arith)))
+    ∙ ap (λ b. within s (slot_start below s i) (bag h) ++ b) (slot-empty below s h f i slots (omega arith) (none i (omega arith) (omega arith)))
     ∙ append-nil (within s (slot_start below s i) (bag h))
 
 -- If no slot from one up to, and without, another has a point, the points before the other are those before the one.
-pub prefix-gap : (below : ℕ) (s : ℤ) (h : Past) (x : Slots) (i j : ℕ) → HasSlots below s h x → i ≤ j → j ≤ 64 → AreEmpty x i j → within s (slot_start below s j) (bag h) ≡ within s (slot_start below s i) (bag h)
-prefix-gap below s h x i j slots low up none = prefix-skip (j - i) below s h x i j (omega arith) slots up none
+pub prefix-gap : (below : ℕ) (s : ℤ) (h : Past) (f : ℕ → Slot) (i j : ℕ) → AreSlots below s h f → i ≤ j → j ≤ 64 → AreEmpty f i j → within s (slot_start below s j) (bag h) ≡ within s (slot_start below s i) (bag h)
+prefix-gap below s h f i j slots low up none = prefix-skip (j - i) below s h f i j (omega arith) slots up none
 
 -- ---- the slots that a range meets
 
@@ -133,10 +133,10 @@ between-is span below f t from to first last e p q order place before begins end
     }
 
 -- If no slot from one on up to the last that has times of the range has a point, the points before it are all in the range.
-pub rest-empty : (below : ℕ) (start from to : ℤ) (first last : ℕ) (h : Past) (x : Slots) (i : ℕ) → IsBetween below start from to first last → HasSlots below start h x → i ≤ last + 1 → AreEmpty x i (last + 1) → within from to (within start (slot_start below start i) (bag h)) ≡ within from to (points_of (suc below) start (bag h))
-rest-empty below start from to first last h x i between holds order empty =
+pub rest-empty : (below : ℕ) (start from to : ℤ) (first last : ℕ) (h : Past) (f : ℕ → Slot) (i : ℕ) → IsBetween below start from to first last → AreSlots below start h f → i ≤ last + 1 → AreEmpty f i (last + 1) → within from to (within start (slot_start below start i) (bag h)) ≡ within from to (points_of (suc below) start (bag h))
+rest-empty below start from to first last h f i between holds order empty =
     let place = between.place in
-    ap (within from to) (sym (prefix-gap below start h x i (last + 1) holds order (omega arith) empty))
+    ap (within from to) (sym (prefix-gap below start h f i (last + 1) holds order (omega arith) empty))
     ∙ between.behind (bag h)
 
 -- The range meets each slot from the first of them to the last.

@@ -15,7 +15,7 @@ use Rattle.btr_base.specs.declared.limits.TheConstants.{LEAF_POINTS}
 use Rattle.btr_tree.specs.declared.node.NodeData.{NodeData, out-NodeData}
 use Rattle.btr_tree.specs.declared.node.Slot.{Slot}
 use Rattle.btr_tree.specs.declared.slots.Slots.{Slots}
-use Rattle.btr_tree.specs.Slots.{child_in}
+use Rattle.btr_tree.specs.Slots.{slot_in, child_in}
 use Rattle.btr_tree.specs.History.{Commit, bag, Past, ◌▷◌}
 use Rattle.btr_tree.specs.Nodes.{points_of, has_points, touches, is_inner, is_node, last_change}
 use Rattle.btr_tree.proofs.VersionLemmas.{points-untouched, points-after}
@@ -127,7 +127,7 @@ pub child-counted : (k : ℕ) (s : ℤ) (above : List Point → Bool) (h : Past)
 child-counted zero s above h p few x =
     match-weaker p _ _ _ _ (λ _. tt) (λ n y. by_kind-weaker _ _ _ _ (out-NodeData n) (λ _ _ _. tt) (λ _ _ z. absurd z) y) x
 child-counted (suc k) s above h p few x =
-    match-weaker p _ _ _ _ (λ _. tt) (λ n y. by_kind-weaker _ _ _ _ (out-NodeData n) (λ _ _ _. tt) (λ v slots z i le. omega (arith, ap (λ u. u.count) (total-first k s h slots z.0.all i le), agg-count (within s (slot_start k s i) (bag h)), prefix-fewer k s i (bag h) le)) y) x
+    match-weaker p _ _ _ _ (λ _. tt) (λ n y. by_kind-weaker _ _ _ _ (out-NodeData n) (λ _ _ _. tt) (λ v slots z i le. omega (arith, ap (λ u. u.count) (total-first k s h (slot_in slots) z.0.all.each i le), agg-count (within s (slot_start k s i) (bag h)), prefix-fewer k s i (bag h) le)) y) x
 
 -- The points of a span after a commit are at most those before and those added.
 pub after-fewer : (k : ℕ) (s : ℤ) (h : Past) (c : Commit) → length (points_of k s (bag (c ▷ h))) ≤ length (points_of k s (bag h)) + length (points_of k s c.added)

@@ -1,5 +1,5 @@
 -- Lemmas on the versions of spans: what a commit does not touch stays as it is.
-use Rattle.std.specs.Prelude.{◌≡◌, ℕ, ◌<◌, ◌≤◌, ℤ, pos, ◌+ℤ◌, Bool, true, false, not, ◌||◌, nat_lt, List, [], ◌∷◌, ◌++◌, cond}
+use Rattle.std.specs.Prelude.{◌≡◌, ℕ, ◌<◌, ◌≤◌, ℤ, pos, ◌+ℤ◌, Bool, true, false, not, ◌&&◌, ◌||◌, nat_lt, List, [], ◌∷◌, ◌++◌, cond}
 use Rattle.std.specs.List.{list_any}
 use Rattle.std.proofs.Common.{refl, sym, ap, ◌∙◌, arith, append-nil}
 use Rattle.std.proofs.lemmas.Bool.Decides.{nat_tests}
@@ -10,7 +10,7 @@ use Rattle.btr_base.proofs.PointLemmas.{sort-in_order, sort-of_order}
 use Rattle.btr_base.specs.Span.{width}
 use Rattle.btr_base.proofs.WithinLemmas.{within-after, within-in_order}
 use Rattle.btr_tree.specs.History.{Commit, Past, Opened, ◌▷◌, with_commit, bag}
-use Rattle.btr_tree.specs.Nodes.{points_of, has_points, touches, last_change, up_to}
+use Rattle.btr_tree.specs.Nodes.{points_of, has_points, touches, is_node, last_change, node_version, up_to}
 
 pub bag-in_order : (h : Past) → IsInOrder (bag h)
 bag-in_order (Opened b dates) = sort-in_order b
@@ -64,4 +64,19 @@ points-since was k s (c ▷ h) w le =
             | false ↦ λ same low.
                 points-since was k s h w low ∙ sym (points-untouched k s c h (first-false (touches c k s (bag h)) (not (was (bag h))) same))
           ] refl le
+    ] refl
+
+both-hold : (a b : Bool) → b ≡ true → (a && b) ≡ a
+both-hold a b e = grind arith
+
+-- A span with points has the same version as a node and as a slot.
+pub node-slot : (above : List Point → Bool) (k : ℕ) (s : ℤ) (h : Past) → has_points (points_of k s (bag h)) ≡ true → node_version above k s h ≡ last_change above k s h
+node-slot above k s (Opened b dates) some = refl
+node-slot above k s (c ▷ h) some =
+    elim (touches c k s (bag h)) as (λ t. touches c k s (bag h) ≡ t → cond (t || not (is_node above k s (bag h))) c.version (node_version above k s h) ≡ cond (t || not (above (bag h))) c.version (last_change above k s h)) [
+      | true ↦ λ _. refl
+      | false ↦ λ e.
+          let here : has_points (points_of k s (bag h)) ≡ true = sym (ap has_points (points-untouched k s c h e)) ∙ some in
+          ap (λ n. cond (not n) c.version (node_version above k s h)) (both-hold (above (bag h)) (has_points (points_of k s (bag h))) here)
+          ∙ ap (λ v. cond (not (above (bag h))) c.version v) (node-slot above k s h here)
     ] refl

@@ -25,15 +25,15 @@ abbrev pub end_of : SpanValue → ℤ
 end_of s = s.start +ℤ pos (width s.height)
 
 -- The aggregates of the first n slots, joined.
-unfoldable pub joined_first : ℕ → Slots → AggValue
+unfoldable pub joined_first : ℕ → (ℕ → Slot) → AggValue
 joined_first zero slots = no_points
-joined_first (suc n) slots = joined (joined_first n slots) (slot_in slots n).agg
+joined_first (suc n) slots = joined (joined_first n slots) (slots n).agg
 
 -- The aggregates of a node's slots can be joined.
 abbrev pub IsCounted : Option NodeData → Type 0
 IsCounted child =
     MatchOption child (Unit {0})
-    (λ n. ByKind (λ v ps. Unit {0}) (λ v slots. (i : ℕ) → i ≤ 64 → (joined_first i slots).count < 2 ^ 64) (out-NodeData n))
+    (λ n. ByKind (λ v ps. Unit {0}) (λ v slots. (i : ℕ) → i ≤ 64 → (joined_first i (slot_in slots)).count < 2 ^ 64) (out-NodeData n))
 
 -- Some history has this child, and its points in the span can be counted together with `more` others.
 pub record IsSomeChild (height : ℕ) (start : ℤ) (child : Option NodeData) (more : ℕ) : Type 0 where

@@ -68,7 +68,7 @@ Leads pages (suc below) start above h block =
 -- The aggregate of a node, by its points or by its slots.
 abbrev pub total_of_kind : NodeData-F NodeData Link Kept Slots → AggValue
 total_of_kind (NodeData-F.Leaf block version points) = agg points.items
-total_of_kind (NodeData-F.Inner block version slots) = joined_first 64 slots
+total_of_kind (NodeData-F.Inner block version slots) = joined_first 64 (slot_in slots)
 
 -- The aggregate of a child.
 abbrev pub total_of : Option NodeData → AggValue

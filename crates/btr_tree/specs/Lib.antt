@@ -10,6 +10,8 @@ pub mod Slots
 -- What a tree in memory is, and what a visit shows of it.
 pub mod Shape
 pub mod EachHistory
+-- What a source of nodes finds.
+pub mod NodeSource
 -- The nodes that a commit writes.
 pub mod NewNodes
 -- Where nodes lie on the device.
@@ -27,3 +29,8 @@ pub mod Shared
 -- To which nodes a root leads on the device, and trees that are made of nodes read from there.
 pub mod Leads
 pub mod Opened
+-- Nodes that are fetched from blocks.
+pub mod PageNodes
+pub mod Spots
+pub mod FetchedLaws
+pub mod Fetched

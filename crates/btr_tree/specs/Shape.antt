@@ -37,9 +37,14 @@ pub record IsLeaf (height : ℕ) (start : ℤ) (above : List Point → Bool) (h 
   pub few : length points ≤ LEAF_POINTS
   pub version : carried ≡ node_version above height start h
 
--- The 64 slots of a span, each of which is the slot of its own span.
+-- Each of the 64 slots of a span is the slot of its own span.
+abbrev pub AreSlots : ℕ → ℤ → Past → (ℕ → Slot) → Type 0
+AreSlots below start h slots =
+    (i : ℕ) → i < 64 → slots i ≡ slot_of_points (suc below) start below (slot_start below start i) h
+
+-- The 64 slots of a span in memory, each of which is the slot of its own span.
 pub record HasSlots (below : ℕ) (start : ℤ) (h : Past) (slots : Slots) : Type 0 where
-  pub each : (i : ℕ) → i < 64 → slot_in slots i ≡ slot_of_points (suc below) start below (slot_start below start i) h
+  pub each : AreSlots below start h (slot_in slots)
 
 -- An inner node has more points than a leaf holds, 64 slots, and its version.
 pub record IsInner (below : ℕ) (start : ℤ) (above : List Point → Bool) (h : Past) (carried : ℕ) (slots : Slots) : Type 0 where

@@ -82,23 +82,23 @@ unfoldable pub first_slots : ℕ → Slots → List Slot
 first_slots zero x = []
 first_slots (suc n) x = first_slots n x ++ addressed x n ∷ []
 
--- Slot i has a point.
-abbrev pub IsOccupied : Slots → ℕ → Type 0
-IsOccupied x i = 0 < (slot_in x i).agg.count
+-- Slot i of these slots has a point.
+abbrev pub IsOccupied : (ℕ → Slot) → ℕ → Type 0
+IsOccupied slots i = 0 < (slots i).agg.count
 
 -- No slot of those from one number up to, and without, another has a point.
-abbrev pub AreEmpty : Slots → ℕ → ℕ → Type 0
-AreEmpty x from to = (i : ℕ) → from ≤ i → i < to → (slot_in x i).agg.count ≡ 0
+abbrev pub AreEmpty : (ℕ → Slot) → ℕ → ℕ → Type 0
+AreEmpty slots from to = (i : ℕ) → from ≤ i → i < to → (slots i).agg.count ≡ 0
 
 -- The first slot from `from` on that has a point, or none.
-abbrev pub IsNextOccupied : Slots → ℕ → Option ℕ → Type 0
-IsNextOccupied x from None = AreEmpty x from 64
-IsNextOccupied x from (Some i) = (from ≤ i) × (i < 64) × IsOccupied x i × AreEmpty x from i
+abbrev pub IsNextOccupied : (ℕ → Slot) → ℕ → Option ℕ → Type 0
+IsNextOccupied slots from None = AreEmpty slots from 64
+IsNextOccupied slots from (Some i) = (from ≤ i) × (i < 64) × IsOccupied slots i × AreEmpty slots from i
 
 -- The last slot below `to` that has a point, or none.
-abbrev pub IsPreviousOccupied : Slots → ℕ → Option ℕ → Type 0
-IsPreviousOccupied x to None = AreEmpty x 0 to
-IsPreviousOccupied x to (Some i) = (i < to) × IsOccupied x i × AreEmpty x (i + 1) to
+abbrev pub IsPreviousOccupied : (ℕ → Slot) → ℕ → Option ℕ → Type 0
+IsPreviousOccupied slots to None = AreEmpty slots 0 to
+IsPreviousOccupied slots to (Some i) = (i < to) × IsOccupied slots i × AreEmpty slots (i + 1) to
 
 -- The two have the same slots and the same children.
 pub record AreSameSlots (old new : Slots) : Type 0 where

@@ -6,7 +6,7 @@ ghost use Rattle.btr_tree.specs.History.{Past, bag};
 ghost use Rattle.btr_tree.specs.Nodes.{points_of};
 ghost use Rattle.btr_tree.specs.Shape.{IsChild};
 ghost use Rattle.btr_tree.specs.Change.{IsCounted, joined_first};
-ghost use Rattle.btr_tree.specs.Slots.{node_of};
+ghost use Rattle.btr_tree.specs.Slots.{node_of, slot_in};
 
 use crate::node::{Child, NodeData};
 use crate::slots::Slots;
@@ -29,8 +29,8 @@ pub(crate) fn agg_of_child(child: Child<'_>) -> Agg
 
 /// Returns the aggregate of all slots.
 fn agg_of_slots(slots: &Slots) -> Agg
-    requires { (i : ℕ) → i ≤ 64 → (joined_first i slots.now).count < 2 ^ 64 }
-    ensures { result ≡ joined_first 64 slots.now }
+    requires { (i : ℕ) → i ≤ 64 → (joined_first i (slot_in slots.now)).count < 2 ^ 64 }
+    ensures { result ≡ joined_first 64 (slot_in slots.now) }
 {
     let mut all = Agg::none();
     for i in 0..FAN_OUT {

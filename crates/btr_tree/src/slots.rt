@@ -85,7 +85,7 @@ impl Slots {
     /// from `from` on, and no memory.
     pub fn next_occupied(&self, from: u8) -> Option<u8>
         requires { from ≤ 64 }
-        ensures { IsNextOccupied self.now from result }
+        ensures { IsNextOccupied (slot_in self.now) from result }
     {
         for i in from..FAN_OUT {
             if self.is_occupied(i) {
@@ -98,7 +98,7 @@ impl Slots {
     /// The last slot below `to` that has a point, or `None` if there is none. It takes time linear in `to`, and no memory.
     pub fn previous_occupied(&self, to: u8) -> Option<u8>
         requires { to ≤ 64 }
-        ensures { IsPreviousOccupied self.now to result }
+        ensures { IsPreviousOccupied (slot_in self.now) to result }
     {
         let mut i = to;
         while i > 0 {

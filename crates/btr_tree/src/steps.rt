@@ -15,6 +15,10 @@ pub struct Steps<L> {
     label: PhantomData<L>,
 }
 
+/// The label of the counters of walks through [`crate::Uncounted`] trees. It has no [`Label`], so only such a tree gives such a
+/// counter.
+pub struct Aside;
+
 /// The label of the counters of forks. It has no [`Label`], so only [`Fork::new`] makes such a counter.
 pub(crate) struct Forked;
 
@@ -57,6 +61,18 @@ impl<L> Model for Steps<L> {
 impl<L: Label> Steps<L> {
     /// A counter of no steps. It takes no memory.
     pub fn new() -> Steps<L>
+        ensures { result ≡ 0 }
+    {
+        Steps {
+            count: 0,
+            label: PhantomData,
+        }
+    }
+}
+
+impl Steps<Aside> {
+    /// A counter of no steps. It takes no memory.
+    pub(crate) fn aside() -> Steps<Aside>
         ensures { result ≡ 0 }
     {
         Steps {

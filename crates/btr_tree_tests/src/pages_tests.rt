@@ -4,9 +4,9 @@ ghost use Rattle.btr_pages.specs.Known.{node_at};
 
 use super::fixture::{Counts, Pairs, Row, Runs, all_hold, applied, bag_of, bag_of_runs, ranges_of};
 use super::tree_tests::nodes_in;
-use btr_base::{END, FIRST, LEAF_POINTS, Point, Range, Ranges};
+use btr_base::{Agg, END, FIRST, LEAF_POINTS, MAX_POINTS, Point, Range, Ranges};
 use btr_node::{NodePage, PAGE, PageSlot, decode, spell};
-use btr_pages::{Nodes, fill_page};
+use btr_pages::{Trees, fill_page};
 use btr_scan::range;
 use btr_tree::{NewNode, Steps, Tree};
 use std::alloc::Global;
@@ -18,7 +18,7 @@ const STREAM: u32 = 258;
 /// The trees of pages that are read in the order of their blocks, and the block of the next page.
 #[derive(Drop)]
 struct Reader {
-    nodes: Nodes,
+    nodes: Trees,
     next: u64,
     ghost begun: { 1 ≤ next },
     ghost below: { (k : ℕ) → IsSome (node_at nodes k) → k < next },
@@ -28,7 +28,7 @@ impl Reader {
     /// No trees, and the first page in block 4.
     fn new(alloc: Global) -> Reader {
         Reader {
-            nodes: Nodes::new(alloc),
+            nodes: Trees::new(alloc),
             next: 4,
         }
     }
@@ -63,7 +63,7 @@ impl Reader {
 // ---- what commits wrote
 
 /// The block that is filled with the page of a node of a stream.
-fn block_of(node: &NewNode, stream: u32) -> [u8; PAGE] {
+pub(crate) fn block_of(node: &NewNode, stream: u32) -> [u8; PAGE] {
     let mut block = [7; PAGE];
     fill_page(&mut block, node, stream);
     block
@@ -144,7 +144,7 @@ fn are_read(
 }
 
 /// Whether the tree of the page in the root's block is the tree in memory. If there is no point, there is no such page.
-fn is_read_back(alloc: Global, nodes: &Nodes, tree: &Tree, stream: u32) -> Result<bool, Fail> {
+fn is_read_back(alloc: Global, nodes: &Trees, tree: &Tree, stream: u32) -> Result<bool, Fail> {
     let Some(known) = nodes.get(tree.root()) else {
         return Ok(tree.root() == 0 && tree.count() == 0);
     };
@@ -208,7 +208,7 @@ fn commits_are_read_back(rt: HostRuntime) -> Result<(), Fail> {
 
 /// What is changed of a page.
 #[derive(Clone, Copy)]
-enum Change {
+pub(crate) enum Change {
     /// The version is one more.
     Version,
 
@@ -218,7 +218,7 @@ enum Change {
     /// The height is one less.
     Height,
 
-    /// The last point of a leaf is left out.
+    /// The last point of a leaf is left out, or the first slot of an inner node has one point more.
     Count,
 
     /// The first two slots have changed places.
@@ -232,7 +232,7 @@ enum Change {
 }
 
 /// A page after a change, or `None` for no page.
-fn changed(page: &NodePage, change: Change) -> Option<NodePage> {
+pub(crate) fn changed(page: &NodePage, change: Change) -> Option<NodePage> {
     let mut page = *page;
     match change {
         Change::Version => match &mut page {
@@ -250,7 +250,10 @@ fn changed(page: &NodePage, change: Change) -> Option<NodePage> {
                 *height = height.wrapping_sub(1);
             }
         },
-        Change::Count => drop_last(&mut page),
+        Change::Count => {
+            drop_last(&mut page);
+            add_one(&mut page);
+        }
         Change::Moved => {
             if let NodePage::Inner { slots, .. } = &mut page {
                 slots.swap(0, 1);
@@ -277,6 +280,23 @@ fn drop_last(page: &mut NodePage) {
         if let Some(place) = points.get_mut(last) {
             *place = Point { time: 0, value: 0 };
         }
+    }
+}
+
+/// Adds a point to the first slot of an inner node's page, which has one.
+fn add_one(page: &mut NodePage) {
+    if let NodePage::Inner { slots, .. } = page {
+        let agg = slots[0].agg;
+        let Some((least, _)) = agg.ends else {
+            return;
+        };
+        if agg.count >= MAX_POINTS {
+            return;
+        }
+        slots[0].agg = agg.join(&Agg::of(least));
+    }
+    if let NodePage::Inner { count, .. } = page {
+        *count = count.wrapping_add(1);
     }
 }
 

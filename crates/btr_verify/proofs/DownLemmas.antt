@@ -11,7 +11,7 @@ use Rattle.btr_tree.specs.NewNodes.{NewNodeValue}
 use Rattle.btr_tree.specs.Stored.{Store}
 use Rattle.btr_node.specs.Page.{header, span_of_page, slots_of_page}
 use Rattle.btr_node.specs.declared.page.NodePage.{NodePage}
-use Rattle.btr_pages.specs.Pages.{Pages, nodes_in, node_of_page, slot_of_page}
+use Rattle.btr_tree.specs.PageNodes.{Pages, nodes_in, node_of_page, slot_of_page}
 use Rattle.btr_hist.specs.declared.entry.Entry.{Entry}
 use Rattle.btr_verify.specs.Judged.{IsOwn, IsRight}
 use Rattle.btr_verify.specs.FirstWrong.{IsFirstWrongOn}

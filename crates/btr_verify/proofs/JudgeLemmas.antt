@@ -15,7 +15,8 @@ use Rattle.btr_node.specs.Page.{header, Keeps, IsSlot, span_of_page, slots_of_pa
 use Rattle.btr_node.specs.declared.page.NodePage.{NodePage}
 use Rattle.btr_node.specs.declared.page.NodePage.TheVariants.{Leaf, Inner}
 use Rattle.btr_node.specs.declared.page.PageSlot.{PageSlot}
-use Rattle.btr_pages.specs.Pages.{Pages, slot_of_page, node_of_page, node_of_stream, nodes_in, HasChildPage, IsPageAt}
+use Rattle.btr_tree.specs.PageNodes.{Pages, slot_of_page, node_of_page, node_of_stream, nodes_in}
+use Rattle.btr_pages.specs.Pages.{HasChildPage, IsPageAt}
 use Rattle.btr_hist.specs.declared.entry.Entry.{Entry}
 use Rattle.btr_streams.specs.Board.{HasVersion}
 use Rattle.btr_verify.specs.Judged.{IsRising, IsIn, IsOwn, IsRight, HasRight, IsRightSlot, AreRightBelow, IsPlacedNode}

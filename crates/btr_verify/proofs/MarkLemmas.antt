@@ -11,8 +11,8 @@ use Rattle.btr_disk.specs.Bytes.{Image}
 use Rattle.btr_log.specs.Piece.{PieceValue}
 use Rattle.btr_tree.proofs.KeptSlotLemmas.{get-front, get-last}
 use Rattle.btr_node.specs.declared.page.NodePage.{NodePage}
-use Rattle.btr_pages.specs.Pages.{Pages}
-use Rattle.btr_pages.specs.Known.{KnownValue, NodesValue, AreKnown, node_at}
+use Rattle.btr_tree.specs.PageNodes.{Pages}
+use Rattle.btr_pages.specs.Known.{KnownValue, TreesValue, AreKnown, node_at}
 use Rattle.btr_pages.proofs.KnownLemmas.{known-at, block-at}
 use Rattle.btr_hist.specs.declared.entry.Entry.{Entry}
 use Rattle.btr_streams.specs.declared.snapshot.Snapshot.{Snapshot}
@@ -26,7 +26,7 @@ use Rattle.btr_log.proofs.OnlyReading.{OnlyReads-trans, same-bytes}
 -- ---- the page in a block
 
 -- A block with a tree has the page that was read.
-pub has-page : {A : Type 0} (f : A → KnownValue) (got : Option A) (image : Image) (pages : Pages) (nodes : NodesValue) (block : ℕ) (read : Option NodePage) → option_map f got ≡ node_at nodes block → is_some got ≡ true → AreKnown pages nodes → AreStoredAt image pages → IsPageRead image block read → pages block ≡ read
+pub has-page : {A : Type 0} (f : A → KnownValue) (got : Option A) (image : Image) (pages : Pages) (nodes : TreesValue) (block : ℕ) (read : Option NodePage) → option_map f got ≡ node_at nodes block → is_some got ≡ true → AreKnown pages nodes → AreStoredAt image pages → IsPageRead image block read → pages block ≡ read
 has-page f None image pages nodes block read at some known stored is = absurd (false≢true some)
 has-page f (Some k) image pages nodes block read at some known stored is =
     let its = known-at pages nodes block (f k) known.each (sym at) in
@@ -54,13 +54,13 @@ marked-more pages h n marks mark marked last =
 
 module _ {D : Type 0} (disk : Ghosts D) where
   -- The pages of the blocks so far were judged. The calls only read.
-  pub record HasMarked (tail : ℕ) (nodes : NodesValue) (snapshot : Snapshot) (old new : D) (piece : PieceValue) (n : ℕ) (marks : List Mark) : Type 0 where
+  pub record HasMarked (tail : ℕ) (nodes : TreesValue) (snapshot : Snapshot) (old new : D) (piece : PieceValue) (n : ℕ) (marks : List Mark) : Type 0 where
     pub reads : OnlyReads disk old new
     pub can : CanReadTo disk tail piece new
     pub marked : disk.is_observable → AreMarksOf (disk.contents old) nodes snapshot n marks
 
   -- One block more was judged, by its page.
-  pub has-more : (tail : ℕ) (nodes : NodesValue) (snapshot : Snapshot) (old mid new : D) (piece after : PieceValue) (n : ℕ) (marks : List Mark) (page : Option NodePage) (mark : Mark) → HasMarked tail nodes snapshot old mid piece n marks → OnlyReads disk mid new → CanReadTo disk tail after new → (disk.is_observable → IsKnownPage (disk.contents mid) nodes n page) → ((pages : Pages) (h : List Entry) (image : Image) (block : ℕ) → CanJudge pages h image block marks snapshot page → IfSome page (IsMarkOf pages h block mark)) → HasMarked tail nodes snapshot old new after (n + 1) (marks ++ mark ∷ [])
+  pub has-more : (tail : ℕ) (nodes : TreesValue) (snapshot : Snapshot) (old mid new : D) (piece after : PieceValue) (n : ℕ) (marks : List Mark) (page : Option NodePage) (mark : Mark) → HasMarked tail nodes snapshot old mid piece n marks → OnlyReads disk mid new → CanReadTo disk tail after new → (disk.is_observable → IsKnownPage (disk.contents mid) nodes n page) → ((pages : Pages) (h : List Entry) (image : Image) (block : ℕ) → CanJudge pages h image block marks snapshot page → IfSome page (IsMarkOf pages h block mark)) → HasMarked tail nodes snapshot old new after (n + 1) (marks ++ mark ∷ [])
   has-more tail nodes snapshot old mid new piece after n marks page mark so_far reads can known says = record {
     reads = OnlyReads-trans old mid new so_far.reads reads;
     can = can;

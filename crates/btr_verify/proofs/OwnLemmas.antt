@@ -1,5 +1,5 @@
 -- Lemmas on stored nodes: what a right node has, and when a node is right.
-use Rattle.std.specs.Prelude.{◌≡◌, ℕ, ◌<◌, ◌≤◌, ℤ, Bool, true, false, not, ◌&&◌, ◌||◌, cond, List, [], ◌∷◌, ◌++◌, length, map, slice_get, Option, Some, None, IfSome}
+use Rattle.std.specs.Prelude.{◌≡◌, ℕ, ◌<◌, ◌≤◌, ℤ, Bool, true, false, ◌&&◌, cond, List, [], ◌∷◌, ◌++◌, length, map, slice_get, Option, Some, None, IfSome}
 use Rattle.std.specs.Option.{option_map}
 use Rattle.std.proofs.Common.{zero, suc, refl, sym, ap, ◌∙◌, arith, subst, inl, inr}
 use Rattle.std.proofs.lemmas.Bool.{cases_lt}
@@ -11,17 +11,17 @@ use Rattle.btr_base.specs.declared.point.Point.{Point}
 use Rattle.btr_base.specs.Span.{SpanValue, IsSpan, slot_of}
 use Rattle.btr_base.proofs.AggLemmas.{agg-count}
 use Rattle.btr_tree.specs.declared.node.Slot.{Slot}
-use Rattle.btr_tree.specs.History.{Past, Opened, ◌▷◌, bag}
+use Rattle.btr_tree.specs.History.{Past, bag}
 use Rattle.btr_tree.specs.Leads.{slot_to, slots_to, node_to, LeadsToNode, Leads}
 use Rattle.btr_tree.specs.NewNodes.{NewNodeValue, bare, concat_first, slots_of, new_node}
-use Rattle.btr_tree.specs.Nodes.{points_of, has_points, touches, is_inner, is_node, last_change, node_version, slot_version, up_to}
+use Rattle.btr_tree.specs.Nodes.{points_of, has_points, is_inner, is_node, node_version, slot_version, up_to}
 use Rattle.btr_tree.specs.Packed.{without_address}
 use Rattle.btr_tree.specs.Shape.{slot_start, slot_of_points}
 use Rattle.btr_tree.specs.Stored.{Store}
 use Rattle.btr_tree.proofs.LeadsLemmas.{items-get, items-length}
 use Rattle.btr_tree.proofs.NodeLemmas.{slot-part}
 use Rattle.btr_tree.proofs.UntouchedNodeLemmas.{some-has, many-inner}
-use Rattle.btr_tree.proofs.VersionLemmas.{points-untouched}
+use Rattle.btr_tree.proofs.VersionLemmas.{node-slot}
 use Rattle.btr_verify.specs.Judged.{IsRising, above_of, is_node_in, IsIn, LeadsIn, IsOwn, IsRight, HasRight, IsRightSlot, AreRightBelow, IsPlacedNode}
 use Rattle.btr_verify.proofs.AboveLemmas.{slot-above}
 use Rattle.btr_verify.proofs.FieldLemmas.{slot-by, node-by}
@@ -100,21 +100,6 @@ has-some (p ∷ b) e = omega arith
 
 pub node-some : (k : ℕ) (s : ℤ) (above : List Point → Bool) (b : List Point) → is_node above k s b ≡ true → 0 < length (points_of k s b)
 node-some k s above b e = has-some (points_of k s b) (both-second (above b) (has_points (points_of k s b)) e)
-
--- A span with points has the same version as a node and as a slot.
-pub node-slot : (above : List Point → Bool) (k : ℕ) (s : ℤ) (h : Past) → has_points (points_of k s (bag h)) ≡ true → node_version above k s h ≡ last_change above k s h
-node-slot above k s (Opened b dates) some = refl
-node-slot above k s (c ▷ h) some =
-    elim (touches c k s (bag h)) as (λ t. touches c k s (bag h) ≡ t → cond (t || not (is_node above k s (bag h))) c.version (node_version above k s h) ≡ cond (t || not (above (bag h))) c.version (last_change above k s h)) [
-      | true ↦ λ _. refl
-      | false ↦ λ e.
-          let here : has_points (points_of k s (bag h)) ≡ true = sym (ap has_points (points-untouched k s c h e)) ∙ some in
-          ap (λ n. cond (not n) c.version (node_version above k s h)) (both-hold (above (bag h)) (has_points (points_of k s (bag h))) here)
-          ∙ ap (λ v. cond (not (above (bag h))) c.version v) (node-slot above k s h here)
-    ] refl
-  where
-    both-hold : (a b : Bool) → b ≡ true → (a && b) ≡ a
-    both-hold a b e = grind arith
 
 module _ (store : Store) (h : Past) (rising : IsRising h) (v k : ℕ) (s : ℤ) (above : List Point → Bool) (its : above_of (record { start = s; height = k }) ≡ above) (node : is_node above k s (bag (up_to v h)) ≡ true) where
   -- The past up to the node's version.

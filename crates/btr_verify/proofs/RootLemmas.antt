@@ -24,8 +24,9 @@ use Rattle.btr_tree.proofs.UntouchedNodeLemmas.{some-has}
 use Rattle.btr_node.specs.Page.{header, Keeps, span_of_page}
 use Rattle.btr_node.specs.declared.page.NodePage.{NodePage}
 use Rattle.btr_node.specs.declared.page.NodePage.TheVariants.{Leaf, Inner}
-use Rattle.btr_pages.specs.Pages.{Pages, nodes_in, node_of_page, HasRootPage}
-use Rattle.btr_pages.specs.Known.{KnownValue, NodesValue, AreKnown, node_at}
+use Rattle.btr_tree.specs.PageNodes.{Pages, nodes_in, node_of_page}
+use Rattle.btr_pages.specs.Pages.{HasRootPage}
+use Rattle.btr_pages.specs.Known.{KnownValue, TreesValue, AreKnown, node_at}
 use Rattle.btr_pages.proofs.KnownLemmas.{known-at, block-at}
 use Rattle.btr_pages.proofs.ReportedLemmas.{page-in}
 use Rattle.btr_hist.specs.declared.entry.Entry.{Entry}
@@ -146,7 +147,7 @@ module _ (pages : Pages) (h : List Entry) (made : Made) (is : IsCommitOf pages h
       child-version 10 FIRST above_root G t.node tree.node any ∙ ap (λ a. node_version a 10 FIRST G) (sym root-above)
 
   -- The page of a root has the version of the tree's root exactly if the trees that were made have one version.
-  pub same-version : (nodes : NodesValue) (k : KnownValue) (t : TreeValue) → AreKnown pages nodes → node_at nodes made.root ≡ Some k → IsTreeOf h made.stream made.version t → IsTrue (nat_eq (version_of k.tree.node) (version_of t.node)) ↔ HasTreeVersion pages h made
+  pub same-version : (nodes : TreesValue) (k : KnownValue) (t : TreeValue) → AreKnown pages nodes → node_at nodes made.root ≡ Some k → IsTreeOf h made.stream made.version t → IsTrue (nat_eq (version_of k.tree.node) (version_of t.node)) ↔ HasTreeVersion pages h made
   same-version nodes k t known at of =
       let its = known-at pages nodes made.root k known.each at in
       let there : pages made.root ≡ Some its.page = ap pages (sym (block-at nodes made.root k at)) ∙ its.is in
@@ -180,7 +181,7 @@ module _ (pages : Pages) (h : List Entry) (made : Made) (is : IsCommitOf pages h
 
   -- ---- its mark
 
-  module _ (nodes : NodesValue) (snapshot : Snapshot) (marks : List Mark) (judged : WereJudged pages h nodes snapshot marks) where
+  module _ (nodes : TreesValue) (snapshot : Snapshot) (marks : List Mark) (judged : WereJudged pages h nodes snapshot marks) where
     module _ (some : 0 < made.root) where
       abbrev p : HasRootPage pages made.stream made.version made.root
       p = is.page some
@@ -276,7 +277,7 @@ module _ (pages : Pages) (h : List Entry) (made : Made) (is : IsCommitOf pages h
 
 -- ---- the first root that fails
 
-module _ (pages : Pages) (h : List Entry) (nodes : NodesValue) (snapshot : Snapshot) (marks : List Mark) (judged : WereJudged pages h nodes snapshot marks) (mades : List Made) (each : AreCommitsOf pages h mades) (first : Made) (fails : IsFirstThatFails pages h mades first) where
+module _ (pages : Pages) (h : List Entry) (nodes : TreesValue) (snapshot : Snapshot) (marks : List Mark) (judged : WereJudged pages h nodes snapshot marks) (mades : List Made) (each : AreCommitsOf pages h mades) (first : Made) (fails : IsFirstThatFails pages h mades first) where
   pub its-made : IsCommitOf pages h first
   its-made = subst (λ o. IfSome o (IsCommitOf pages h)) fails.is (each fails.at)
 

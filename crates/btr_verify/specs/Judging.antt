@@ -10,8 +10,8 @@ use Rattle.btr_tree.specs.Stored.{Store}
 use Rattle.btr_node.specs.Page.{header, span_of_page}
 use Rattle.btr_node.specs.declared.page.NodePage.{NodePage}
 use Rattle.btr_node.specs.declared.page.PageSlot.{PageSlot}
-use Rattle.btr_pages.specs.Pages.{Pages, nodes_in, node_of_page}
-use Rattle.btr_pages.specs.Known.{NodesValue, AreKnown, node_at}
+use Rattle.btr_tree.specs.PageNodes.{Pages, nodes_in, node_of_page}
+use Rattle.btr_pages.specs.Known.{TreesValue, AreKnown, node_at}
 use Rattle.btr_hist.specs.declared.entry.Entry.{Entry}
 use Rattle.btr_streams.specs.declared.snapshot.Snapshot.{Snapshot}
 use Rattle.btr_streams.specs.Board.{HasVersion}
@@ -38,7 +38,7 @@ abbrev pub IsPageRead : Image → ℕ → Option NodePage → Type 0
 IsPageRead image block read = (pages : Pages) (page : NodePage) → IsStoredAt image pages block page → read ≡ Some page
 
 -- What was read is the page that the block has among pages of which trees were made, or none.
-abbrev pub IsKnownPage : Image → NodesValue → ℕ → Option NodePage → Type 0
+abbrev pub IsKnownPage : Image → TreesValue → ℕ → Option NodePage → Type 0
 IsKnownPage image nodes block read = (pages : Pages) → AreKnown pages nodes → AreStoredAt image pages → pages block ≡ read
 
 -- ---- marks
@@ -91,14 +91,14 @@ pub record CanJudge (pages : Pages) (h : List Entry) (image : Image) (block : �
   pub marked : AreMarked pages h block marks
 
 -- Of any pages and any history that the trees are of, the blocks below n have marks.
-abbrev pub AreMarksOf : Image → NodesValue → Snapshot → ℕ → List Mark → Type 0
+abbrev pub AreMarksOf : Image → TreesValue → Snapshot → ℕ → List Mark → Type 0
 AreMarksOf image nodes snapshot n marks =
     (pages : Pages) (h : List Entry) → AreTreesOf image pages h nodes snapshot → AreMarked pages h n marks
 
 -- ---- roots
 
 -- All pages were judged: the blocks below the tail have marks, and the pages are in these blocks.
-pub record WereJudged (pages : Pages) (h : List Entry) (nodes : NodesValue) (snapshot : Snapshot) (marks : List Mark) : Type 0 where
+pub record WereJudged (pages : Pages) (h : List Entry) (nodes : TreesValue) (snapshot : Snapshot) (marks : List Mark) : Type 0 where
   pub image : Image
   pub tail : ℕ
   pub trees : AreTreesOf image pages h nodes snapshot

@@ -11,8 +11,9 @@ use Rattle.btr_tree.specs.Leads.{Leads}
 use Rattle.btr_tree.specs.Nodes.{points_of, above_root}
 use Rattle.btr_node.specs.Page.{page_bytes, Fits}
 use Rattle.btr_node.specs.declared.page.NodePage.{NodePage}
-use Rattle.btr_pages.specs.Pages.{Pages, nodes_in, IsPageAt, HasRootPage, Stand}
-use Rattle.btr_pages.specs.Known.{NodesValue, AreKnown}
+use Rattle.btr_tree.specs.PageNodes.{Pages, nodes_in, Stand}
+use Rattle.btr_pages.specs.Pages.{IsPageAt, HasRootPage}
+use Rattle.btr_pages.specs.Known.{TreesValue, AreKnown}
 use Rattle.btr_hist.specs.declared.entry.Entry.{Entry}
 use Rattle.btr_hist.specs.History.{latest}
 use Rattle.btr_streams.specs.declared.snapshot.Snapshot.{Snapshot}
@@ -63,13 +64,13 @@ abbrev pub AreCommitsOf : Pages → List Entry → List Made → Type 0
 AreCommitsOf pages h made = (i : ℕ) → IfSome (slice_get made i) (IsCommitOf pages h)
 
 -- The trees are those of these pages, which are stored on the device. The snapshot has the entries of this history.
-pub record AreTreesOf (image : Image) (pages : Pages) (h : List Entry) (nodes : NodesValue) (snapshot : Snapshot) : Type 0 where
+pub record AreTreesOf (image : Image) (pages : Pages) (h : List Entry) (nodes : TreesValue) (snapshot : Snapshot) : Type 0 where
   pub known : AreKnown pages nodes
   pub stored : AreStoredAt image pages
   pub of : IsSnapshotOf h snapshot
 
 -- The trees are those of pages and of a history, and these are commits of the history.
-pub record AreToVerify (image : Image) (pages : Pages) (h : List Entry) (nodes : NodesValue) (snapshot : Snapshot) (made : List Made)
+pub record AreToVerify (image : Image) (pages : Pages) (h : List Entry) (nodes : TreesValue) (snapshot : Snapshot) (made : List Made)
     : Type 0 where
   pub trees : AreTreesOf image pages h nodes snapshot
   pub each : AreCommitsOf pages h made

@@ -2,7 +2,7 @@
 ghost use Rattle.std.specs.Prelude.{◌≡◌, ◌↔◌, ℕ, List, map, slice_get, Some, IfNone, IfSome, IsTrue};
 ghost use Rattle.btr_disk.specs.Bytes.{Image};
 ghost use Rattle.btr_node.specs.Page.{Keeps, header, slots_of_page};
-ghost use Rattle.btr_pages.specs.Pages.{Pages, node_of_page, slot_of_page};
+ghost use Rattle.btr_tree.specs.PageNodes.{Pages, node_of_page, slot_of_page};
 ghost use Rattle.btr_hist.specs.declared.entry.Entry.{Entry as EntrySpec};
 ghost use Rattle.btr_streams.specs.Board.{HasVersion};
 ghost use Rattle.btr_streams.specs.Snapshot.{IsSnapshotOf};

@@ -2,7 +2,7 @@
 ghost use Rattle.std.specs.Prelude.{◌≡◌, ◌<◌, ℕ, List, [], ◌∷◌, ◌++◌, IfErr, IfOk, IfSome, OnOk};
 ghost use Rattle.btr_disk.specs.Bytes.{Image};
 ghost use Rattle.btr_node.specs.Page.{Keeps};
-ghost use Rattle.btr_pages.specs.Pages.{Pages};
+ghost use Rattle.btr_tree.specs.PageNodes.{Pages};
 ghost use Rattle.btr_hist.specs.declared.entry.Entry.{Entry as EntrySpec};
 ghost use Rattle.btr_log.specs.Reads.{OnlyReads};
 ghost use Rattle.btr_verify.specs.Trees.{VerifyCause};
@@ -14,7 +14,7 @@ use crate::verifying::VerifyFault;
 use btr_disk::Disk;
 use btr_log::Piece;
 use btr_node::NodePage;
-use btr_pages::Nodes;
+use btr_pages::Trees;
 use btr_streams::Snapshot;
 use std::alloc::{AllocError, Global};
 
@@ -23,7 +23,7 @@ pub(crate) fn mark_blocks<D: Disk>(
     alloc: Global,
     piece: &mut Piece,
     disk: &mut D,
-    nodes: &Nodes,
+    nodes: &Trees,
     snapshot: &Snapshot,
     tail: u64,
 ) -> Result<Vec<Mark>, VerifyFault>
@@ -46,7 +46,7 @@ pub(crate) fn mark_blocks<D: Disk>(
 fn known_page<D: Disk>(
     piece: &mut Piece,
     disk: &mut D,
-    nodes: &Nodes,
+    nodes: &Trees,
     tail: u64,
     block: u64,
 ) -> Result<Option<NodePage>, VerifyFault>

@@ -1,6 +1,6 @@
 //! Which root is the first that does not lead to the tree of its version.
 ghost use Rattle.std.specs.Prelude.{◌≡◌, ◌↔◌, List, [], IsSome, IsTrue};
-ghost use Rattle.btr_pages.specs.Pages.{Pages};
+ghost use Rattle.btr_tree.specs.PageNodes.{Pages};
 ghost use Rattle.btr_hist.specs.declared.entry.Entry.{Entry as EntrySpec};
 ghost use Rattle.btr_pages.specs.Known.{AreKnown, node_at};
 ghost use Rattle.btr_streams.specs.Board.{HasVersion};
@@ -10,12 +10,12 @@ ghost use Rattle.btr_verify.specs.Judging.{HasTreeVersion, IsFirstFailure, WereJ
 
 use crate::judging::{Mark, is_right};
 use crate::verifying::Made;
-use btr_pages::Nodes;
+use btr_pages::Trees;
 use btr_streams::Snapshot;
 
 /// The first commit whose root does not lead to the tree of its version, if there is one.
 pub(crate) fn first_that_fails(
-    nodes: &Nodes,
+    nodes: &Trees,
     snapshot: &Snapshot,
     marks: &[Mark],
     made: &[Made],
@@ -33,7 +33,7 @@ pub(crate) fn first_that_fails(
 }
 
 /// Whether the root of a commit leads to the tree of its version.
-fn leads(nodes: &Nodes, snapshot: &Snapshot, marks: &[Mark], made: &Made) -> bool
+fn leads(nodes: &Trees, snapshot: &Snapshot, marks: &[Mark], made: &Made) -> bool
     ensures { (pages : Pages) (h : List EntrySpec)
         → WereJudged pages h nodes.now snapshot.now marks.now → IsCommitOf pages h made.now
         → IsTrue result ↔ LeadsToTree pages h made.now }
@@ -56,7 +56,7 @@ fn has_no_point(snapshot: &Snapshot, made: &Made) -> bool
 }
 
 /// Whether the version of a commit has a point, and the page of the root has the version of the root of its version's tree.
-pub(crate) fn has_tree_version(nodes: &Nodes, snapshot: &Snapshot, made: &Made) -> bool
+pub(crate) fn has_tree_version(nodes: &Trees, snapshot: &Snapshot, made: &Made) -> bool
     ensures same { (pages : Pages) (h : List EntrySpec) → AreKnown pages nodes.now → IsSnapshotOf h snapshot.now
         → IsCommitOf pages h made.now → IsTrue result ↔ HasTreeVersion pages h made.now }
     ensures page { IsTrue result → IsSome (node_at nodes.now made.now.root) }

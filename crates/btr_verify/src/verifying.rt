@@ -1,6 +1,6 @@
 //! The first wrong node of the trees that are stored on a device.
 ghost use Rattle.std.specs.Prelude.{◌^◌, ◌<◌, ◌≤◌, ℕ, List, IfErr, IfOk, IsSome};
-ghost use Rattle.btr_pages.specs.Pages.{Pages};
+ghost use Rattle.btr_tree.specs.PageNodes.{Pages};
 ghost use Rattle.btr_pages.specs.Known.{node_at};
 ghost use Rattle.btr_hist.specs.declared.entry.Entry.{Entry as EntrySpec};
 ghost use Rattle.btr_log.specs.Reads.{OnlyReads};
@@ -11,7 +11,7 @@ use crate::marking::mark_blocks;
 use crate::roots::{first_that_fails, has_tree_version};
 use btr_disk::Disk;
 use btr_log::Piece;
-use btr_pages::Nodes;
+use btr_pages::Trees;
 use btr_streams::Snapshot;
 use std::alloc::{AllocError, Global};
 
@@ -60,7 +60,7 @@ impl From<AllocError> for VerifyFault {
 pub fn first_wrong_node<D: Disk>(
     alloc: Global,
     disk: &mut D,
-    nodes: &Nodes,
+    nodes: &Trees,
     snapshot: &Snapshot,
     made: &[Made],
     tail: u64,

@@ -1,6 +1,4 @@
--- What the private functions promise of a slot.
-pub mod EachSlot
--- What the private functions promise: the visits of an aggregate.
+-- What the private functions promise: the aggregate of a range, and its visits.
 pub mod RangeEnds
 -- What the private functions promise: the windows of a walk.
 pub mod Accumulate

@@ -1,19 +1,24 @@
 //! The aggregates of the windows of a range.
-ghost use Rattle.std.specs.Prelude.{◌≡◌, ℕ, suc, ◌≤◌, ◌^◌, ◌<◌, ◌≤ℤ◌, ◌<ℤ◌, IfOk, OnOk};
+ghost use Rattle.std.specs.Prelude.{◌≡◌, ◌+◌, ◌≤◌, ◌^◌, ◌<◌, IfOk, IfErr, OnOk};
 ghost use Rattle.btr_base.specs.Windows.{IsGrid, cells as cells_between, aligned as aligned_of, windows as windows_of};
 ghost use Rattle.btr_tree.specs.History.{Past, bag};
-ghost use Rattle.btr_tree.specs.Change.{IsSomeChild, AreSomeSlots, IsSomeSlot, end_of};
-ghost use Rattle.btr_tree.specs.EachHistory.{AtEachHistory, AtEachInner, points_in};
 ghost use Rattle.btr_tree.specs.Root.{IsTree};
-ghost use Rattle.btr_tree.specs.Slots.{node_of, slot_in, child_in, IsOccupied};
-ghost use Rattle.btr_window.specs.EachSlot.{AtEachSlot};
-ghost use Rattle.btr_window.specs.Accumulate.{AddsWithin, counted, IsStart, AreStarts};
+ghost use Rattle.btr_tree.specs.Slots.{IsOccupied};
+ghost use Rattle.btr_tree.specs.NodeSource.{AtEachPlace, AtEachSlots, AreSafeSlots, count_in, IfRefused, UsesSource};
+ghost use Rattle.btr_tree.specs.NodeSource.{ForPlace, ForSlots, ForSlot};
+ghost use Rattle.btr_tree.specs.Spots.{AtEachRoot, IsHarmlessFault, IsWalkCause};
+ghost use Rattle.btr_window.specs.Accumulate.{AddsWithin, HaveAtMost, HaveRoom, IsStart, MeetsWindows};
+ghost use Rattle.btr_window.specs.RangeEnds.{IsSafeSlot};
 
 use crate::accumulate::{add_part, add_points, start_around};
 use crate::inside::is_inside;
+use crate::part::{Part, WindowRange};
 use crate::whole_windows::whole_windows;
 use btr_base::{Cell, END, FIRST, Grid, Range, Span, points_between};
-use btr_tree::{Child, Label, Node, Slots, Steps, Tree, root_span, visit};
+use btr_tree::{
+    Fetched, FoundNode, Label, Memory, NodeFault, NodeSource, Nodes, Root, Steps, Tree, WalkFault,
+    find_root, root_span,
+};
 use std::alloc::{AllocError, Global};
 
 /// The label of the counters of walks over windows, on whose nodes no bound is claimed.
@@ -79,96 +84,240 @@ fn cells_of(alloc: Global, tree: &Tree, grid: Grid, range: Range) -> Result<Vec<
 {
     prove!(FIRST < range.to && range.from < END);
     let mut cells = Vec::new(alloc);
-    walk_child(root_span(), tree.link(), grid, range, &mut cells)?;
-    Ok(cells)
+    let mut steps = Steps::<WindowWalk>::new();
+    let windows = WindowRange { grid, range };
+    match walk_place::<Memory<'_>, WindowWalk>(
+        &mut (),
+        root_span(),
+        tree.link(),
+        &windows,
+        &mut cells,
+        &mut steps,
+    ) {
+        Ok(()) => Ok(cells),
+        Err(WalkFault::Want) => Err(AllocError),
+        Err(WalkFault::Refused(never)) => match never {},
+    }
 }
 
-/// Adds to the windows the points of a span in a range that meets it.
-#[cycle(window_walk)]
-fn walk_child(
-    span: Span,
-    child: Child<'_>,
+/// Returns the aligned windows of a root's version that meet a range and have a point, in order, each whole, as [`aligned`]
+/// does for a tree in memory. `p` is 0 to 62, the caller's condition.
+///
+/// It fetches pages one at a time. It costs its windows, one call of `nodes` for each node in which a window starts or ends,
+/// in one walk, and one call more for the root.
+///
+/// `Failed` is a call that failed. `Damaged` names the root's block if that has no page of a root of the stream which is not
+/// newer than the version; or the block of a slot's child if that has no page; or else the block whose page has a slot with
+/// another span, count, version or stream than the page of its child. It is not returned if the pages are those of a past.
+/// `Want` is out of memory.
+pub fn aligned_from<N: Nodes>(
+    alloc: Global,
+    nodes: &mut N,
+    root: Root,
+    range: Range,
+    p: u8,
+) -> Result<Vec<Cell>, NodeFault>
+    requires { p ≤ 62 }
+    ensures cells { N.is_observable → IfOk result (λ v. AtEachRoot (N.IsPage (N.contents nodes.old)) root (λ h.
+        v.items ≡ aligned_of p range.from range.to (bag h))) }
+    ensures sound { N.is_observable → IfErr result (λ e. AtEachRoot (N.IsPage (N.contents nodes.old)) root (λ h. IsHarmlessFault e)) }
+    ensures same { N.is_observable → N.contents nodes.new ≡ N.contents nodes.old }
+    ensures rises { N.faults nodes.old ≤ N.faults nodes.new }
+    ensures cause { IfErr result (IsWalkCause N.is_observable root (λ o. N.IsPage (N.contents nodes.old))
+        (N.faults nodes.old) (N.faults nodes.new)) }
+{
+    let grid = Grid::aligned(p);
+    let whole = whole_windows(grid, range);
+    cells_from(alloc, nodes, root, grid, whole)
+}
+
+/// Returns the windows of a root's version of a width, in nanoseconds, side by side from the start of a range on, that end at
+/// or before its end and have a point, in order, as [`windows`] does for a tree in memory. The width is 1 to 2^62, the
+/// caller's condition.
+///
+/// It fetches pages one at a time. It costs its windows, one call of `nodes` for each node in which a window starts or ends,
+/// in one walk, and one call more for the root. If no window fits into the range, it fetches none.
+///
+/// `Failed` is a call that failed. `Damaged` names the root's block if that has no page of a root of the stream which is not
+/// newer than the version; or the block of a slot's child if that has no page; or else the block whose page has a slot with
+/// another span, count, version or stream than the page of its child. It is not returned if the pages are those of a past.
+/// `Want` is out of memory.
+pub fn windows_from<N: Nodes>(
+    alloc: Global,
+    nodes: &mut N,
+    root: Root,
+    range: Range,
+    width: u64,
+) -> Result<Vec<Cell>, NodeFault>
+    requires some { 1 ≤ width }
+    requires most { width ≤ 2 ^ 62 }
+    ensures cells { N.is_observable → IfOk result (λ v. AtEachRoot (N.IsPage (N.contents nodes.old)) root (λ h.
+        v.items ≡ windows_of width range.from range.to (bag h))) }
+    ensures sound { N.is_observable → IfErr result (λ e. AtEachRoot (N.IsPage (N.contents nodes.old)) root (λ h. IsHarmlessFault e)) }
+    ensures same { N.is_observable → N.contents nodes.new ≡ N.contents nodes.old }
+    ensures rises { N.faults nodes.old ≤ N.faults nodes.new }
+    ensures cause { IfErr result (IsWalkCause N.is_observable root (λ o. N.IsPage (N.contents nodes.old))
+        (N.faults nodes.old) (N.faults nodes.new)) }
+{
+    let grid = Grid {
+        first: range.from,
+        width,
+    };
+    let to = grid.begin_of(range.to);
+    if to == range.from {
+        return Ok(Vec::new(alloc));
+    }
+    let whole = Range {
+        from: range.from,
+        to,
+    };
+    cells_from(alloc, nodes, root, grid, whole)
+}
+
+/// Returns the windows of a grid with a point of a root's version in a range that starts and ends where windows do.
+fn cells_from<N: Nodes>(
+    alloc: Global,
+    nodes: &mut N,
+    root: Root,
     grid: Grid,
     range: Range,
-    cells: &mut Vec<Cell>,
-) -> Result<(), AllocError>
-    requires some { IsSomeChild span.height span.start (node_of child) (counted cells.old.items) }
-    requires grid { IsGrid grid.first grid.width × (grid.first ≤ℤ range.from) }
-    requires begins { range.from <ℤ end_of span }
-    requires ends { span.start <ℤ range.to }
-    requires starts { AreStarts grid cells.old.items }
-    ensures cells { OnOk result (AtEachHistory span (node_of child.entry) (λ h.
-        AddsWithin grid range cells.old.items cells.new.items (points_in span (bag h)))) }
-    ensures starts { OnOk result (AreStarts grid cells.new.items) }
+) -> Result<Vec<Cell>, NodeFault>
+    requires grid { IsGrid grid.first grid.width }
+    requires begins { IsStart grid range.from }
+    requires ends { IsStart grid range.to }
+    ensures cells { N.is_observable → IfOk result (λ v. AtEachRoot (N.IsPage (N.contents nodes.old)) root (λ h.
+        v.items ≡ cells_between grid.first grid.width range.from range.to (bag h))) }
+    ensures sound { N.is_observable → IfErr result (λ e. AtEachRoot (N.IsPage (N.contents nodes.old)) root (λ h. IsHarmlessFault e)) }
+    ensures same { N.is_observable → N.contents nodes.new ≡ N.contents nodes.old }
+    ensures rises { N.faults nodes.old ≤ N.faults nodes.new }
+    ensures cause { IfErr result (IsWalkCause N.is_observable root (λ o. N.IsPage (N.contents nodes.old))
+        (N.faults nodes.old) (N.faults nodes.new)) }
 {
-    match visit(child, &mut Steps::<WindowWalk>::new()) {
-        None => Ok(()),
-        Some(node) => match node {
-            Node::Leaf { points, .. } => {
-                add_points(cells, grid, points_between(points, range.from, range.to))
+    let at = find_root(nodes, root)?;
+    prove!(FIRST < range.to && range.from < END);
+    let mut cells = Vec::new(alloc);
+    let mut steps = Steps::<WindowWalk>::new();
+    let windows = WindowRange { grid, range };
+    match walk_place::<Fetched<N>, WindowWalk>(
+        nodes,
+        root_span(),
+        at,
+        &windows,
+        &mut cells,
+        &mut steps,
+    ) {
+        Ok(()) => Ok(cells),
+        Err(WalkFault::Want) => Err(NodeFault::Want),
+        Err(WalkFault::Refused(fault)) => Err(fault),
+    }
+}
+
+/// Adds to the windows the points of a span in a range that meets it. An `Err` is out of memory, or a refusal of the source,
+/// and a part may have been added.
+#[cycle(window_walk)]
+fn walk_place<S: NodeSource, L>(
+    state: &mut S::State,
+    span: Span,
+    at: S::Place,
+    windows: &WindowRange,
+    cells: &mut Vec<Cell>,
+    steps: &mut Steps<L>,
+) -> Result<(), WalkFault<S::Fault>>
+    requires safe { S.IsSafe (S.told state.old) (S.site at) span.height span.start }
+    requires room { HaveRoom windows.now.grid cells.old.items (S.count (S.site at)) }
+    requires meets { MeetsWindows windows.now span }
+    ensures cells { OnOk result (ForPlace (S.IsAt (S.told state.old)) (S.site at) span
+        (AddsWithin windows.now cells.old.items cells.new.items)) }
+    ensures few { OnOk result (HaveAtMost windows.now.grid cells.old.items cells.new.items (S.count (S.site at))) }
+    ensures sound { IfErr result (IfRefused (λ e. AtEachPlace (S.IsAt (S.told state.old)) (S.site at) span (λ h. S.IsHarmless e))) }
+    ensures uses { UsesSource S.told S.faults (λ t a b. IfRefused (S.IsCaused t a b)) state.old state.new result }
+{
+    match S::visit(state, span, at, steps) {
+        Err(fault) => Err(WalkFault::Refused(fault)),
+        Ok(found) => match found {
+            FoundNode::Nothing => Ok(()),
+            FoundNode::Leaf { points, .. } => {
+                let range = windows.range;
+                let here = points_between(S::points(&points), range.from, range.to);
+                add_points(cells, windows.grid, here)?;
+                Ok(())
             }
-            Node::Inner { slots, .. } => walk_slots(span, slots, grid, range, cells),
+            FoundNode::Inner { slots, .. } => {
+                walk_slots::<S, L>(state, span, &slots, windows, cells, steps)
+            }
         },
     }
 }
 
-/// Adds to the windows the points of an inner node in a range that meets it. It goes from one slot with a point to the next.
+/// Adds to the windows the points of an inner node in a range. It walks from one slot with a point to the next, through those
+/// that meet the range.
 #[cycle(window_walk)]
-fn walk_slots(
+fn walk_slots<S: NodeSource, L>(
+    state: &mut S::State,
     span: Span,
-    slots: &Slots,
-    grid: Grid,
-    range: Range,
+    slots: &S::Inner,
+    windows: &WindowRange,
     cells: &mut Vec<Cell>,
-) -> Result<(), AllocError>
-    requires some { (below : ℕ) × (span.height ≡ suc below)
-        × AreSomeSlots below span.start slots.now (counted cells.old.items) }
-    requires grid { IsGrid grid.first grid.width × (grid.first ≤ℤ range.from) }
-    requires begins { range.from <ℤ end_of span }
-    requires ends { span.start <ℤ range.to }
-    requires starts { AreStarts grid cells.old.items }
-    ensures cells { OnOk result (AtEachInner span slots.now (λ h.
-        AddsWithin grid range cells.old.items cells.new.items (points_in span (bag h)))) }
-    ensures starts { OnOk result (AreStarts grid cells.new.items) }
+    steps: &mut Steps<L>,
+) -> Result<(), WalkFault<S::Fault>>
+    requires safe { AreSafeSlots (S.IsSafe (S.told state.old)) S.count (S.inner_place slots.now) (S.inner_slot slots.now) span }
+    requires room { HaveRoom windows.now.grid cells.old.items (count_in (S.inner_slot slots.now)) }
+    requires meets { MeetsWindows windows.now span }
+    ensures cells { OnOk result (ForSlots (S.IsAt (S.told state.old)) (S.inner_place slots.now) (S.inner_slot slots.now) span
+        (AddsWithin windows.now cells.old.items cells.new.items)) }
+    ensures few { OnOk result (HaveAtMost windows.now.grid cells.old.items cells.new.items (count_in (S.inner_slot slots.now))) }
+    ensures sound { IfErr result (IfRefused (λ e. AtEachSlots (S.IsAt (S.told state.old)) (S.inner_place slots.now)
+        (S.inner_slot slots.now) span (λ h. S.IsHarmless e))) }
+    ensures uses { UsesSource S.told S.faults (λ t a b. IfRefused (S.IsCaused t a b)) state.old state.new result }
 {
+    let range = windows.range;
     let (first, last) = span.slots_between(range.from, range.to);
     let mut from = first;
-    while let Some(i) = slots.next_occupied(from) {
+    while let Some(i) = S::next_occupied(slots, from) {
         if i > last {
             return Ok(());
         }
-        walk_slot(span.slot(i), slots, i, grid, range, cells)?;
+        let part = Part {
+            span: span.slot(i),
+            i,
+        };
+        walk_slot::<S, L>(state, part, slots, windows, cells, steps)?;
         from = i + 1;
     }
     Ok(())
 }
 
-/// Adds to the windows the points of slot `i`, which has this span and a point, in a range that meets it. It visits no node
-/// if the slot is inside the range and one window.
+/// Adds to the windows the points of a slot, which has a point, in a range that meets it. It visits no node if the slot is
+/// inside the range and one window.
 #[cycle(window_walk)]
-fn walk_slot(
-    span: Span,
-    slots: &Slots,
-    i: u8,
-    grid: Grid,
-    range: Range,
+fn walk_slot<S: NodeSource, L>(
+    state: &mut S::State,
+    part: Part,
+    slots: &S::Inner,
+    windows: &WindowRange,
     cells: &mut Vec<Cell>,
-) -> Result<(), AllocError>
-    requires place { (i < 64) × IsOccupied slots.now i }
-    requires some { IsSomeSlot span.height span.start (slot_in slots.now i) (child_in slots.now i) (counted cells.old.items) }
-    requires grid { IsGrid grid.first grid.width × (grid.first ≤ℤ range.from) }
-    requires begins { range.from <ℤ end_of span }
-    requires ends { span.start <ℤ range.to }
-    requires starts { AreStarts grid cells.old.items }
-    ensures cells { OnOk result (AtEachSlot span slots.now i (λ h.
-        AddsWithin grid range cells.old.items cells.new.items (points_in span (bag h)))) }
-    ensures starts { OnOk result (AreStarts grid cells.new.items) }
+    steps: &mut Steps<L>,
+) -> Result<(), WalkFault<S::Fault>>
+    requires place { (part.i < 64) × IsOccupied (S.inner_slot slots.now) part.i }
+    requires safe { IsSafeSlot (S.IsSafe (S.told state.old)) S.count (S.inner_place slots.now part.i) (S.inner_slot slots.now part.i)
+        part.span }
+    requires room { HaveRoom windows.now.grid cells.old.items (S.inner_slot slots.now part.i).agg.count }
+    requires meets { MeetsWindows windows.now part.span }
+    ensures cells { OnOk result (ForSlot (S.IsAt (S.told state.old)) (S.inner_place slots.now part.i)
+        (S.inner_slot slots.now part.i) part.span
+        (AddsWithin windows.now cells.old.items cells.new.items)) }
+    ensures few { OnOk result (HaveAtMost windows.now.grid cells.old.items cells.new.items (S.inner_slot slots.now part.i).agg.count) }
+    ensures sound { IfErr result (IfRefused (λ e. AtEachPlace (S.IsAt (S.told state.old)) (S.inner_place slots.now part.i) part.span
+        (λ h. S.IsHarmless e))) }
+    ensures uses { UsesSource S.told S.faults (λ t a b. IfRefused (S.IsCaused t a b)) state.old state.new result }
 {
-    if is_inside(span, range) {
-        if let Some(start) = start_around(cells, grid, span) {
-            let slot = slots.slot(i);
-            return add_part(cells, start, &slot.agg);
+    if is_inside(part.span, windows.range) {
+        if let Some(start) = start_around(cells, windows.grid, part.span) {
+            let slot = S::slot(slots, part.i);
+            add_part(cells, start, &slot.agg)?;
+            return Ok(());
         }
     }
-    walk_child(span, slots.child(i), grid, range, cells)
+    let at = S::place(slots, part.i);
+    walk_place::<S, L>(state, part.span, at, windows, cells, steps)
 }

@@ -236,8 +236,8 @@ fn each_call_of_a_ship_may_fail(rt: HostRuntime) -> Result<(), Fail> {
     no_wrong(first_wrong_call(&rt)?)
 }
 
-/// A call of a sink that takes 20 bytes a call which fails, and what is written then: the first call, one in each frame, the one between the
-/// frames, and the flush after them.
+/// A call of a sink that takes 20 bytes a call which fails, and what is written then: the first call, one in each frame, the one between
+/// the frames, and the flush after them.
 const FAILED_SINK: &[(u64, Pieces<'static>)] = &[
     (0, NOTHING),
     (1, &[HEAD_1]),

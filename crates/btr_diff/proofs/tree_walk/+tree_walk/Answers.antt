@@ -1,191 +1,510 @@
-use Rattle.std.proofs.Common.{ap, ◌≡◌, ◌<◌, suc, ℕ, ℤ, sym, subst, arith}
-use Rattle.std.proofs.lemmas.Result.{on_ok_weaker}
-use Rattle.btr_tree.specs.declared.slots.Slots.{Slots}
+use Rattle.std.specs.Prelude.{Ok, Err}
+use Rattle.std.proofs.Common.{◌+◌, ◌<◌, refl, sym, ◌∙◌, subst, arith}
+use Rattle.std.proofs.lemmas.Result.{on_ok_weaker, err_from_is_err_and}
+use Rattle.btr_base.specs.Span.{slot_of}
+use Rattle.btr_tree.specs.EachHistory.{points_in}
 use Rattle.btr_tree.specs.History.{Past, bag}
-use Rattle.btr_tree.specs.Shape.{HasChildren}
-use Rattle.btr_tree.specs.Nodes.{points_of, is_inner}
-use Rattle.btr_tree.proofs.NodeLemmas.{child-at}
-use Rattle.btr_tree.specs.Slots.{node_of}
-use Rattle.btr_tree.specs.Uncounted.{uncounted_child, uncounted_slots, as_counted}
-use Rattle.btr_diff.proofs.ChangedSlots.{adds-none}
-use Rattle.btr_diff.proofs.Nodes.{found-none, found-node, found-uncounted, found-none_uncounted, leaf-points, points-order, points-domain, node-some, inner-slots, child-belongs}
-use Rattle.btr_diff.proofs.Slots.{adds-as, adds-first, adds-slot, adds-done, slot-belongs}
-use Rattle.btr_diff.proofs.Newer.{newer-slot, below-sum, bounded-slot, bounded-exit}
+use Rattle.btr_tree.specs.Nodes.{is_inner}
+use Rattle.btr_tree.specs.NodeSource.{AreSafeSlots, AreSlotsAt, IsFoundAt, IsSafeFound, IfRefused, UsesSource}
+use Rattle.btr_tree.proofs.SourceLemmas.{place-safe, place-below, uses-then}
+use Rattle.btr_diff.specs.Comparison.{ArePoints, CountsOlder, IsPlace, AreSlotsOf}
+use Rattle.btr_diff.proofs.Found.{found-nothing, found-leaf, found-inner, safe-leaf, safe-inner, refused-weaker, refused-earlier}
+use Rattle.btr_diff.proofs.Nodes.{safe-points, no-points, slot-in_domain}
+use Rattle.btr_diff.proofs.Slots.{adds-first, adds-slot, adds-passed, adds-done, slots-inner, slots-part, slots-place, slots-slot}
+use Rattle.btr_diff.proofs.Newer.{leaf-some, slot-visited, slot-walked, below-sum, bounded-slot, bounded-exit, older-visited, older-inner, older-slots, nodes-slot}
 use Rattle.btr_diff.proofs.tree_walk.+tree_walk.Goals as goal
 
--- ---- One node.
+-- ---- What was found of the newer tree.
 
-pub compare_node-compare_with_points-requires-clause-order : goal.compare_node-compare_with_points-requires-clause-order
-compare_node-compare_with_points-requires-clause-order over t c =
-    let new = c.requires.new in
-    points-order c.args.span new.past c.in-Leaf.points.now (leaf-points c.args.span new.past c.args.new c.in-Leaf.version c.in-Leaf.points c.in-Leaf.is new.holds)
+pub compare_found-compare_with_points-requires-in-Leaf-clause-new : goal.compare_found-compare_with_points-requires-in-Leaf-clause-new
+compare_found-compare_with_points-requires-in-Leaf-clause-new g t c =
+    let src = g.S.NodeSource in
+    let span = c.args.task.span in
+    let leaf = safe-leaf src.leaf_points src.inner_slot src.inner_place span c.args.new (src.IsSafe (src.told c.args.state.now)) src.count _ c.in-Leaf.version c.in-Leaf.points c.in-Leaf.is c.requires.new.1 in
+    subst ArePoints (sym c.points.ensures) (safe-points _ span (src.leaf_points c.in-Leaf.points) c.requires.task.1 leaf)
 
-pub compare_node-compare_with_points-requires-clause-domain : goal.compare_node-compare_with_points-requires-clause-domain
-compare_node-compare_with_points-requires-clause-domain over t c =
-    let new = c.requires.new in
-    points-domain c.args.span new.past c.in-Leaf.points.now new.inside (leaf-points c.args.span new.past c.args.new c.in-Leaf.version c.in-Leaf.points c.in-Leaf.is new.holds)
-
-pub compare_node-compare_with_slots-requires : goal.compare_node-compare_with_slots-requires
-compare_node-compare_with_slots-requires over t c κs outlives =
-    let new = c.requires.new in
+pub compare_found-compare_with_slots-requires : goal.compare_found-compare_with_slots-requires
+compare_found-compare_with_slots-requires g t c κs o =
+    let src = g.S.NodeSource in
+    let span = c.args.task.span in
     let d = c.decreases in
-    let slots = inner-slots c.args.span new.past c.args.new c.in-Inner.version c.in-Inner.slots c.in-Inner.is new.holds in
-    (omega arith, (outlives, (c.requires.p, (c.requires.old, record { inside = new.inside; past = new.past; holds = slots }))))
+    let safe = safe-inner src.leaf_points src.inner_slot src.inner_place span c.args.new (src.IsSafe (src.told c.args.state.now)) src.count _ c.in-Inner.version c.in-Inner.slots c.in-Inner.is c.requires.new.1 in
+    (omega arith, (o.0, (o.1.0, (o.1.1.0, (o.1.1.1.0, (o.1.1.1.1.0, (o.1.1.1.1.1.0, (o.1.1.1.1.1.1.0, (o.1.1.1.1.1.1.1, (c.requires.task, (c.requires.old, safe.0)))))))))))
 
-pub compare_node-returns-in-Leaf-clause-adds : goal.compare_node-returns-in-Leaf-clause-adds
-compare_node-returns-in-Leaf-clause-adds over t c =
-    let span = c.args.span in
-    on_ok_weaker c.compare_with_points.result (λ e h g was is agree.
-    adds-as c.args.comparison c.args.out.now c.compare_with_points.new.out _ _ _ _ (λ i. points_of span.height span.start (bag h)) (leaf-points span g c.args.new c.in-Leaf.version c.in-Leaf.points c.in-Leaf.is is) (e h was)) c.compare_with_points.ensures
+pub compare_found-returns-in-Nothing-clause-adds : goal.compare_found-returns-in-Nothing-clause-adds
+compare_found-returns-in-Nothing-clause-adds g t c =
+    let src = g.S.NodeSource in
+    let span = c.args.task.span in
+    on_ok_weaker c.compare_with_points.result (λ e h k was is agree.
+    e h k was (sym (found-nothing src.leaf_points src.inner_slot src.inner_place span c.args.new (src.IsAt (src.told c.args.state.now)) is.0 k c.in-Nothing.is is.1)) agree) c.compare_with_points.ensures.adds
 
-pub compare_node-returns-in-Inner-clause-adds : goal.compare_node-returns-in-Inner-clause-adds
-compare_node-returns-in-Inner-clause-adds over t c =
-    on_ok_weaker c.compare_with_slots.result (λ e h g was is agree.
-    e h g was (inner-slots c.args.span g c.args.new c.in-Inner.version c.in-Inner.slots c.in-Inner.is is) agree) c.compare_with_slots.ensures.adds
+pub compare_found-returns-in-Nothing-clause-sound : goal.compare_found-returns-in-Nothing-clause-sound
+compare_found-returns-in-Nothing-clause-sound g t c =
+    let src = g.S.NodeSource in
+    let span = c.args.task.span in
+    refused-weaker _ _ c.compare_with_points.result (λ e f h k was is.
+    f h k was (sym (found-nothing src.leaf_points src.inner_slot src.inner_place span c.args.new (src.IsAt (src.told c.args.state.now)) is.0 k c.in-Nothing.is is.1))) c.compare_with_points.ensures.sound
 
-pub compare_node-returns-in-Inner-clause-bounded : goal.compare_node-returns-in-Inner-clause-bounded
-compare_node-returns-in-Inner-clause-bounded over t c g is =
-    let e = c.compare_with_slots.ensures.bounded in
-    e g (inner-slots c.args.span g c.args.new c.in-Inner.version c.in-Inner.slots c.in-Inner.is is)
+pub compare_found-returns-in-Leaf-clause-adds : goal.compare_found-returns-in-Leaf-clause-adds
+compare_found-returns-in-Leaf-clause-adds g t c =
+    let src = g.S.NodeSource in
+    let span = c.args.task.span in
+    on_ok_weaker c.compare_with_points-in-Leaf.result (λ e h k was is agree.
+    e h k was (c.points.ensures ∙ (found-leaf src.leaf_points src.inner_slot src.inner_place span c.args.new (src.IsAt (src.told c.args.state.now)) is.0 k c.in-Leaf.version c.in-Leaf.points c.in-Leaf.is is.1).same) agree) c.compare_with_points-in-Leaf.ensures.adds
+
+pub compare_found-returns-in-Leaf-clause-sound : goal.compare_found-returns-in-Leaf-clause-sound
+compare_found-returns-in-Leaf-clause-sound g t c =
+    let src = g.S.NodeSource in
+    let span = c.args.task.span in
+    refused-weaker _ _ c.compare_with_points-in-Leaf.result (λ e f h k was is.
+    f h k was (c.points.ensures ∙ (found-leaf src.leaf_points src.inner_slot src.inner_place span c.args.new (src.IsAt (src.told c.args.state.now)) is.0 k c.in-Leaf.version c.in-Leaf.points c.in-Leaf.is is.1).same)) c.compare_with_points-in-Leaf.ensures.sound
+
+pub compare_found-returns-in-Inner-clause-adds : goal.compare_found-returns-in-Inner-clause-adds
+compare_found-returns-in-Inner-clause-adds g t c =
+    let src = g.S.NodeSource in
+    let span = c.args.task.span in
+    on_ok_weaker c.compare_with_slots.result (λ e h k was is agree.
+    e h k was (found-inner src.leaf_points src.inner_slot src.inner_place span c.args.new (src.IsAt (src.told c.args.state.now)) is.0 k c.in-Inner.version c.in-Inner.slots c.in-Inner.is is.1).inner agree) c.compare_with_slots.ensures.adds
+
+pub compare_found-returns-in-Inner-clause-sound : goal.compare_found-returns-in-Inner-clause-sound
+compare_found-returns-in-Inner-clause-sound g t c =
+    let src = g.S.NodeSource in
+    let span = c.args.task.span in
+    refused-weaker _ _ c.compare_with_slots.result (λ e f h k was is.
+    f h k was (found-inner src.leaf_points src.inner_slot src.inner_place span c.args.new (src.IsAt (src.told c.args.state.now)) is.0 k c.in-Inner.version c.in-Inner.slots c.in-Inner.is is.1).inner) c.compare_with_slots.ensures.sound
+
+pub compare_found-returns-in-Inner-clause-newer : goal.compare_found-returns-in-Inner-clause-newer
+compare_found-returns-in-Inner-clause-newer g t c =
+    let src = g.S.NodeSource in
+    let span = c.args.task.span in
+    let below = c.compare_with_slots.ensures.newer in
+    record {
+      bounded = λ k is.
+          below.bounded k (found-inner src.leaf_points src.inner_slot src.inner_place span c.args.new (src.IsAt (src.told c.args.state.now)) is.0 k c.in-Inner.version c.in-Inner.slots c.in-Inner.is is.1).inner;
+      never_falls = below.never_falls;
+    }
 
 -- ---- What the older tree has there.
 
-pub compare_with_slots-compare_points_with_slots-requires-in-Leaf-clause-order : goal.compare_with_slots-compare_points_with_slots-requires-in-Leaf-clause-order
-compare_with_slots-compare_points_with_slots-requires-in-Leaf-clause-order over t c =
-    let old = c.requires.old in
-    points-order c.args.span old.past c.in-Leaf.points.now (leaf-points c.args.span old.past (as_counted c.in-Some.node) c.in-Leaf.version c.in-Leaf.points (ap as_counted c.in-Leaf.is) (found-uncounted c.args.span (uncounted_child c.args.old) c.in-Some.node c.in-Some.ensures old.past old.holds))
-
-pub compare_with_slots-compare_points_with_slots-requires-in-Leaf-clause-domain : goal.compare_with_slots-compare_points_with_slots-requires-in-Leaf-clause-domain
-compare_with_slots-compare_points_with_slots-requires-in-Leaf-clause-domain over t c =
-    let old = c.requires.old in
-    points-domain c.args.span old.past c.in-Leaf.points.now old.inside (leaf-points c.args.span old.past (as_counted c.in-Some.node) c.in-Leaf.version c.in-Leaf.points (ap as_counted c.in-Leaf.is) (found-uncounted c.args.span (uncounted_child c.args.old) c.in-Some.node c.in-Some.ensures old.past old.holds))
+pub compare_with_slots-compare_points_with_slots-requires-in-Leaf-clause-old : goal.compare_with_slots-compare_points_with_slots-requires-in-Leaf-clause-old
+compare_with_slots-compare_points_with_slots-requires-in-Leaf-clause-old g t c =
+    let src = g.S.NodeSource in
+    let span = c.args.task.span in
+    let leaf = safe-leaf src.leaf_points src.inner_slot src.inner_place span c.in-Ok.found (src.IsSafe (src.told c.args.state.now)) src.count _ c.in-Leaf.version c.in-Leaf.points c.in-Leaf.is c.in-Ok.ensures.safe in
+    subst ArePoints (sym c.points-here.ensures) (safe-points _ span (src.leaf_points c.in-Leaf.points) c.requires.task.1 leaf)
 
 pub compare_with_slots-compare_slots-requires : goal.compare_with_slots-compare_slots-requires
-compare_with_slots-compare_slots-requires over t c κs outlives =
-    let old = c.requires.old in
+compare_with_slots-compare_slots-requires g t c κs o =
+    let src = g.S.NodeSource in
+    let span = c.args.task.span in
     let d = c.decreases in
-    let children = inner-slots c.args.span old.past (as_counted c.in-Some.node) c.in-Inner.version c.in-Inner.slots.slots (ap as_counted c.in-Inner.is) (found-uncounted c.args.span (uncounted_child c.args.old) c.in-Some.node c.in-Some.ensures old.past old.holds) in
-    (omega arith, (outlives, (c.requires.p, (record { inside = old.inside; past = old.past; holds = children }, c.requires.new))))
+    let back = c.in-Ok.ensures.uses.same in
+    let safe = safe-inner src.leaf_points src.inner_slot src.inner_place span c.in-Ok.found (src.IsSafe (src.told c.args.state.now)) src.count _ c.in-Inner.version c.in-Inner.slots c.in-Inner.is c.in-Ok.ensures.safe in
+    let old = subst (λ u. AreSafeSlots (src.IsSafe u) src.count (src.inner_place c.in-Inner.slots) (src.inner_slot c.in-Inner.slots) span) (sym back) safe.0 in
+    let new = subst (λ u. AreSafeSlots (src.IsSafe u) src.count (src.inner_place c.args.new.now) (src.inner_slot c.args.new.now) span) (sym back) c.requires.new in
+    (omega arith, (o.0, (o.1.0, (o.1.1.0, (o.1.1.1.0, (o.1.1.1.1.0, (o.1.1.1.1.1.0, (o.1.1.1.1.1.1.0, (o.1.1.1.1.1.1.1, (c.requires.task, (old, new)))))))))))
 
-pub compare_with_slots-returns-in-None-clause-adds : goal.compare_with_slots-returns-in-None-clause-adds
-compare_with_slots-returns-in-None-clause-adds over t c =
-    on_ok_weaker c.compare_points_with_slots.result (λ e h g was slots agree.
-    e h g (sym (found-none_uncounted c.args.span (uncounted_child c.args.old) c.in-None.ensures h was)) slots agree) c.compare_points_with_slots.ensures.adds
+pub compare_with_slots-returns-in-Nothing-clause-adds : goal.compare_with_slots-returns-in-Nothing-clause-adds
+compare_with_slots-returns-in-Nothing-clause-adds g t c =
+    let src = g.S.NodeSource in
+    let span = c.args.task.span in
+    let told = src.told c.args.state.now in
+    let back = c.in-Ok.ensures.uses.same in
+    on_ok_weaker c.compare_points_with_slots.result (λ e h k was slots agree.
+    e h k (sym (found-nothing src.leaf_points src.inner_slot src.inner_place span c.in-Ok.found (src.IsAt told) was.0 h c.in-Nothing.is (c.in-Ok.ensures.found was.0 h was.1))) (subst (λ u. AreSlotsAt (src.IsAt u) (src.inner_place c.args.new.now) (src.inner_slot c.args.new.now) span k) (sym back) slots) agree) c.compare_points_with_slots.ensures.adds
+
+pub compare_with_slots-returns-in-Nothing-clause-sound : goal.compare_with_slots-returns-in-Nothing-clause-sound
+compare_with_slots-returns-in-Nothing-clause-sound g t c =
+    let src = g.S.NodeSource in
+    let span = c.args.task.span in
+    let told = src.told c.args.state.now in
+    let back = c.in-Ok.ensures.uses.same in
+    refused-weaker _ _ c.compare_points_with_slots.result (λ e f h k was slots.
+    f k (subst (λ u. AreSlotsAt (src.IsAt u) (src.inner_place c.args.new.now) (src.inner_slot c.args.new.now) span k) (sym back) slots)) c.compare_points_with_slots.ensures.sound
+
+pub compare_with_slots-returns-in-Nothing-clause-newer : goal.compare_with_slots-returns-in-Nothing-clause-newer
+compare_with_slots-returns-in-Nothing-clause-newer g t c =
+    let src = g.S.NodeSource in
+    let span = c.args.task.span in
+    let told = src.told c.args.state.now in
+    let back = c.in-Ok.ensures.uses.same in
+    let below = c.compare_points_with_slots.ensures.newer in
+    record {
+      bounded = λ k slots. below.bounded k (subst (λ u. AreSlotsAt (src.IsAt u) (src.inner_place c.args.new.now) (src.inner_slot c.args.new.now) span k) (sym back) slots);
+      never_falls = below.never_falls;
+    }
 
 pub compare_with_slots-returns-in-Leaf-clause-adds : goal.compare_with_slots-returns-in-Leaf-clause-adds
-compare_with_slots-returns-in-Leaf-clause-adds over t c =
-    on_ok_weaker c.compare_points_with_slots-in-Leaf.result (λ e h g was slots agree.
-    e h g (leaf-points c.args.span h (as_counted c.in-Some.node) c.in-Leaf.version c.in-Leaf.points (ap as_counted c.in-Leaf.is) (found-uncounted c.args.span (uncounted_child c.args.old) c.in-Some.node c.in-Some.ensures h was)) slots agree) c.compare_points_with_slots-in-Leaf.ensures.adds
+compare_with_slots-returns-in-Leaf-clause-adds g t c =
+    let src = g.S.NodeSource in
+    let span = c.args.task.span in
+    let told = src.told c.args.state.now in
+    let back = c.in-Ok.ensures.uses.same in
+    on_ok_weaker c.compare_points_with_slots-in-Leaf.result (λ e h k was slots agree.
+    e h k (c.points-here.ensures ∙ (found-leaf src.leaf_points src.inner_slot src.inner_place span c.in-Ok.found (src.IsAt told) was.0 h c.in-Leaf.version c.in-Leaf.points c.in-Leaf.is (c.in-Ok.ensures.found was.0 h was.1)).same) (subst (λ u. AreSlotsAt (src.IsAt u) (src.inner_place c.args.new.now) (src.inner_slot c.args.new.now) span k) (sym back) slots) agree) c.compare_points_with_slots-in-Leaf.ensures.adds
+
+pub compare_with_slots-returns-in-Leaf-clause-sound : goal.compare_with_slots-returns-in-Leaf-clause-sound
+compare_with_slots-returns-in-Leaf-clause-sound g t c =
+    let src = g.S.NodeSource in
+    let span = c.args.task.span in
+    let told = src.told c.args.state.now in
+    let back = c.in-Ok.ensures.uses.same in
+    refused-weaker _ _ c.compare_points_with_slots-in-Leaf.result (λ e f h k was slots.
+    f k (subst (λ u. AreSlotsAt (src.IsAt u) (src.inner_place c.args.new.now) (src.inner_slot c.args.new.now) span k) (sym back) slots)) c.compare_points_with_slots-in-Leaf.ensures.sound
+
+pub compare_with_slots-returns-in-Leaf-clause-newer : goal.compare_with_slots-returns-in-Leaf-clause-newer
+compare_with_slots-returns-in-Leaf-clause-newer g t c =
+    let src = g.S.NodeSource in
+    let span = c.args.task.span in
+    let told = src.told c.args.state.now in
+    let back = c.in-Ok.ensures.uses.same in
+    let below = c.compare_points_with_slots-in-Leaf.ensures.newer in
+    record {
+      bounded = λ k slots. below.bounded k (subst (λ u. AreSlotsAt (src.IsAt u) (src.inner_place c.args.new.now) (src.inner_slot c.args.new.now) span k) (sym back) slots);
+      never_falls = below.never_falls;
+    }
 
 pub compare_with_slots-returns-in-Inner-clause-adds : goal.compare_with_slots-returns-in-Inner-clause-adds
-compare_with_slots-returns-in-Inner-clause-adds over t c =
-    on_ok_weaker c.compare_slots.result (λ e h g was slots agree.
-    e h g (inner-slots c.args.span h (as_counted c.in-Some.node) c.in-Inner.version c.in-Inner.slots.slots (ap as_counted c.in-Inner.is) (found-uncounted c.args.span (uncounted_child c.args.old) c.in-Some.node c.in-Some.ensures h was)) slots agree) c.compare_slots.ensures.adds
+compare_with_slots-returns-in-Inner-clause-adds g t c =
+    let src = g.S.NodeSource in
+    let span = c.args.task.span in
+    let told = src.told c.args.state.now in
+    let back = c.in-Ok.ensures.uses.same in
+    on_ok_weaker c.compare_slots.result (λ e h k was slots agree.
+    e h k (subst (λ u. AreSlotsAt (src.IsAt u) (src.inner_place c.in-Inner.slots) (src.inner_slot c.in-Inner.slots) span h) (sym back) (found-inner src.leaf_points src.inner_slot src.inner_place span c.in-Ok.found (src.IsAt told) was.0 h c.in-Inner.version c.in-Inner.slots c.in-Inner.is (c.in-Ok.ensures.found was.0 h was.1)).inner) (subst (λ u. AreSlotsAt (src.IsAt u) (src.inner_place c.args.new.now) (src.inner_slot c.args.new.now) span k) (sym back) slots) agree) c.compare_slots.ensures.adds
+
+pub compare_with_slots-returns-in-Inner-clause-sound : goal.compare_with_slots-returns-in-Inner-clause-sound
+compare_with_slots-returns-in-Inner-clause-sound g t c =
+    let src = g.S.NodeSource in
+    let span = c.args.task.span in
+    let told = src.told c.args.state.now in
+    let back = c.in-Ok.ensures.uses.same in
+    refused-weaker _ _ c.compare_slots.result (λ e f h k was slots.
+    f h k (subst (λ u. AreSlotsAt (src.IsAt u) (src.inner_place c.in-Inner.slots) (src.inner_slot c.in-Inner.slots) span h) (sym back) (found-inner src.leaf_points src.inner_slot src.inner_place span c.in-Ok.found (src.IsAt told) was.0 h c.in-Inner.version c.in-Inner.slots c.in-Inner.is (c.in-Ok.ensures.found was.0 h was.1)).inner) (subst (λ u. AreSlotsAt (src.IsAt u) (src.inner_place c.args.new.now) (src.inner_slot c.args.new.now) span k) (sym back) slots)) c.compare_slots.ensures.sound
+
+pub compare_with_slots-returns-in-Inner-clause-newer : goal.compare_with_slots-returns-in-Inner-clause-newer
+compare_with_slots-returns-in-Inner-clause-newer g t c =
+    let src = g.S.NodeSource in
+    let span = c.args.task.span in
+    let told = src.told c.args.state.now in
+    let back = c.in-Ok.ensures.uses.same in
+    let below = c.compare_slots.ensures.newer in
+    record {
+      bounded = λ k slots. below.bounded k (subst (λ u. AreSlotsAt (src.IsAt u) (src.inner_place c.args.new.now) (src.inner_slot c.args.new.now) span k) (sym back) slots);
+      never_falls = below.never_falls;
+    }
+
+pub compare_with_slots-returns-in-Leaf-clause-older : goal.compare_with_slots-returns-in-Leaf-clause-older
+compare_with_slots-returns-in-Leaf-clause-older g t c =
+    let src = g.S.NodeSource in
+    let span = c.args.task.span in
+    let told = src.told c.args.state.now in
+    let counts = c.in-Ok.ensures.counts in
+    older-visited (src.IsAt told) span (src.site c.args.old) c.args.findings.now.older c.visit.new.steps _ (λ above h holds. leaf-some span above h c.in-Leaf.version (src.leaf_points c.in-Leaf.points) (found-leaf src.leaf_points src.inner_slot src.inner_place span c.in-Ok.found (src.IsAt told) above h c.in-Leaf.version c.in-Leaf.points c.in-Leaf.is (c.in-Ok.ensures.found above h holds))) counts.never_falls counts.at_most
+
+pub compare_with_slots-returns-in-Inner-clause-older : goal.compare_with_slots-returns-in-Inner-clause-older
+compare_with_slots-returns-in-Inner-clause-older g t c =
+    let src = g.S.NodeSource in
+    let span = c.args.task.span in
+    let told = src.told c.args.state.now in
+    let back = c.in-Ok.ensures.uses.same in
+    let counts = c.in-Ok.ensures.counts in
+    let places = src.inner_place c.in-Inner.slots in
+    let slots = src.inner_slot c.in-Inner.slots in
+    let below = subst (λ u. CountsOlder 1 span (src.IsAt u) (AreSlotsOf places slots) c.visit.new.steps c.compare_slots.new.findings.older c.compare_slots.result) back c.compare_slots.ensures.older in
+    older-inner (src.IsAt told) places slots span (src.site c.args.old) c.args.findings.now.older c.visit.new.steps c.compare_slots.new.findings.older c.compare_slots.result (λ above h holds. (found-inner src.leaf_points src.inner_slot src.inner_place span c.in-Ok.found (src.IsAt told) above h c.in-Inner.version c.in-Inner.slots c.in-Inner.is (c.in-Ok.ensures.found above h holds)).inner) counts.never_falls counts.at_most below
 
 -- ---- One slot.
 
-pub compare_slot-returns-then-new-comparison-clause-adds : goal.compare_slot-returns-then-new-comparison-clause-adds
-compare_slot-returns-then-new-comparison-clause-adds over t c h g was slot agree =
-    let span = c.args.span in
-    let same = agree.slots slot.above slot.begin span.height span.start (omega (arith, slot.carried, c.if-new-comparison.true)) in
-    adds-as c.args.comparison c.args.out.now c.args.out.now _ _ _ _ (λ i. points_of span.height span.start (bag h)) same (adds-none c.args.comparison c.args.out.now _)
+pub compare_slot-returns-then-new-eq0-clause-adds : goal.compare_slot-returns-then-new-eq0-clause-adds
+compare_slot-returns-then-new-eq0-clause-adds g t c =
+    let span = c.args.task.span in
+    on_ok_weaker c.compare_with_points.result (λ e h k was slot agree.
+    e h k was (sym (no-points (points_in span (bag k)) (omega (arith, slot.counted, c.if-new-eq0.true)))) agree) c.compare_with_points.ensures.adds
 
-pub compare_slot-compare_node-requires : goal.compare_slot-compare_node-requires
-compare_slot-compare_node-requires over t c κs outlives =
-    let new = c.requires.new in
+pub compare_slot-returns-then-new-eq0-clause-sound : goal.compare_slot-returns-then-new-eq0-clause-sound
+compare_slot-returns-then-new-eq0-clause-sound g t c =
+    let span = c.args.task.span in
+    refused-weaker _ _ c.compare_with_points.result (λ e f h k was slot.
+    f h k was (sym (no-points (points_in span (bag k)) (omega (arith, slot.counted, c.if-new-eq0.true))))) c.compare_with_points.ensures.sound
+
+pub compare_slot-returns-in-Err-clause-newer : goal.compare_slot-returns-in-Err-clause-newer
+compare_slot-returns-in-Err-clause-newer g t c =
+    let src = g.S.NodeSource in
+    let counts = c.in-Err.ensures.counts in
+    slot-visited (src.IsAt (src.told c.args.state.now)) c.args.task c.args.new.version c.args.new.count (src.site c.args.new.place) c.args.steps.now c.visit.new.steps (omega (arith, c.if-new-eq0.false)) (omega (arith, c.requires.newer)) counts.never_falls counts.at_most
+
+pub compare_slot-compare_found-requires : goal.compare_slot-compare_found-requires
+compare_slot-compare_found-requires g t c κs o =
+    let src = g.S.NodeSource in
+    let span = c.args.task.span in
     let d = c.decreases in
-    (omega arith, (outlives, (c.requires.p, (c.requires.old, record { inside = new.inside; past = new.past; holds = found-node c.args.span (node_of c.args.new.child) c.in-Some.node _ _ c.in-Some.ensures new.past new.holds }))))
+    let back = c.in-Ok.ensures.uses.same in
+    let old = subst (λ u. src.IsSafe u (src.site c.args.old) span.height span.start) (sym back) c.requires.old in
+    let new = subst (λ u. IsSafeFound (src.IsSafe u) src.count src.leaf_points src.inner_slot src.inner_place (src.count (src.site c.args.new.place)) span c.in-Ok.found) (sym back) c.in-Ok.ensures.safe in
+    (omega arith, (o.0, (o.1.0, (o.1.1.0, (o.1.1.1.0, (o.1.1.1.1.0, (o.1.1.1.1.1.0, (o.1.1.1.1.1.1.0, (o.1.1.1.1.1.1.1, (c.requires.task, (old, (_, new))))))))))))
 
-pub compare_slot-returns-in-None-clause-adds : goal.compare_slot-returns-in-None-clause-adds
-compare_slot-returns-in-None-clause-adds over t c =
-    let span = c.args.span in
-    on_ok_weaker c.compare_with_points.result (λ e h g was slot agree.
-    adds-as c.args.comparison c.args.out.now c.compare_with_points.new.out _ _ _ _ (λ i. points_of span.height span.start (bag h)) (sym (found-none span (node_of c.args.new.child) _ _ c.in-None.ensures g (is_inner slot.above slot.begin, slot.holds))) (e h was)) c.compare_with_points.ensures
+pub compare_slot-returns-in-Ok-clause-adds : goal.compare_slot-returns-in-Ok-clause-adds
+compare_slot-returns-in-Ok-clause-adds g t c =
+    let src = g.S.NodeSource in
+    let span = c.args.task.span in
+    let told = src.told c.args.state.now in
+    let back = c.in-Ok.ensures.uses.same in
+    on_ok_weaker c.compare_found.result (λ e h k was slot agree.
+    e h k (subst (λ u. IsPlace (src.site c.args.old) (src.IsAt u) span h) (sym back) was) (is_inner slot.above slot.begin, subst (λ u. IsFoundAt (src.IsAt u) src.leaf_points src.inner_slot src.inner_place span (is_inner slot.above slot.begin) k c.in-Ok.found) (sym back) (c.in-Ok.ensures.found (is_inner slot.above slot.begin) k slot.holds)) agree) c.compare_found.ensures.adds
 
-pub compare_slot-returns-in-Some-clause-adds : goal.compare_slot-returns-in-Some-clause-adds
-compare_slot-returns-in-Some-clause-adds over t c =
-    on_ok_weaker c.compare_node.result (λ e h g was slot agree. e h g was (found-node c.args.span (node_of c.args.new.child) c.in-Some.node _ _ c.in-Some.ensures g (is_inner slot.above slot.begin, slot.holds)) agree) c.compare_node.ensures.adds
+pub compare_slot-returns-in-Ok-clause-sound : goal.compare_slot-returns-in-Ok-clause-sound
+compare_slot-returns-in-Ok-clause-sound g t c =
+    let src = g.S.NodeSource in
+    let span = c.args.task.span in
+    let told = src.told c.args.state.now in
+    let back = c.in-Ok.ensures.uses.same in
+    refused-weaker _ _ c.compare_found.result (λ e f h k was slot.
+    f h k (subst (λ u. IsPlace (src.site c.args.old) (src.IsAt u) span h) (sym back) was) (is_inner slot.above slot.begin, subst (λ u. IsFoundAt (src.IsAt u) src.leaf_points src.inner_slot src.inner_place span (is_inner slot.above slot.begin) k c.in-Ok.found) (sym back) (c.in-Ok.ensures.found (is_inner slot.above slot.begin) k slot.holds))) c.compare_found.ensures.sound
 
-pub compare_slot-returns-in-Some-clause-bounded : goal.compare_slot-returns-in-Some-clause-bounded
-compare_slot-returns-in-Some-clause-bounded over t c g slot =
-    let span = c.args.span in
-    let e = c.compare_node.ensures.bounded in
-    let node = found-node span (node_of c.args.new.child) c.in-Some.node _ _ c.in-Some.ensures g (is_inner slot.above slot.begin, slot.holds) in
-    let one = newer-slot span c.args.comparison.since c.args.new.version (node_of c.args.new.child) g (node-some span g c.in-Some.node node) c.if-new-comparison.false slot in
-    let few = e g node in
-    let more = c.visit.ensures.at_most in
-    omega arith
+pub compare_slot-returns-in-Ok-clause-newer : goal.compare_slot-returns-in-Ok-clause-newer
+compare_slot-returns-in-Ok-clause-newer g t c =
+    let src = g.S.NodeSource in
+    let span = c.args.task.span in
+    let told = src.told c.args.state.now in
+    let back = c.in-Ok.ensures.uses.same in
+    let counts = c.in-Ok.ensures.counts in
+    let below = c.compare_found.ensures.newer in
+    slot-walked (src.IsAt told) c.args.task c.args.new.version c.args.new.count (src.site c.args.new.place) c.args.steps.now c.visit.new.steps c.compare_found.new.steps (omega (arith, c.if-new-eq0.false)) (omega (arith, c.requires.newer)) counts.never_falls counts.at_most below.never_falls (λ k slot. below.bounded k (is_inner slot.above slot.begin, subst (λ u. IsFoundAt (src.IsAt u) src.leaf_points src.inner_slot src.inner_place span (is_inner slot.above slot.begin) k c.in-Ok.found) (sym back) (c.in-Ok.ensures.found (is_inner slot.above slot.begin) k slot.holds)))
+
+pub compare_slot-returns-in-Ok-clause-older : goal.compare_slot-returns-in-Ok-clause-older
+compare_slot-returns-in-Ok-clause-older g t c =
+    let src = g.S.NodeSource in
+    let span = c.args.task.span in
+    let told = src.told c.args.state.now in
+    let back = c.in-Ok.ensures.uses.same in
+    subst (λ u. CountsOlder 0 span (src.IsAt u) (IsPlace (src.site c.args.old)) c.args.findings.now.older c.compare_found.new.findings.older c.compare_found.result) back c.compare_found.ensures.older
 
 -- ---- All slots.
 
-pub compare_slots-slot-requires : goal.compare_slots-slot-requires
-compare_slots-slot-requires over t c = let high = c.requires.old.holds.height in record { height = omega arith; place = omega arith }
-
 pub compare_slots-loop-i-init : goal.compare_slots-loop-i-init
-compare_slots-loop-i-init over t c =
+compare_slots-loop-i-init g t c =
     record {
-      adds = λ h g was slots agree. adds-first c.args.comparison c.args.out.now slots.below c.args.span.start h g;
-      bounded = λ g slots. omega arith;
-      never_falls = omega arith;
+      same = refl;
+      rises = omega arith;
+      adds = λ h k was slots agree.
+          adds-first c.args.task.by c.args.findings.now.changed slots.below c.args.task.span.start h k;
+      newer = λ k slots. omega arith;
+      older = λ h slots. omega arith;
+      newer_never_falls = omega arith;
+      older_never_falls = omega arith;
     }
 
+pub compare_slots-slot-requires : goal.compare_slots-slot-requires
+compare_slots-slot-requires g t c =
+    let high = c.requires.old.above in
+    record { height = omega arith; place = omega arith }
+
 pub compare_slots-compare_slot-requires : goal.compare_slots-compare_slot-requires
-compare_slots-compare_slot-requires over t c κs outlives =
+compare_slots-compare_slot-requires g t c κs o =
+    let src = g.S.NodeSource in
+    let span = c.args.task.span in
     let d = c.decreases in
-    let new = c.requires.new in
-    let before = child-belongs c.args.span c.loop-i.i c.slot.result (uncounted_child c.child.result) (uncounted_slots c.args.old) c.requires.old (omega arith) c.slot.ensures c.child.ensures in
-    let child = child-belongs c.args.span c.loop-i.i c.slot.result (node_of c.of.result.child) c.args.new.now new (omega arith) c.slot.ensures c.of.ensures.child in
-    let low = child.1 in
-    (omega arith, (outlives, (c.requires.p, (before.0, child.0))))
-
--- The children of an inner node are those of the span at whatever name its height has below it.
-below-same : (k below other : ℕ) (s : ℤ) (h : Past) (x : Slots) → k ≡ suc below → k ≡ suc other → HasChildren other s h x → HasChildren below s h x
-below-same k below other s h x e f each =
-    let same : other ≡ below = omega arith in
-    subst (λ b. HasChildren b s h x) same each
-
-pub compare_slots-loop-i-preserved : goal.compare_slots-loop-i-preserved
-unfolding slot-belongs
-compare_slots-loop-i-preserved over t c =
-    let span = c.args.span in
-    let start = span.start in
     let i = c.loop-i.i in
     let part = c.slot.result in
-    let since = c.args.comparison.since in
+    let told = src.told c.args.state.now in
+    let old = c.args.old.now in
+    let new = c.args.new.now in
+    let number : i < 64 = omega arith in
+    let same = c.loop-i.invariant.same in
+    let low = place-below (src.IsSafe told) src.count (src.inner_place old) (src.inner_slot old) span part i c.requires.old c.slot.ensures in
+    let first = place-safe (src.IsSafe told) src.count (src.inner_place old) (src.inner_slot old) span part i c.requires.old number c.slot.ensures in
+    let second = place-safe (src.IsSafe told) src.count (src.inner_place new) (src.inner_slot new) span part i c.requires.new number c.slot.ensures in
+    let before = subst (λ u. src.IsSafe u (src.site c.place-place.result) part.height part.start) (sym same) (subst (λ s. src.IsSafe told s part.height part.start) (sym c.place-place.ensures) first) in
+    let here = subst (λ u. src.IsSafe u (src.site c.newer_slot-slot.result.place) part.height part.start) (sym same) (subst (λ s. src.IsSafe told s part.height part.start) (sym c.newer_slot-slot.ensures.place) second) in
+    let inside = slot-in_domain span c.requires.old.below i part c.requires.task.1 c.requires.old.above number c.slot.ensures in
+    (omega arith, (o.0, (o.1.0, (o.1.1.0, (o.1.1.1.0, (o.1.1.1.1.0, (o.1.1.1.1.1.0, (o.1.1.1.1.1.1.0, (o.1.1.1.1.1.1.1, ((c.requires.task.0, inside), (before, (here, omega (arith, c.if-slot-task.false)))))))))))))
+
+pub compare_slots-loop-i-preserved : goal.compare_slots-loop-i-preserved
+unfolding slots-slot
+compare_slots-loop-i-preserved g t c =
+    let src = g.S.NodeSource in
+    let span = c.args.task.span in
+    let start = span.start in
+    let by = c.args.task.by in
+    let told = src.told c.args.state.now in
+    let at = src.told c.loop-i.state in
+    let i = c.loop-i.i in
+    let part = c.slot.result in
+    let old = c.args.old.now in
+    let new = c.args.new.now in
     let low : i < 64 = omega arith in
     let before = c.loop-i.invariant in
+    let read = c.newer_slot-slot.ensures in
+    let is_old : (h : Past) → AreSlotsAt (src.IsAt told) (src.inner_place old) (src.inner_slot old) span h → IsPlace (src.site c.place-place.result) (src.IsAt at) part h = λ h slots.
+    slots-place (src.IsAt at) (src.inner_place old) (src.inner_slot old) span h i part (src.site c.place-place.result) (subst (λ u. AreSlotsAt (src.IsAt u) (src.inner_place old) (src.inner_slot old) span h) (sym before.same) slots) low c.slot.ensures c.place-place.ensures in
+    let is_slot = λ (k : Past) (slots : AreSlotsAt (src.IsAt told) (src.inner_place new) (src.inner_slot new) span k).
+    slots-slot (src.IsAt at) (src.inner_place new) (src.inner_slot new) span k i part c.newer_slot-slot.result.version c.newer_slot-slot.result.count (src.site c.newer_slot-slot.result.place) (subst (λ u. AreSlotsAt (src.IsAt u) (src.inner_place new) (src.inner_slot new) span k) (sym before.same) slots) low c.slot.ensures read.version read.count read.place in
     let done = c.in_ok-compare_slot.ensures in
+    let up = done.uses.rises in
+    let was_risen = before.rises in
     record {
-      adds = λ h g was slots agree.
-          let each = below-same span.height slots.below was.below start h (uncounted_slots c.args.old) slots.height was.height was.each in
-          let old = child-at span slots.below h i part (uncounted_child c.child.result) (uncounted_slots c.args.old) slots.height each low c.slot.ensures c.child.ensures in
-          let slot = slot-belongs span c.args.new.now g i part c.of.result.version (node_of c.of.result.child) slots low c.slot.ensures c.of.ensures.version c.of.ensures.child in
-          adds-slot c.args.comparison c.args.out.now c.loop-i.out c.compare_slot.new.out slots.below start i part h g old.is (before.adds h g was slots agree) (done.adds h g (is_inner (suc slots.below) start, old.holds) slot agree);
-      bounded = λ g slots.
-          let at = child-at span slots.below g i part (node_of c.of.result.child) c.args.new.now slots.height slots.each low c.slot.ensures c.of.ensures.child in
-          let slot = slot-belongs span c.args.new.now g i part c.of.result.version (node_of c.of.result.child) slots low c.slot.ensures c.of.ensures.version c.of.ensures.child in
-          bounded-slot slots.below start i part g since c.args.steps.now c.loop-i.steps c.compare_slot.new.steps at.is (before.bounded g slots) (done.bounded g slot);
-      never_falls = let low = before.never_falls in
-          let high = c.compare_slot.ensures.never_falls in omega arith;
+      same = done.uses.same ∙ before.same;
+      rises = omega arith;
+      adds = λ h k was slots agree.
+          let is = slots-part (src.IsAt told) (src.inner_place new) (src.inner_slot new) span k i part slots c.slot.ensures in
+          adds-slot by c.args.findings.now.changed c.loop-i.findings.changed c.compare_slot.new.findings.changed slots.below start i part h k is (before.adds h k was slots agree) (done.adds h k (is_old h was) (is_slot k slots) agree);
+      newer = λ k slots.
+          let is = slots-part (src.IsAt told) (src.inner_place new) (src.inner_slot new) span k i part slots c.slot.ensures in
+          bounded-slot slots.below start i part k by.since c.args.steps.now c.loop-i.steps c.compare_slot.new.steps is (before.newer k slots) (done.newer.bounded k (is_slot k slots));
+      older = λ h slots.
+          let is = slots-part (src.IsAt told) (src.inner_place old) (src.inner_slot old) span h i part slots c.slot.ensures in
+          let here = done.older.bounded h (is_old h slots) in
+          let all = nodes-slot slots.below start i part (bag h) c.args.findings.now.older c.loop-i.findings.older c.compare_slot.new.findings.older 0 is (before.older h slots) (omega arith) in
+          omega arith;
+      newer_never_falls = let down = before.newer_never_falls in
+          let high = done.newer.never_falls in omega arith;
+      older_never_falls = let down = before.older_never_falls in
+          let high = done.older.never_falls in omega arith;
+    }
+
+pub compare_slots-loop-i-preserved-then-slot-task : goal.compare_slots-loop-i-preserved-then-slot-task
+unfolding slots-slot
+compare_slots-loop-i-preserved-then-slot-task g t c =
+    let src = g.S.NodeSource in
+    let span = c.args.task.span in
+    let start = span.start in
+    let by = c.args.task.by in
+    let told = src.told c.args.state.now in
+    let i = c.loop-i.i in
+    let part = slot_of span i in
+    let old = c.args.old.now in
+    let new = c.args.new.now in
+    let slot = c.newer_slot-slot.result in
+    let low : i < 64 = omega arith in
+    let before = c.loop-i.invariant in
+    let read = c.newer_slot-slot.ensures in
+    let changed = c.loop-i.findings.changed in
+    record {
+      same = before.same;
+      rises = before.rises;
+      adds = λ h k was slots agree.
+          let is = slots-part (src.IsAt told) (src.inner_place new) (src.inner_slot new) span k i part slots refl in
+          let here = slots-slot (src.IsAt told) (src.inner_place new) (src.inner_slot new) span k i part slot.version slot.count (src.site slot.place) slots low refl read.version read.count read.place in
+          adds-slot by c.args.findings.now.changed changed changed slots.below start i part h k is (before.adds h k was slots agree) (adds-passed (src.IsAt told) by changed part slot.version slot.count (src.site slot.place) h k c.if-slot-task.true here agree);
+      newer = λ k slots.
+          let is = slots-part (src.IsAt told) (src.inner_place new) (src.inner_slot new) span k i part slots refl in
+          bounded-slot slots.below start i part k by.since c.args.steps.now c.loop-i.steps c.loop-i.steps is (before.newer k slots) (omega arith);
+      older = λ h slots.
+          let is = slots-part (src.IsAt told) (src.inner_place old) (src.inner_slot old) span h i part slots refl in
+          let all = nodes-slot slots.below start i part (bag h) c.args.findings.now.older c.loop-i.findings.older c.loop-i.findings.older 0 is (before.older h slots) (omega arith) in
+          omega arith;
+      newer_never_falls = before.newer_never_falls;
+      older_never_falls = before.older_never_falls;
     }
 
 pub compare_slots-returns-clause-adds : goal.compare_slots-returns-clause-adds
-compare_slots-returns-clause-adds over t c h g was slots agree =
-    adds-done c.args.comparison c.args.out.now c.loop-i.out c.args.span.height slots.below c.args.span.start c.loop-i.i h g (omega arith) slots.height (c.loop-i.invariant.adds h g was slots agree)
+compare_slots-returns-clause-adds g t c h k was slots agree =
+    let by = c.args.task.by in
+    adds-done by c.args.findings.now.changed c.loop-i.findings.changed c.args.task.span.height slots.below c.args.task.span.start c.loop-i.i h k (omega arith) slots.above (c.loop-i.invariant.adds h k was slots agree)
 
-pub compare_slots-returns-clause-bounded : goal.compare_slots-returns-clause-bounded
-compare_slots-returns-clause-bounded over t c g slots =
-    let all = below-sum c.args.span.height slots.below c.args.span.start g c.args.comparison.since c.loop-i.i slots.height slots.inner (omega arith) in
-    let few = c.loop-i.invariant.bounded g slots in
-    omega arith
+pub compare_slots-returns-clause-newer : goal.compare_slots-returns-clause-newer
+compare_slots-returns-clause-newer g t c =
+    let src = g.S.NodeSource in
+    let span = c.args.task.span in
+    let new = c.args.new.now in
+    record {
+      bounded = λ k slots.
+          let inner = slots-inner (src.IsAt (src.told c.args.state.now)) (src.inner_place new) (src.inner_slot new) span k slots in
+          let all = below-sum span.height slots.below span.start k c.args.task.by.since c.loop-i.i slots.above inner (omega arith) in
+          let few = c.loop-i.invariant.newer k slots in
+          omega arith;
+      never_falls = c.loop-i.invariant.newer_never_falls;
+    }
 
-pub compare_slots-returns-in_err-compare_slot-clause-bounded : goal.compare_slots-returns-in_err-compare_slot-clause-bounded
-unfolding slot-belongs
-compare_slots-returns-in_err-compare_slot-clause-bounded over t c g slots =
-    let span = c.args.span in
+pub compare_slots-returns-clause-older : goal.compare_slots-returns-clause-older
+compare_slots-returns-clause-older g t c =
+    let src = g.S.NodeSource in
+    let so_far = c.loop-i.invariant in
+    older-slots (src.IsAt (src.told c.args.state.now)) (src.inner_place c.args.old.now) (src.inner_slot c.args.old.now) c.args.task.span c.loop-i.i c.args.findings.now.older c.loop-i.findings.older _ (omega arith) (λ h slots. let few = so_far.older h slots in omega arith) so_far.older_never_falls
+
+pub compare_slots-returns-in_err-compare_slot-clause-sound : goal.compare_slots-returns-in_err-compare_slot-clause-sound
+unfolding slots-slot
+compare_slots-returns-in_err-compare_slot-clause-sound g t c =
+    let src = g.S.NodeSource in
+    let span = c.args.task.span in
+    let start = span.start in
+    let by = c.args.task.by in
+    let told = src.told c.args.state.now in
+    let at = src.told c.loop-i.state in
     let i = c.loop-i.i in
     let part = c.slot.result in
+    let old = c.args.old.now in
+    let new = c.args.new.now in
     let low : i < 64 = omega arith in
-    let at = child-at span slots.below g i part (node_of c.of.result.child) c.args.new.now slots.height slots.each low c.slot.ensures c.of.ensures.child in
-    let slot = slot-belongs span c.args.new.now g i part c.of.result.version (node_of c.of.result.child) slots low c.slot.ensures c.of.ensures.version c.of.ensures.child in
-    bounded-exit span.height slots.below span.start i g c.args.comparison.since c.args.steps.now c.compare_slot.new.steps slots.height slots.inner low (bounded-slot slots.below span.start i part g c.args.comparison.since c.args.steps.now c.loop-i.steps c.compare_slot.new.steps at.is (c.loop-i.invariant.bounded g slots) (c.compare_slot.ensures.bounded g slot))
+    let before = c.loop-i.invariant in
+    let read = c.newer_slot-slot.ensures in
+    let is_old : (h : Past) → AreSlotsAt (src.IsAt told) (src.inner_place old) (src.inner_slot old) span h → IsPlace (src.site c.place-place.result) (src.IsAt at) part h = λ h slots.
+    slots-place (src.IsAt at) (src.inner_place old) (src.inner_slot old) span h i part (src.site c.place-place.result) (subst (λ u. AreSlotsAt (src.IsAt u) (src.inner_place old) (src.inner_slot old) span h) (sym before.same) slots) low c.slot.ensures c.place-place.ensures in
+    let is_slot = λ (k : Past) (slots : AreSlotsAt (src.IsAt told) (src.inner_place new) (src.inner_slot new) span k).
+    slots-slot (src.IsAt at) (src.inner_place new) (src.inner_slot new) span k i part c.newer_slot-slot.result.version c.newer_slot-slot.result.count (src.site c.newer_slot-slot.result.place) (subst (λ u. AreSlotsAt (src.IsAt u) (src.inner_place new) (src.inner_slot new) span k) (sym before.same) slots) low c.slot.ensures read.version read.count read.place in
+    let p = err_from_is_err_and c.from_residual.result c.from_residual.ensures.1 in
+    rw (p.1, p.2) (refused-weaker {A = Unit {0}} _ _ (Err c.in_err-compare_slot.field-0.0) (λ e f h k was slots. f h k (is_old h was) (is_slot k slots)) c.in_err-compare_slot.ensures.sound)
+
+pub compare_slots-returns-in_err-compare_slot-clause-uses : goal.compare_slots-returns-in_err-compare_slot-clause-uses
+compare_slots-returns-in_err-compare_slot-clause-uses g t c =
+    let src = g.S.NodeSource in
+    let p = err_from_is_err_and c.from_residual.result c.from_residual.ensures.1 in
+    let before : UsesSource {A = Unit {0}} src.told src.faults (λ u a b. IfRefused (src.IsCaused u a b)) c.args.state.now c.loop-i.state (Ok tt) = record { same = c.loop-i.invariant.same; rises = c.loop-i.invariant.rises; cause = tt } in
+    rw (p.1, p.2) (uses-then src.told src.faults (λ u a b. IfRefused (src.IsCaused u a b)) (λ u a b. IfRefused (src.IsCaused u a b)) c.args.state.now c.loop-i.state c.compare_slot.new.state _ _ (refused-earlier src.IsCaused g.met.S.NodeSource.caused_earlier) before c.in_err-compare_slot.ensures.uses)
+
+pub compare_slots-returns-in_err-compare_slot-clause-newer : goal.compare_slots-returns-in_err-compare_slot-clause-newer
+unfolding slots-slot
+compare_slots-returns-in_err-compare_slot-clause-newer g t c =
+    let src = g.S.NodeSource in
+    let span = c.args.task.span in
+    let start = span.start in
+    let by = c.args.task.by in
+    let told = src.told c.args.state.now in
+    let at = src.told c.loop-i.state in
+    let i = c.loop-i.i in
+    let part = c.slot.result in
+    let old = c.args.old.now in
+    let new = c.args.new.now in
+    let low : i < 64 = omega arith in
+    let before = c.loop-i.invariant in
+    let read = c.newer_slot-slot.ensures in
+    let is_old : (h : Past) → AreSlotsAt (src.IsAt told) (src.inner_place old) (src.inner_slot old) span h → IsPlace (src.site c.place-place.result) (src.IsAt at) part h = λ h slots.
+    slots-place (src.IsAt at) (src.inner_place old) (src.inner_slot old) span h i part (src.site c.place-place.result) (subst (λ u. AreSlotsAt (src.IsAt u) (src.inner_place old) (src.inner_slot old) span h) (sym before.same) slots) low c.slot.ensures c.place-place.ensures in
+    let is_slot = λ (k : Past) (slots : AreSlotsAt (src.IsAt told) (src.inner_place new) (src.inner_slot new) span k).
+    slots-slot (src.IsAt at) (src.inner_place new) (src.inner_slot new) span k i part c.newer_slot-slot.result.version c.newer_slot-slot.result.count (src.site c.newer_slot-slot.result.place) (subst (λ u. AreSlotsAt (src.IsAt u) (src.inner_place new) (src.inner_slot new) span k) (sym before.same) slots) low c.slot.ensures read.version read.count read.place in
+    let done = c.in_err-compare_slot.ensures.newer in
+    record {
+      bounded = λ k slots.
+          let inner = slots-inner (src.IsAt told) (src.inner_place new) (src.inner_slot new) span k slots in
+          let is = slots-part (src.IsAt told) (src.inner_place new) (src.inner_slot new) span k i part slots c.slot.ensures in
+          bounded-exit span.height slots.below start i k by.since c.args.steps.now c.compare_slot.new.steps slots.above inner low (bounded-slot slots.below start i part k by.since c.args.steps.now c.loop-i.steps c.compare_slot.new.steps is (before.newer k slots) (done.bounded k (is_slot k slots)));
+      never_falls = let down = before.newer_never_falls in
+          let high = done.never_falls in omega arith;
+    }
+
+pub compare_slots-returns-in_err-compare_slot-clause-older : goal.compare_slots-returns-in_err-compare_slot-clause-older
+compare_slots-returns-in_err-compare_slot-clause-older g t c =
+    let src = g.S.NodeSource in
+    let span = c.args.task.span in
+    let start = span.start in
+    let by = c.args.task.by in
+    let told = src.told c.args.state.now in
+    let at = src.told c.loop-i.state in
+    let i = c.loop-i.i in
+    let part = c.slot.result in
+    let old = c.args.old.now in
+    let new = c.args.new.now in
+    let low : i < 64 = omega arith in
+    let before = c.loop-i.invariant in
+    let read = c.newer_slot-slot.ensures in
+    let is_old : (h : Past) → AreSlotsAt (src.IsAt told) (src.inner_place old) (src.inner_slot old) span h → IsPlace (src.site c.place-place.result) (src.IsAt at) part h = λ h slots.
+    slots-place (src.IsAt at) (src.inner_place old) (src.inner_slot old) span h i part (src.site c.place-place.result) (subst (λ u. AreSlotsAt (src.IsAt u) (src.inner_place old) (src.inner_slot old) span h) (sym before.same) slots) low c.slot.ensures c.place-place.ensures in
+    let done = c.in_err-compare_slot.ensures.older in
+    let down = before.older_never_falls in
+    let high = done.never_falls in
+    let p = err_from_is_err_and c.from_residual.result c.from_residual.ensures.1 in
+    rw (p.1, p.2) (older-slots (src.IsAt told) (src.inner_place old) (src.inner_slot old) span (i + 1) c.args.findings.now.older c.compare_slot.new.findings.older _ (omega arith) (λ h slots.
+    let is = slots-part (src.IsAt told) (src.inner_place old) (src.inner_slot old) span h i part slots c.slot.ensures in
+    let here = done.bounded h (is_old h slots) in
+    nodes-slot slots.below start i part (bag h) c.args.findings.now.older c.loop-i.findings.older c.compare_slot.new.findings.older _ is (before.older h slots) (omega (arith, here))) (omega arith))

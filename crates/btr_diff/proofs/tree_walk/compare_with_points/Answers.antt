@@ -1,65 +1,29 @@
-use Rattle.std.proofs.Common.{◌++◌, sym, ap, ◌∙◌}
-use Rattle.std.proofs.lemmas.Result.{on_ok_weaker}
-use Rattle.btr_tree.specs.History.{Past, bag}
-use Rattle.btr_tree.specs.Nodes.{points_of}
-use Rattle.btr_tree.specs.Uncounted.{uncounted_child, as_counted}
-use Rattle.btr_diff.specs.Comparison.{ArePointsOf, IsChildOf}
-use Rattle.btr_diff.proofs.Nodes.{found-uncounted, found-none_uncounted, leaf-points, points-order, points-domain, inner-slots}
-use Rattle.btr_diff.proofs.Slots.{adds-as}
+use Rattle.std.proofs.Common.{sym, subst}
+use Rattle.btr_base.specs.Point.{AreInDomain}
+use Rattle.btr_diff.proofs.Found.{found-leaf, safe-leaf}
+use Rattle.btr_diff.proofs.Nodes.{safe-points}
+use Rattle.btr_diff.proofs.Newer.{leaf-some, older-visited}
 use Rattle.btr_diff.proofs.tree_walk.compare_with_points.Goals as goal
 
-pub compare_points-requires-in-Leaf-clause-old_order : goal.compare_points-requires-in-Leaf-clause-old_order
-compare_points-requires-in-Leaf-clause-old_order c =
-    let old = c.requires.old in
-    points-order c.args.span old.past c.in-Leaf.points.now (leaf-points c.args.span old.past (as_counted c.in-Some.node) c.in-Leaf.version c.in-Leaf.points (ap as_counted c.in-Leaf.is) (found-uncounted c.args.span (uncounted_child c.args.old) c.in-Some.node c.in-Some.ensures old.past old.holds))
-
 pub compare_points-requires-in-Leaf-clause-old_domain : goal.compare_points-requires-in-Leaf-clause-old_domain
-compare_points-requires-in-Leaf-clause-old_domain c =
-    let old = c.requires.old in
-    points-domain c.args.span old.past c.in-Leaf.points.now old.inside (leaf-points c.args.span old.past (as_counted c.in-Some.node) c.in-Leaf.version c.in-Leaf.points (ap as_counted c.in-Leaf.is) (found-uncounted c.args.span (uncounted_child c.args.old) c.in-Some.node c.in-Some.ensures old.past old.holds))
+compare_points-requires-in-Leaf-clause-old_domain g c =
+    let src = g.S.NodeSource in
+    let span = c.args.task.span in
+    let leaf = safe-leaf src.leaf_points src.inner_slot src.inner_place span c.in-Ok.found (src.IsSafe (src.told c.args.state.now)) src.count _ c.in-Leaf.version c.in-Leaf.points c.in-Leaf.is c.in-Ok.ensures.safe in
+    subst AreInDomain (sym c.points.ensures) (safe-points _ span (src.leaf_points c.in-Leaf.points) c.requires.task.1 leaf).1
 
-pub gather_slots-requires : goal.gather_slots-requires
-gather_slots-requires c =
-    let old = c.requires.old in
-    record {
-      inside = old.inside;
-      past = old.past;
-      holds = inner-slots c.args.span old.past (as_counted c.in-Some.node) c.in-Inner.version c.in-Inner.slots.slots (ap as_counted c.in-Inner.is) (found-uncounted c.args.span (uncounted_child c.args.old) c.in-Some.node c.in-Some.ensures old.past old.holds);
-    }
+pub returns-in_err-compare_points-in-Leaf-clause-older : goal.returns-in_err-compare_points-in-Leaf-clause-older
+returns-in_err-compare_points-in-Leaf-clause-older g c =
+    let src = g.S.NodeSource in
+    let span = c.args.task.span in
+    let told = src.told c.args.state.now in
+    let counts = c.in-Ok.ensures.counts in
+    older-visited (src.IsAt told) span (src.site c.args.old) c.args.findings.now.older c.visit.new.steps _ (λ above h holds. leaf-some span above h c.in-Leaf.version (src.leaf_points c.in-Leaf.points) (found-leaf src.leaf_points src.inner_slot src.inner_place span c.in-Ok.found (src.IsAt told) above h c.in-Leaf.version c.in-Leaf.points c.in-Leaf.is (c.in-Ok.ensures.found above h holds))) counts.never_falls counts.at_most
 
--- The points that were gathered are those of the span.
-gathered : (c : goal.After-compare_points-arg-in-Inner-1) (h : Past) → IsChildOf c.args.span (uncounted_child c.args.old) h → ArePointsOf c.args.span c.deref.result.now h
-gathered c h is =
-    let span = c.args.span in
-    let children = inner-slots span h (as_counted c.in-Some.node) c.in-Inner.version c.in-Inner.slots.slots (ap as_counted c.in-Inner.is) (found-uncounted span (uncounted_child c.args.old) c.in-Some.node c.in-Some.ensures h is) in
-    c.deref.ensures.value
-    ∙ c.in_ok-gather_slots-in-Inner.ensures h children
-    ∙ ap (λ x. x ++ points_of span.height span.start (bag h)) c.new-points.ensures.items
-
-pub compare_points-requires-in-Inner-clause-old_order : goal.compare_points-requires-in-Inner-clause-old_order
-compare_points-requires-in-Inner-clause-old_order c =
-    let old = c.requires.old in
-    points-order c.args.span old.past c.deref.result.now (gathered c old.past old.holds)
-
-pub compare_points-requires-in-Inner-clause-old_domain : goal.compare_points-requires-in-Inner-clause-old_domain
-compare_points-requires-in-Inner-clause-old_domain c =
-    let old = c.requires.old in
-    points-domain c.args.span old.past c.deref.result.now old.inside (gathered c old.past old.holds)
-
-pub returns-in-None : goal.returns-in-None
-returns-in-None c =
-    on_ok_weaker c.compare_points.result (λ e h is.
-    adds-as c.args.comparison c.args.out.now c.compare_points.new.out _ _ _ _ (sym (found-none_uncounted c.args.span (uncounted_child c.args.old) c.in-None.ensures h is)) (λ i. c.args.new.now) e) c.compare_points.ensures
-
-pub returns-in-Leaf : goal.returns-in-Leaf
-returns-in-Leaf c =
-    on_ok_weaker c.compare_points-in-Leaf.result (λ e h is.
-    adds-as c.args.comparison c.args.out.now c.compare_points-in-Leaf.new.out _ _ _ _ (leaf-points c.args.span h (as_counted c.in-Some.node) c.in-Leaf.version c.in-Leaf.points (ap as_counted c.in-Leaf.is) (found-uncounted c.args.span (uncounted_child c.args.old) c.in-Some.node c.in-Some.ensures h is)) (λ i. c.args.new.now) e) c.compare_points-in-Leaf.ensures
-
-pub returns-in_ok-gather_slots-in-Inner : goal.returns-in_ok-gather_slots-in-Inner
-returns-in_ok-gather_slots-in-Inner c =
-    let span = c.args.span in
-    on_ok_weaker c.compare_points-in-Inner.result (λ e h is.
-    let children = inner-slots span h (as_counted c.in-Some.node) c.in-Inner.version c.in-Inner.slots.slots (ap as_counted c.in-Inner.is) (found-uncounted span (uncounted_child c.args.old) c.in-Some.node c.in-Some.ensures h is) in
-    let gathered = c.deref.ensures.value ∙ c.in_ok-gather_slots-in-Inner.ensures h children ∙ ap (λ x. x ++ points_of span.height span.start (bag h)) c.new-points.ensures.items in
-    adds-as c.args.comparison c.args.out.now c.compare_points-in-Inner.new.out _ _ _ _ gathered (λ i. c.args.new.now) e) c.compare_points-in-Inner.ensures
+pub returns-in_ok-compare_points-in-Leaf-clause-older : goal.returns-in_ok-compare_points-in-Leaf-clause-older
+returns-in_ok-compare_points-in-Leaf-clause-older g c =
+    let src = g.S.NodeSource in
+    let span = c.args.task.span in
+    let told = src.told c.args.state.now in
+    let counts = c.in-Ok.ensures.counts in
+    older-visited (src.IsAt told) span (src.site c.args.old) c.args.findings.now.older c.visit.new.steps _ (λ above h holds. leaf-some span above h c.in-Leaf.version (src.leaf_points c.in-Leaf.points) (found-leaf src.leaf_points src.inner_slot src.inner_place span c.in-Ok.found (src.IsAt told) above h c.in-Leaf.version c.in-Leaf.points c.in-Leaf.is (c.in-Ok.ensures.found above h holds))) counts.never_falls counts.at_most

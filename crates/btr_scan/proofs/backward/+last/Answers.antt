@@ -1,78 +1,51 @@
-use Rattle.std.proofs.Common.{◌≡◌, suc, ◌<◌, List, sym, ap, ◌∙◌, arith, rules}
 use Rattle.std.specs.Prelude.{None}
 use Rattle.std.specs.List.{last_or}
+use Rattle.std.proofs.Common.{suc, List, ap, ◌∙◌, arith}
+use Rattle.std.proofs.lemmas.Result.{IfOk-weaker, IfErr-weaker}
 use Rattle.btr_base.specs.declared.point.Point.{Point}
-use Rattle.btr_base.specs.Bag.{within}
 use Rattle.btr_tree.specs.History.{bag}
-use Rattle.btr_tree.specs.Slots.{node_of}
-use Rattle.btr_tree.specs.Nodes.{points_of, is_inner}
-use Rattle.btr_tree.proofs.NodeLemmas.{inner-is, seen-slots, child-at, slot-end}
-use Rattle.btr_scan.proofs.Places.{leaf-points, child-stands}
-use Rattle.btr_scan.proofs.Runs.{full-slot, last-before, none-before}
-use Rattle.btr_scan.proofs.Firsts.{last-any}
+use Rattle.btr_tree.specs.Nodes.{is_inner}
+use Rattle.btr_scan.proofs.Firsts.{last-is-some}
+use Rattle.btr_scan.proofs.Places.{some-found, some-points, safe-slots, inner-found, held-at, slots-same}
+use Rattle.btr_scan.proofs.Runs.{last-at, none-to-at, end-slot}
+use Rattle.btr_scan.specs.FirstLast.{last_within}
 use Rattle.btr_scan.proofs.backward.+last.Goals as goal
 
-pub last_in_child-last_in_slots-requires : goal.last_in_child-last_in_slots-requires
-last_in_child-last_in_slots-requires over t c κs outlives =
-    let st = c.requires in
-    let k = c.args.span.height in
-    let s = c.args.span.start in
-    let d = c.decreases in
-    let node = c.in_ok-points.ensures.node k s st.above st.commits st.holds in
-    let slots = seen-slots k s 0 (node_of c.args.child) c.in_ok-points.field-0 c.in-Inner.version c.in-Inner.slots st c.in-Inner.is node in
-    (omega arith, (outlives, (slots, omega arith)))
+pub last_in_place-returns-in-Inner-clause-some : goal.last_in_place-returns-in-Inner-clause-some
+last_in_place-returns-in-Inner-clause-some g t c =
+    let source = g.S.NodeSource in
+    let slots = c.in-Inner.slots in
+    let safe = safe-slots (source.IsSafe (source.told c.args.state.now)) source.count source.leaf_points source.inner_slot source.inner_place (source.count (source.site c.args.at)) c.args.span c.in_ok-visit.field-0 c.in-Inner.version slots c.in_ok-visit.ensures.safe c.in-Inner.is in
+    IfOk-weaker c.last_in_slots.result _ _ (λ r none count. some-found (source.inner_slot slots) r safe.some (λ e. (none e).1)) c.last_in_slots.ensures.none
 
-pub last_in_child-returns-in-Leaf-clause-point : goal.last_in_child-returns-in-Leaf-clause-point
-last_in_child-returns-in-Leaf-clause-point over t c above h holds =
-    let k = c.args.span.height in
-    let s = c.args.span.start in
-    let node = c.in_ok-points.ensures.node k s above h holds in
-    let points = leaf-points k s above h c.in_ok-points.field-0 c.in-Leaf.version c.in-Leaf.points c.in-Leaf.is node in
-    c.last_of.ensures ∙ ap (λ (x : List Point). last_or None x) points
+pub last_in_place-returns-in-Leaf-clause-some : goal.last_in_place-returns-in-Leaf-clause-some
+last_in_place-returns-in-Leaf-clause-some g t c count =
+    let source = g.S.NodeSource in
+    let leaf = c.in-Leaf.points in
+    let some = some-points (source.IsSafe (source.told c.args.state.now)) source.count source.leaf_points source.inner_slot source.inner_place (source.count (source.site c.args.at)) c.args.span c.in_ok-visit.field-0 c.in-Leaf.version leaf c.in_ok-visit.ensures.safe c.in-Leaf.is in
+    last-is-some (source.leaf_points leaf) c.last_of.result some (c.last_of.ensures ∙ ap (λ (x : List Point). last_or None x) c.points.ensures)
 
-pub last_in_child-returns-in-Inner-clause-point : goal.last_in_child-returns-in-Inner-clause-point
-last_in_child-returns-in-Inner-clause-point over t c above h holds =
-    let k = c.args.span.height in
-    let s = c.args.span.start in
-    let node = c.in_ok-points.ensures.node k s above h holds in
-    let body = inner-is k s above h c.in_ok-points.field-0 c.in-Inner.version c.in-Inner.slots c.in-Inner.is node in
-    c.last_in_slots.ensures.point body.below h body.height body.inner.all body.each
-    ∙ ap (λ e. last_or None (within s e (bag h))) (slot-end body.below s)
-    ∙ ap (λ j. last_or None (points_of j s (bag h))) (sym body.height)
+pub last_in_place-returns-in-Inner-clause-point : goal.last_in_place-returns-in-Inner-clause-point
+last_in_place-returns-in-Inner-clause-point g t c =
+    let source = g.S.NodeSource in
+    let span = c.args.span in
+    IfOk-weaker c.last_in_slots.result _ _ (λ r point above h at.
+    let slots = inner-found (source.IsAt (source.told c.args.state.now)) source.leaf_points source.inner_slot source.inner_place span above h c.in_ok-visit.field-0 c.in-Inner.version c.in-Inner.slots (c.in_ok-visit.ensures.found above h at) c.in-Inner.is in
+    point h (slots-same source.IsAt _ _ _ _ span h c.in_ok-visit.ensures.uses.same slots) ∙ ap (λ e. last_within span.start e (bag h)) (end-slot span slots.below slots.above)) c.last_in_slots.ensures.point
 
-pub last_in_slots-returns-in_err-i-clause-point : goal.last_in_slots-returns-in_err-i-clause-point
-last_in_slots-returns-in_err-i-clause-point over t c below h e slots each =
-    none-before below c.args.span.start h c.args.slots.now c.args.to c.from_residual.result slots c.requires.place c.in_err-i.ensures (search rules)
+pub last_in_slots-returns-in-None-clause-point : goal.last_in_slots-returns-in-None-clause-point
+last_in_slots-returns-in-None-clause-point g t c h at =
+    none-to-at _ _ _ c.args.span h c.args.to at c.requires.place c.in-None.ensures
 
-pub last_in_slots-last_in_child-requires : goal.last_in_slots-last_in_child-requires
-last_in_slots-last_in_child-requires over t c κs outlives =
-    let st = c.requires.some in
-    let below = st.0 in
-    let d = c.decreases in
-    let i = c.in_ok-i.i in
-    let place : i < 64 = omega (arith, c.in_ok-i.ensures.0) in
-    let at = child-at c.args.span below st.2.commits i c.slot.result (node_of c.child.result) c.args.slots.now st.1 st.2.each place c.slot.ensures c.child.ensures in
-    let stands = child-stands below c.args.span.start st.2.commits i c.slot.result (node_of c.child.result) at.is at.holds place st.2.few in
-    let down : c.slot.result.height ≡ below = ap (λ u. u.height) at.is in
-    let up = st.1 in
-    (omega arith, (outlives, stands))
+pub last_in_slots-returns-in-Some-clause-point : goal.last_in_slots-returns-in-Some-clause-point
+last_in_slots-returns-in-Some-clause-point g t c =
+    let i = c.in-Some.i in
+    let next = c.in-Some.ensures in
+    IfOk-weaker c.last_in_place.result _ _ (λ r point h at.
+    last-at _ _ _ c.args.span h c.args.to i c.slot.result r at next.0 c.requires.place next.1 next.2 c.slot.ensures (point (is_inner (suc at.below) c.args.span.start) h (held-at _ _ _ c.args.span c.slot.result h i _ at (omega (arith, next.0)) c.slot.ensures c.place.ensures))) c.last_in_place.ensures.point
 
-pub last_in_slots-returns-clause-point : goal.last_in_slots-returns-clause-point
-last_in_slots-returns-clause-point over t c below h e slots each =
-    let i = c.in_ok-i.i in
-    let found = c.in_ok-i.ensures in
-    let place : i < 64 = omega (arith, c.in_ok-i.ensures.0) in
-    let at = child-at c.args.span below h i c.slot.result (node_of c.child.result) c.args.slots.now e each place c.slot.ensures c.child.ensures in
-    last-before below c.args.span.start h c.args.slots.now c.args.to i c.slot.result c.last_in_child.result slots found.0 c.requires.place found.1 found.2 at.is (c.last_in_child.ensures.point (is_inner (suc below) c.args.span.start) h at.holds)
-
-pub last_in_slots-returns-clause-none : goal.last_in_slots-returns-clause-none
-last_in_slots-returns-clause-none over t c none =
-    let st = c.requires.some in
-    let below = st.0 in
-    let h = st.2.commits in
-    let i = c.in_ok-i.i in
-    let found = c.in_ok-i.ensures in
-    let place : i < 64 = omega (arith, c.in_ok-i.ensures.0) in
-    let at = child-at c.args.span below h i c.slot.result (node_of c.child.result) c.args.slots.now st.1 st.2.each place c.slot.ensures c.child.ensures in
-    let full = full-slot below c.args.span.start h c.args.slots.now i c.slot.result st.2.holds place found.1 at.is in
-    absurd (last-any _ c.last_in_child.result full (c.last_in_child.ensures.point (is_inner (suc below) c.args.span.start) h at.holds) none)
+pub last_in_slots-returns-in-Some-clause-sound : goal.last_in_slots-returns-in-Some-clause-sound
+last_in_slots-returns-in-Some-clause-sound g t c =
+    let i = c.in-Some.i in
+    let next = c.in-Some.ensures in
+    IfErr-weaker c.last_in_place.result _ _ (λ e harmless h at. harmless (is_inner (suc at.below) c.args.span.start) h (held-at _ _ _ c.args.span c.slot.result h i _ at (omega (arith, next.0)) c.slot.ensures c.place.ensures)) c.last_in_place.ensures.sound

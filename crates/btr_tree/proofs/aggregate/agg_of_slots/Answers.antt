@@ -8,27 +8,27 @@ use Rattle.btr_tree.proofs.NodeLemmas.{joined-none, joined-next}
 use Rattle.btr_tree.proofs.aggregate.agg_of_slots.Goals as goal
 
 pub loop-i-init : goal.loop-i-init
-loop-i-init c = c.none-all.ensures ∙ sym (joined-none c.args.slots.now)
+loop-i-init c = c.none-all.ensures ∙ sym (joined-none (slot_in c.args.slots.now))
 
 pub loop-i-preserved : goal.loop-i-preserved
 loop-i-preserved c =
     c.join-all.ensures.numbers
     ∙ ap (λ (s : Slot). joined c.loop-i.all s.agg) c.in-Some.ensures.some
     ∙ ap (λ a. joined a (slot_in c.args.slots.now c.loop-i.i).agg) c.loop-i.invariant
-    ∙ sym (joined-next c.loop-i.i c.args.slots.now)
+    ∙ sym (joined-next c.loop-i.i (slot_in c.args.slots.now))
 
 pub loop-i-preserved-in_default : goal.loop-i-preserved-in_default
 loop-i-preserved-in_default c =
     c.loop-i.invariant
-    ∙ sym (none-joined (joined_first c.loop-i.i c.args.slots.now))
-    ∙ sym (ap (λ (s : Slot). joined (joined_first c.loop-i.i c.args.slots.now) s.agg) (c.in_default.ensures.none refl))
-    ∙ sym (joined-next c.loop-i.i c.args.slots.now)
+    ∙ sym (none-joined (joined_first c.loop-i.i (slot_in c.args.slots.now)))
+    ∙ sym (ap (λ (s : Slot). joined (joined_first c.loop-i.i (slot_in c.args.slots.now)) s.agg) (c.in_default.ensures.none refl))
+    ∙ sym (joined-next c.loop-i.i (slot_in c.args.slots.now))
 
 pub join-all-requires : goal.join-all-requires
 join-all-requires c =
     let test = c.loop-i-test.true in
     let low = c.requires (c.loop-i.i + 1) (omega arith) in
-    let next = ap (λ u. u.count) (joined-next c.loop-i.i c.args.slots.now) in
+    let next = ap (λ u. u.count) (joined-next c.loop-i.i (slot_in c.args.slots.now)) in
     let all = ap (λ (u : AggValue). u.count) c.loop-i.invariant in
     let here = ap (λ (s : Slot). s.agg.count) c.in-Some.ensures.some in
     omega arith
@@ -36,4 +36,4 @@ join-all-requires c =
 pub returns : goal.returns
 returns c =
     let done : c.loop-i.i ≡ 64 = omega (arith, c.loop-i-test.false, c.loop-i.auto.i-end) in
-    c.loop-i.invariant ∙ ap (λ n. joined_first n c.args.slots.now) done
+    c.loop-i.invariant ∙ ap (λ n. joined_first n (slot_in c.args.slots.now)) done

@@ -25,3 +25,11 @@ overflow_add-result c =
     let high = ap (λ k. length (points_of k c.args.span.start (bag st.2.commits))) st.1 in
     let few = st.2.few in
     omega arith
+
+pub returns-clause-few : goal.returns-clause-few
+returns-clause-few c test below h high slots each =
+    let left = c.in_ok-left.ensures below h high slots each in grind (arith, nat_tests)
+
+pub returns-clause-many : goal.returns-clause-many
+returns-clause-many c test below h high slots each many =
+    let left = c.in_ok-left.ensures below h high slots each in grind (arith, nat_tests)

@@ -6,7 +6,7 @@ use Rattle.btr_tree.specs.declared.node.Slot.{Slot}
 use Rattle.btr_node.specs.Page.{header, span_of_page}
 use Rattle.btr_node.specs.declared.page.PageHeader.{PageHeader}
 use Rattle.btr_node.specs.declared.page.NodePage.{NodePage}
-use Rattle.btr_pages.specs.Pages.{node_of_page, slot_of_page}
+use Rattle.btr_tree.specs.PageNodes.{node_of_page, slot_of_page}
 use Rattle.btr_hist.specs.declared.entry.Entry.{Entry}
 use Rattle.btr_streams.specs.Board.{HasVersion}
 use Rattle.btr_verify.specs.Judged.{IsOwn}

@@ -4,7 +4,7 @@ use Rattle.std.proofs.Math.ListN.{length-set}
 use Rattle.std.proofs.lemmas.List.{take_more, take_more_set, get_or-map, length-map}
 use Rattle.btr_tree.specs.declared.node.Slot.{Slot}
 use Rattle.btr_node.specs.declared.page.PageSlot.{PageSlot}
-use Rattle.btr_pages.specs.Pages.{slot_of_page}
+use Rattle.btr_tree.specs.PageNodes.{slot_of_page}
 use Rattle.btr_verify.proofs.judging.tree_slots.Goals as goal
 
 slots-more : (all : List Slot) (xs : List PageSlot) (i : ℕ) (s : PageSlot) (x : Slot) → i < 64 → length xs ≡ 64 → x ≡ slot_of_page (get_or xs i s) → (length all ≡ 64) × (take i all ≡ take i (map slot_of_page xs)) → (length (slice_set all i x) ≡ 64) × (take (i + 1) (slice_set all i x) ≡ take (i + 1) (map slot_of_page xs))

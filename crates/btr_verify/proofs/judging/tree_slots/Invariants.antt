@@ -1,5 +1,5 @@
 use Rattle.std.proofs.Common.{◌≡◌, length, take, map}
-use Rattle.btr_pages.specs.Pages.{slot_of_page}
+use Rattle.btr_tree.specs.PageNodes.{slot_of_page}
 use Rattle.btr_verify.proofs.judging.tree_slots.Given as goal
 
 -- The slots so far are those of the page.

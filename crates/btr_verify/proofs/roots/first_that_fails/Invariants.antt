@@ -1,5 +1,5 @@
 use Rattle.std.specs.Prelude.{ℕ, ◌<◌, List, IfSome, slice_get}
-use Rattle.btr_pages.specs.Pages.{Pages}
+use Rattle.btr_tree.specs.PageNodes.{Pages}
 use Rattle.btr_hist.specs.declared.entry.Entry.{Entry}
 use Rattle.btr_verify.specs.Trees.{AreCommitsOf, LeadsToTree}
 use Rattle.btr_verify.specs.Judging.{WereJudged}

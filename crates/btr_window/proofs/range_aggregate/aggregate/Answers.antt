@@ -1,40 +1,43 @@
-use Rattle.std.proofs.Common.{◌≡◌, ap, ◌∙◌, subst, sym, arith, mul-le-mul_left}
+use Rattle.std.proofs.Common.{◌≡◌, ap, ◌∙◌, subst, sym, arith}
 use Rattle.std.proofs.lemmas.Int.{ints}
+use Rattle.btr_base.proofs.AggLemmas.{joined-none}
 use Rattle.btr_base.specs.declared.limits.TheConstants.{END}
-use Rattle.btr_base.specs.Agg.{agg_within}
+use Rattle.btr_base.specs.Agg.{AggValue, agg_within, joined}
 use Rattle.btr_base.specs.Span.{SpanValue}
 use Rattle.btr_base.specs.Range.{RangeValue}
 use Rattle.btr_tree.specs.History.{bag}
 use Rattle.btr_tree.specs.Nodes.{points_of, above_root}
-use Rattle.btr_tree.specs.Change.{IsSomeChild, end_of}
+use Rattle.btr_tree.specs.Change.{end_of}
+use Rattle.btr_tree.specs.EachHistory.{points_in}
+use Rattle.btr_tree.proofs.MemoryLemmas.{link-few}
 use Rattle.btr_tree.proofs.RootLemmas.{end-root, root-points}
 use Rattle.btr_tree.specs.Shape.{IsChild}
 use Rattle.btr_tree.specs.Slots.{node_of}
-use Rattle.btr_window.proofs.EndsInside.{ends-most}
 use Rattle.btr_window.proofs.range_aggregate.aggregate.Goals as goal
 
-pub agg_in_child-requires-clause-some : goal.agg_in_child-requires-clause-some
-agg_in_child-requires-clause-some over c = subst (λ (s : SpanValue). IsSomeChild s.height s.start (node_of c.link.result) 0) (sym c.root_span.ensures) c.link.ensures.some
+pub sum_in_place-requires-clause-room : goal.sum_in_place-requires-clause-room
+sum_in_place-requires-clause-room g c =
+    let few = link-few _ _ (node_of c.link.result) c.link.ensures.some in
+    let none = ap (λ (a : AggValue). a.count) c.none-all.ensures in
+    omega arith
 
-pub agg_in_child-requires-clause-begins : goal.agg_in_child-requires-clause-begins
-agg_in_child-requires-clause-begins over c =
+pub sum_in_place-requires-clause-meets : goal.sum_in_place-requires-clause-meets
+sum_in_place-requires-clause-meets g c =
     let end : end_of c.root_span.result ≡ END = ap end_of c.root_span.ensures ∙ end-root in
+    let start = ap (λ (s : SpanValue). s.start) c.root_span.ensures in
     let full = c.range.invariant.not_empty in
     let high = c.range.invariant.ends in
-    let same = ap (λ (r : RangeValue). r.from) c.range.view_is in
-    omega (arith, ints)
+    let low = c.range.invariant.begins in
+    let from = ap (λ (r : RangeValue). r.from) c.range.view_is in
+    let to = ap (λ (r : RangeValue). r.to) c.range.view_is in
+    (omega (arith, ints), omega (arith, ints))
 
 pub returns-clause-agg : goal.returns-clause-agg
-returns-clause-agg over c h tree =
+returns-clause-agg g c h tree =
+    let range = c.args.range in
     let place = subst (λ (s : SpanValue). IsChild s.height s.start above_root h (node_of c.link.result)) (sym c.root_span.ensures) (c.link.ensures.child h tree) in
-    c.agg_in_child.ensures.agg above_root h place
-    ∙ ap (λ (s : SpanValue). agg_within c.args.range.from c.args.range.to (points_of s.height s.start (bag h))) c.root_span.ensures
-    ∙ ap (agg_within c.args.range.from c.args.range.to) (root-points (bag h) tree.times)
-
-pub returns-clause-bounded : goal.returns-clause-bounded
-returns-clause-bounded over c =
-    let height : c.root_span.result.height ≡ 10 = ap (λ (s : SpanValue). s.height) c.root_span.ensures in
-    let most = ends-most c.root_span.result.start (end_of c.root_span.result) c.args.range.from c.args.range.to in
-    let times = mul-le-mul_left c.root_span.result.height most in
-    let few = c.agg_in_child.ensures.bounded in
-    omega arith
+    c.in-Ok.ensures.agg above_root h place
+    ∙ ap (λ a. joined a (agg_within range.from range.to (points_in c.root_span.result (bag h)))) c.none-all.ensures
+    ∙ joined-none (agg_within range.from range.to (points_in c.root_span.result (bag h)))
+    ∙ ap (λ (s : SpanValue). agg_within range.from range.to (points_of s.height s.start (bag h))) c.root_span.ensures
+    ∙ ap (agg_within range.from range.to) (root-points (bag h) tree.times)

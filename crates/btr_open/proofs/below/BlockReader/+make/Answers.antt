@@ -1,6 +1,6 @@
 use Rattle.std.specs.Prelude.{◌≡◌, Ok, Some, None, IfSome, MatchOption, IsSome, length, true, false}
 use Rattle.std.proofs.Common.{◌<◌, ◌∙◌, refl, sym, ap, subst, arith, inl, inr}
-use Rattle.btr_pages.specs.Pages.{IsChildPage}
+use Rattle.btr_tree.specs.PageNodes.{IsChildPage}
 use Rattle.btr_pages.specs.Known.{node_at}
 use Rattle.btr_open.specs.Below.{IsStoredPage, HasNoPage}
 use Rattle.btr_open.specs.Loading.{GrowsBelow, KnowsChild, MakesBelow, IsReadPage}

@@ -1,0 +1,4 @@
+pub mod EachLemmas
+pub mod LineLemmas
+mod TakeLemmas
+mod AskLemmas

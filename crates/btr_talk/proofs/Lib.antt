@@ -1,0 +1,2 @@
+pub mod RoundLemmas
+mod TalkLemmas
