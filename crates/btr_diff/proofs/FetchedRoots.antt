@@ -1,6 +1,7 @@
 -- Lemmas on the comparison of two roots whose nodes are fetched.
 use Rattle.std.specs.Prelude.{◌≡◌, ℕ, ◌≤◌}
 use Rattle.std.proofs.Common.{sym, subst, inl, inr, arith}
+use Rattle.btr_base.specs.Point.{AreInDomain}
 use Rattle.btr_base.specs.declared.limits.TheConstants.{FIRST}
 use Rattle.btr_node.specs.declared.page.NodePage.{NodePage}
 use Rattle.btr_tree.specs.declared.fetch.NodeFault.{NodeFault}
@@ -10,11 +11,12 @@ use Rattle.btr_tree.specs.declared.spot.Spot.{Spot}
 use Rattle.btr_tree.specs.declared.walk_fault.WalkFault.{WalkFault}
 use Rattle.btr_tree.specs.declared.walk_fault.WalkFault.TheVariants.{Refused}
 use Rattle.btr_tree.specs.FetchedLaws.{cause_earlier}
-use Rattle.btr_tree.specs.History.{Past}
+use Rattle.btr_tree.specs.History.{Past, bag}
+use Rattle.btr_tree.specs.NewNodes.{NewNodeValue}
 use Rattle.btr_tree.specs.Nodes.{above_root}
 use Rattle.btr_tree.specs.Root.{root_part}
 use Rattle.btr_tree.specs.NodeSource.{IfRefused}
-use Rattle.btr_tree.specs.Spots.{CountRose, IsFetchCause, IsRootCause, IsRootAt, IsSafeSpot, IsSpotAt, IsFetchedAt, AtEachRoot}
+use Rattle.btr_tree.specs.Spots.{CountRose, IsFetchCause, IsRootCause, StandsIn, MayStandIn, IsRootAt, IsPossibleRoot, IsSafeSpot, IsSpotAt, IsFetchedAt, AtEachRoot, AtEachPossibleRoot}
 use Rattle.btr_diff.specs.Comparison.{IsRoot}
 use Rattle.btr_diff.specs.FetchedRoots.{IsCompareCause}
 
@@ -26,21 +28,31 @@ refused-is P w e is held = subst (IfRefused P) is held
 
 module _ {C : Type 0} (O : Type 0) (IsPage : C → ℕ → NodePage → Type 0) where
   -- A walk may begin at a place later on.
-  pub safe-later : (was now : O → C) → now ≡ was → (at : Spot) → IsSafeSpot O (λ x. IsPage (was x)) at root_part → IsSafeSpot O (λ x. IsPage (now x)) at root_part
+  pub safe-later : (was now : C) → now ≡ was → (at : Spot) → IsSafeSpot O (λ x. IsPage was) at root_part → IsSafeSpot O (λ x. IsPage now) at root_part
   safe-later was now same at safe =
-      subst (λ (t : O → C). IsSafeSpot O (λ x. IsPage (t x)) at root_part) (sym same) safe
+      subst (λ (t : C). IsSafeSpot O (λ x. IsPage t) at root_part) (sym same) safe
 
   -- A root of a past is so later on.
-  pub root-later : (was now : O → C) → now ≡ was → (root : Root) (h : Past) (o : O) → IsRootAt (IsPage (was o)) root h → IsRootAt (IsPage (now o)) root h
-  root-later was now same root h o is = subst (λ (t : O → C). IsRootAt (IsPage (t o)) root h) (sym same) is
+  pub root-later : (Is : (ℕ → NodePage → Type 0) → Root → Past → Type 0) (was now : C) → now ≡ was → (root : Root) (h : Past) (o : O) → Is (IsPage was) root h → Is (IsPage now) root h
+  root-later Is was now same root h o is = subst (λ (t : C). Is (IsPage t) root h) (sym same) is
 
-  -- A place that was found for a root of a past is that of the past's root later on.
-  pub root-found : (was mid now : O → C) → mid ≡ was → now ≡ mid → (root : Root) (at : Spot) (h : Past) (o : O) → AtEachRoot (IsPage (mid o)) root (λ k. IsSpotAt (IsPage (mid o)) at 10 FIRST above_root k) → IsRootAt (IsPage (was o)) root h → IsRoot (IsFetchedAt O (λ x. IsPage (now x))) at h
-  root-found was mid now one two root at h o found is =
+  -- A place that was found for a root by some relation of nodes and blocks is that of a past's root later on.
+  root-found : (nodes : (ℕ → NodePage → Type 0) → ℕ → ℕ → NewNodeValue → Type 0) (Is : (ℕ → NodePage → Type 0) → Root → Past → Type 0) (was mid now : C) → mid ≡ was → now ≡ mid → (root : Root) (at : Spot) (h : Past) (o : O) → ((k : Past) → Is (IsPage mid) root k → IsSpotAt (nodes (IsPage mid)) at 10 FIRST above_root k) → Is (IsPage was) root h → AreInDomain (bag h) → IsRoot (IsFetchedAt O (λ x. nodes (IsPage now))) at h
+  root-found nodes Is was mid now one two root at h o found is times =
       record {
-        holds = (o, subst (λ (t : O → C). IsSpotAt (IsPage (t o)) at 10 FIRST above_root h) (sym two) (found h (root-later was mid one root h o is)));
-        times = is.times;
+        holds = (o, subst (λ (t : C). IsSpotAt (nodes (IsPage t)) at 10 FIRST above_root h) (sym two) (found h (root-later Is was mid one root h o is)));
+        times = times;
       }
+
+  -- A place that was found for a root of a past, with all pages there, is that of the past's root later on.
+  pub root-there : (was mid now : C) → mid ≡ was → now ≡ mid → (root : Root) (at : Spot) (h : Past) (o : O) → AtEachRoot (IsPage mid) root (λ k. IsSpotAt (StandsIn (IsPage mid)) at 10 FIRST above_root k) → IsRootAt (StandsIn (IsPage was)) root h → IsRoot (IsFetchedAt O (λ x. StandsIn (IsPage now))) at h
+  root-there was mid now one two root at h o found is =
+      root-found StandsIn (λ has. IsRootAt (StandsIn has)) was mid now one two root at h o found is is.times
+
+  -- A place that was found for a root that may be that of a past may be that of the past's root later on.
+  pub root-possible : (was mid now : C) → mid ≡ was → now ≡ mid → (root : Root) (at : Spot) (h : Past) (o : O) → AtEachPossibleRoot (IsPage mid) root (λ k. IsSpotAt (MayStandIn (IsPage mid)) at 10 FIRST above_root k) → IsPossibleRoot (IsPage was) root h → IsRoot (IsFetchedAt O (λ x. MayStandIn (IsPage now))) at h
+  root-possible was mid now one two root at h o found is =
+      root-found MayStandIn IsPossibleRoot was mid now one two root at h o found is is.is.times
 
 -- ---- Why a comparison is refused.
 
@@ -52,13 +64,13 @@ root-earlier O root has a b c Failed le cause = rose-earlier a b c le cause
 root-earlier O root has a b c (Damaged named) le cause = cause
 root-earlier O root has a b c Want le cause = tt
 
-module _ {C : Type 0} (O : Type 0) (IsPage : C → ℕ → NodePage → Type 0) (old new : Root) (was now : O → C) (a b c : ℕ) (e : NodeFault) (same : now ≡ was) (le : a ≤ b) where
+module _ {C : Type 0} (O : Type 0) (IsPage : C → ℕ → NodePage → Type 0) (old new : Root) (was now : C) (a b c : ℕ) (e : NodeFault) (same : now ≡ was) (le : a ≤ b) where
   -- The newer root is not found.
-  pub newer-lost : IsRootCause O new (λ x. IsPage (now x)) b c e → IsCompareCause O old new (λ x. IsPage (was x)) a c e
+  pub newer-lost : IsRootCause O new (λ x. IsPage now) b c e → IsCompareCause O old new (λ x. IsPage was) a c e
   newer-lost cause =
-      inr (inl (root-earlier O new (λ x. IsPage (was x)) a b c e le (subst (λ (t : O → C). IsRootCause O new (λ x. IsPage (t x)) b c e) same cause)))
+      inr (inl (root-earlier O new (λ x. IsPage was) a b c e le (subst (λ (t : C). IsRootCause O new (λ x. IsPage t) b c e) same cause)))
 
   -- The walk is refused.
-  pub walk-refused : IsFetchCause O (λ x. IsPage (now x)) b c e → IsCompareCause O old new (λ x. IsPage (was x)) a c e
+  pub walk-refused : IsFetchCause O (λ x. IsPage now) b c e → IsCompareCause O old new (λ x. IsPage was) a c e
   walk-refused cause =
-      inr (inr (cause_earlier O (λ x. IsPage (was x)) a b c e le (subst (λ (t : O → C). IsFetchCause O (λ x. IsPage (t x)) b c e) same cause)))
+      inr (inr (cause_earlier O (λ x. IsPage was) a b c e le (subst (λ (t : C). IsFetchCause O (λ x. IsPage t) b c e) same cause)))

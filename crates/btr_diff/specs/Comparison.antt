@@ -79,6 +79,11 @@ IsTask task = (task.by.p ≤ 62) × IsInside task.span.height task.span.start
 abbrev pub IsSafePlace : {Site : Type 0} → (Site → ℕ → ℤ → Type 0) → SpanValue → Site → Type 0
 IsSafePlace IsSafe span site = IsInside span.height span.start × IsSafe site span.height span.start
 
+-- A walk may go to the place of a slot that is the span of the task, and the slot's version is above that of the older tree.
+pub record IsNewerSlot {Site : Type 0} (IsSafe : Site → ℕ → ℤ → Type 0) (task : Task) (version : ℕ) (site : Site) : Type 0 where
+  pub safe : IsSafe site task.span.height task.span.start
+  pub newer : task.by.since < version
+
 -- A walk may go to both places as those of roots.
 abbrev pub AreSafeRoots : {Site : Type 0} → (Site → ℕ → ℤ → Type 0) → Site → Site → Type 0
 AreSafeRoots IsSafe old new = IsSafe old 10 FIRST × IsSafe new 10 FIRST
@@ -143,6 +148,12 @@ abbrev pub IsSound : {Site A E : Type 0} → Task → (Site → ℕ → ℤ → 
     → (E → Type 0) → Result A (WalkFault E) → Type 0
 IsSound task IsAt IsOlder IsNewer IsHarmless result =
     IfErr result (IfRefused (λ e. AtBoth task.span IsAt IsOlder IsNewer (IsHarmless e)))
+
+-- Where both inner nodes belong to pasts, a refusal of the source is harmless. `place` and `slots` are those of an inner node.
+abbrev pub IsSoundSlots : {Site I A E : Type 0} → Task → (Site → ℕ → ℤ → (List Point → Bool) → Past → Type 0) → (I → ℕ → Site)
+    → (I → ℕ → Slot) → I → I → (E → Type 0) → Result A (WalkFault E) → Type 0
+IsSoundSlots task IsAt place slots older newer =
+    IsSound task IsAt (AreSlotsOf (place older) (slots older)) (AreSlotsOf (place newer) (slots newer))
 
 -- P holds for each two pasts whose roots have these places.
 abbrev pub AtRoots : {Site : Type 0} → (Site → ℕ → ℤ → (List Point → Bool) → Past → Type 0) → Site → Site

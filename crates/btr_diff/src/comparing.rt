@@ -111,7 +111,7 @@ pub fn compare<S: NodeSource, M, L>(
     requires safe { AreSafeRoots (S.IsSafe (S.told state.old)) (S.site old) (S.site new) }
     ensures finds { OnOk result (AtRoots (S.IsAt (S.told state.old)) (S.site old) (S.site new) (λ h k.
         AreChanges comparison h k findings.new.changed)) }
-    ensures sound { IfErr result (IfRefused (λ e. AtRoots (S.IsAt (S.told state.old)) (S.site old) (S.site new)
+    ensures sound { IfErr result (IfRefused (λ e. AtRoots (S.IsThere (S.told state.old)) (S.site old) (S.site new)
         (λ h k. S.IsHarmless e))) }
     ensures uses { UsesSource S.told S.faults (λ t a b. IfRefused (S.IsCaused t a b)) state.old state.new result }
     ensures newer { CountsRoot comparison.since (S.IsAt (S.told state.old)) (S.site new) steps.old steps.new }

@@ -5,8 +5,8 @@ ghost use Rattle.btr_base.specs.Changes.{changes as changes_of};
 ghost use Rattle.btr_tree.specs.History.{bag};
 ghost use Rattle.btr_tree.specs.Newer.{newer_nodes};
 ghost use Rattle.btr_tree.specs.Nodes.{above_root, up_to};
-ghost use Rattle.btr_tree.specs.Spots.{AtEachRoot, IsHarmlessFault};
-ghost use Rattle.btr_diff.specs.FetchedRoots.{AtBothRoots, IsCompareCause};
+ghost use Rattle.btr_tree.specs.Spots.{AtEachPossibleRoot, IsHarmlessFault};
+ghost use Rattle.btr_diff.specs.FetchedRoots.{AtBothRoots, AtBothPossibleRoots, IsCompareCause};
 
 use crate::comparing::compare;
 use crate::comparison::{Comparison, Findings};
@@ -25,8 +25,8 @@ use std::alloc::Global;
 ///
 /// `Failed` is a call that failed. `Damaged` names the block of a root if that has no page of a root of the stream which is not
 /// newer than the version; or the block of a slot's child if that has no page; or else the block whose page has a slot with
-/// another span, count, version or stream than the page of its child. It is not returned if the pages are those of two pasts.
-/// `Want` is out of memory.
+/// another span, count, version or stream than the page of its child. It is not returned if all pages of two pasts' trees are
+/// there. An `Ok` is the answer for both whole trees, although pages of them may be lost. `Want` is out of memory.
 pub fn changes_from<N: Nodes, M: Label, L>(
     alloc: Global,
     nodes: &mut N,
@@ -36,15 +36,15 @@ pub fn changes_from<N: Nodes, M: Label, L>(
     steps: &mut Steps<L>,
 ) -> Result<Ranges, NodeFault>
     requires { p ≤ 62 }
-    ensures runs { N.is_observable → IfOk result (λ r. AtBothRoots (N.IsPage (N.contents nodes.old)) old new (λ h k.
+    ensures runs { N.is_observable → IfOk result (λ r. AtBothPossibleRoots (N.IsPage (N.contents nodes.old)) old new (λ h k.
         h ≡ up_to old.version k → r ≡ changes_of p (bag h) (bag k))) }
     ensures sound { N.is_observable → IfErr result (λ e. AtBothRoots (N.IsPage (N.contents nodes.old)) old new
         (λ h k. IsHarmlessFault e)) }
-    ensures same { N.is_observable → N.contents nodes.new ≡ N.contents nodes.old }
+    ensures same { N.contents nodes.new ≡ N.contents nodes.old }
     ensures rises { N.faults nodes.old ≤ N.faults nodes.new }
     ensures cause { IfErr result (IsCompareCause N.is_observable old new (λ o. N.IsPage (N.contents nodes.old))
         (N.faults nodes.old) (N.faults nodes.new)) }
-    ensures bounded { N.is_observable → AtEachRoot (N.IsPage (N.contents nodes.old)) new (λ k.
+    ensures bounded { N.is_observable → AtEachPossibleRoot (N.IsPage (N.contents nodes.old)) new (λ k.
         steps.new ≤ steps.old + 1 + newer_nodes 10 FIRST_TIME above_root k old.version) }
     ensures never_falls { steps.old ≤ steps.new }
 {

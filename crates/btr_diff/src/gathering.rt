@@ -23,7 +23,7 @@ fn gather_place<S: NodeSource, M>(
     ensures ready { OnOk result (AreReady (end_of span) points.new.items) }
     ensures points { OnOk result (AtEachPlace (S.IsAt (S.told state.old)) (S.site at) span (λ h.
         points.new.items ≡ points.old.items ++ points_in span (bag h))) }
-    ensures sound { IfErr result (IfRefused (λ e. AtEachPlace (S.IsAt (S.told state.old)) (S.site at) span (λ h. S.IsHarmless e))) }
+    ensures sound { IfErr result (IfRefused (λ e. AtEachPlace (S.IsThere (S.told state.old)) (S.site at) span (λ h. S.IsHarmless e))) }
     ensures uses { UsesSource S.told S.faults (λ t a b. IfRefused (S.IsCaused t a b)) state.old state.new result }
     ensures older { CountsOlder 0 span (S.IsAt (S.told state.old)) (IsPlace (S.site at)) older.old older.new result }
 {
@@ -57,7 +57,7 @@ pub(crate) fn gather_slots<S: NodeSource, M>(
     ensures ready { OnOk result (AreReady (end_of span) points.new.items) }
     ensures points { OnOk result (AtEachSlots (S.IsAt (S.told state.old)) (S.inner_place slots.now) (S.inner_slot slots.now) span (λ h.
         points.new.items ≡ points.old.items ++ points_in span (bag h))) }
-    ensures sound { IfErr result (IfRefused (λ e. AtEachSlots (S.IsAt (S.told state.old)) (S.inner_place slots.now)
+    ensures sound { IfErr result (IfRefused (λ e. AtEachSlots (S.IsThere (S.told state.old)) (S.inner_place slots.now)
         (S.inner_slot slots.now) span (λ h. S.IsHarmless e))) }
     ensures uses { UsesSource S.told S.faults (λ t a b. IfRefused (S.IsCaused t a b)) state.old state.new result }
     ensures older { CountsOlder 1 span (S.IsAt (S.told state.old)) (AreSlotsOf (S.inner_place slots.now) (S.inner_slot slots.now))

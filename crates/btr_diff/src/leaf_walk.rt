@@ -26,7 +26,7 @@ pub(crate) fn compare_points_with_slots<S: NodeSource, L>(
     requires new { AreSafeSlots (S.IsSafe (S.told state.old)) S.count (S.inner_place new.now) (S.inner_slot new.now) task.span }
     ensures adds { OnOk result (Compares task (S.IsAt (S.told state.old)) (ArePointsOf old.now)
         (AreSlotsOf (S.inner_place new.now) (S.inner_slot new.now)) changed.old changed.new) }
-    ensures sound { IfErr result (IfRefused (λ e. AtEachSlots (S.IsAt (S.told state.old)) (S.inner_place new.now) (S.inner_slot new.now)
+    ensures sound { IfErr result (IfRefused (λ e. AtEachSlots (S.IsThere (S.told state.old)) (S.inner_place new.now) (S.inner_slot new.now)
         task.span (λ h. S.IsHarmless e))) }
     ensures uses { UsesSource S.told S.faults (λ t a b. IfRefused (S.IsCaused t a b)) state.old state.new result }
     ensures newer { CountsNewer task (S.IsAt (S.told state.old)) (AreSlotsOf (S.inner_place new.now) (S.inner_slot new.now))
@@ -63,7 +63,7 @@ fn compare_points_with_slot<S: NodeSource, L>(
     requires newer { task.by.since < new.version }
     ensures adds { OnOk result (Compares task (S.IsAt (S.told state.old)) (IncludesPointsOf old.now)
         (IsSlotOf new.version new.count (S.site new.place)) changed.old changed.new) }
-    ensures sound { IfErr result (IfRefused (λ e. AtEachPlace (S.IsAt (S.told state.old)) (S.site new.place) task.span
+    ensures sound { IfErr result (IfRefused (λ e. AtEachPlace (S.IsThere (S.told state.old)) (S.site new.place) task.span
         (λ h. S.IsHarmless e))) }
     ensures uses { UsesSource S.told S.faults (λ t a b. IfRefused (S.IsCaused t a b)) state.old state.new result }
     ensures newer { CountsSlot task (S.IsAt (S.told state.old)) new.version new.count (S.site new.place) steps.old steps.new }

@@ -1,8 +1,8 @@
 //! The walk over the newer tree beside the older one, into the spans whose node or slot has a newer version.
-ghost use Rattle.std.specs.Prelude.{ℕ, ◌<◌, OnOk};
+ghost use Rattle.std.specs.Prelude.{ℕ, OnOk};
 ghost use Rattle.btr_tree.specs.NodeSource.{AreSafeSlots, IfRefused, IsSafeFound, UsesSource};
-ghost use Rattle.btr_diff.specs.Comparison.{Compares, ComparesSlots, IsSound, CountsNewer, CountsOlder, CountsSlot};
-ghost use Rattle.btr_diff.specs.Comparison.{ArePoints, ArePointsOf, IsPlace, IsFoundOf, IsSlotOf, AreSlotsOf, IsTask};
+ghost use Rattle.btr_diff.specs.Comparison.{Compares, ComparesSlots, IsSound, IsSoundSlots, CountsNewer, CountsOlder, CountsSlot};
+ghost use Rattle.btr_diff.specs.Comparison.{ArePoints, ArePointsOf, IsPlace, IsFoundOf, IsSlotOf, AreSlotsOf, IsTask, IsNewerSlot};
 
 use crate::comparison::{Findings, Task};
 use crate::gathering::gather_slots;
@@ -28,7 +28,7 @@ pub(crate) fn compare_found<S: NodeSource, M, L>(
         task.span new }
     ensures adds { OnOk result (Compares task (S.IsAt (S.told state.old)) (IsPlace (S.site old))
         (IsFoundOf S.leaf_points S.inner_slot S.inner_place new) findings.old.changed findings.new.changed) }
-    ensures sound { IsSound task (S.IsAt (S.told state.old)) (IsPlace (S.site old))
+    ensures sound { IsSound task (S.IsThere (S.told state.old)) (IsPlace (S.site old))
         (IsFoundOf S.leaf_points S.inner_slot S.inner_place new) S.IsHarmless result }
     ensures uses { UsesSource S.told S.faults (λ t a b. IfRefused (S.IsCaused t a b)) state.old state.new result }
     ensures newer { CountsNewer task (S.IsAt (S.told state.old)) (IsFoundOf S.leaf_points S.inner_slot S.inner_place new)
@@ -62,7 +62,7 @@ fn compare_with_slots<S: NodeSource, M, L>(
     requires new { AreSafeSlots (S.IsSafe (S.told state.old)) S.count (S.inner_place new.now) (S.inner_slot new.now) task.span }
     ensures adds { OnOk result (Compares task (S.IsAt (S.told state.old)) (IsPlace (S.site old))
         (AreSlotsOf (S.inner_place new.now) (S.inner_slot new.now)) findings.old.changed findings.new.changed) }
-    ensures sound { IsSound task (S.IsAt (S.told state.old)) (IsPlace (S.site old))
+    ensures sound { IsSound task (S.IsThere (S.told state.old)) (IsPlace (S.site old))
         (AreSlotsOf (S.inner_place new.now) (S.inner_slot new.now)) S.IsHarmless result }
     ensures uses { UsesSource S.told S.faults (λ t a b. IfRefused (S.IsCaused t a b)) state.old state.new result }
     ensures newer { CountsNewer task (S.IsAt (S.told state.old)) (AreSlotsOf (S.inner_place new.now) (S.inner_slot new.now))
@@ -108,8 +108,7 @@ fn compare_slots<S: NodeSource, M, L>(
     requires new { AreSafeSlots (S.IsSafe (S.told state.old)) S.count (S.inner_place new.now) (S.inner_slot new.now) task.span }
     ensures adds { OnOk result (ComparesSlots task (S.IsAt (S.told state.old)) S.inner_place S.inner_slot old.now new.now
         findings.old.changed findings.new.changed) }
-    ensures sound { IsSound task (S.IsAt (S.told state.old)) (AreSlotsOf (S.inner_place old.now) (S.inner_slot old.now))
-        (AreSlotsOf (S.inner_place new.now) (S.inner_slot new.now)) S.IsHarmless result }
+    ensures sound { IsSoundSlots task (S.IsThere (S.told state.old)) S.inner_place S.inner_slot old.now new.now S.IsHarmless result }
     ensures uses { UsesSource S.told S.faults (λ t a b. IfRefused (S.IsCaused t a b)) state.old state.new result }
     ensures newer { CountsNewer task (S.IsAt (S.told state.old)) (AreSlotsOf (S.inner_place new.now) (S.inner_slot new.now))
         steps.old steps.new }
@@ -144,11 +143,10 @@ fn compare_slot<S: NodeSource, M, L>(
 ) -> Result<(), WalkFault<S::Fault>>
     requires task { IsTask task }
     requires old { S.IsSafe (S.told state.old) (S.site old) task.span.height task.span.start }
-    requires new { S.IsSafe (S.told state.old) (S.site new.place) task.span.height task.span.start }
-    requires newer { task.by.since < new.version }
+    requires new { IsNewerSlot (S.IsSafe (S.told state.old)) task new.version (S.site new.place) }
     ensures adds { OnOk result (Compares task (S.IsAt (S.told state.old)) (IsPlace (S.site old))
         (IsSlotOf new.version new.count (S.site new.place)) findings.old.changed findings.new.changed) }
-    ensures sound { IsSound task (S.IsAt (S.told state.old)) (IsPlace (S.site old))
+    ensures sound { IsSound task (S.IsThere (S.told state.old)) (IsPlace (S.site old))
         (IsSlotOf new.version new.count (S.site new.place)) S.IsHarmless result }
     ensures uses { UsesSource S.told S.faults (λ t a b. IfRefused (S.IsCaused t a b)) state.old state.new result }
     ensures newer { CountsSlot task (S.IsAt (S.told state.old)) new.version new.count (S.site new.place) steps.old steps.new }
@@ -177,7 +175,7 @@ fn compare_with_points<S: NodeSource, M>(
     requires new { ArePoints new.now }
     ensures adds { OnOk result (Compares task (S.IsAt (S.told state.old)) (IsPlace (S.site old)) (ArePointsOf new.now)
         findings.old.changed findings.new.changed) }
-    ensures sound { IsSound task (S.IsAt (S.told state.old)) (IsPlace (S.site old)) (ArePointsOf new.now) S.IsHarmless result }
+    ensures sound { IsSound task (S.IsThere (S.told state.old)) (IsPlace (S.site old)) (ArePointsOf new.now) S.IsHarmless result }
     ensures uses { UsesSource S.told S.faults (λ t a b. IfRefused (S.IsCaused t a b)) state.old state.new result }
     ensures older { CountsOlder 0 task.span (S.IsAt (S.told state.old)) (IsPlace (S.site old))
         findings.old.older findings.new.older result }

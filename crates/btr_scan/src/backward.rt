@@ -25,7 +25,7 @@ pub(crate) fn previous_in_span<S: NodeSource, L>(
     requires safe { S.IsSafe (S.told state.old) (S.site at) span.height span.start }
     ensures point { IfOk result (λ r. AtEachPlace (S.IsAt (S.told state.old)) (S.site at) span (λ h.
         r ≡ nearest_in BACKWARD time (points_in span (bag h)))) }
-    ensures sound { IfErr result (λ e. AtEachPlace (S.IsAt (S.told state.old)) (S.site at) span (λ h. S.IsHarmless e)) }
+    ensures sound { IfErr result (λ e. AtEachPlace (S.IsThere (S.told state.old)) (S.site at) span (λ h. S.IsHarmless e)) }
     ensures uses { UsesSource S.told S.faults S.IsCaused state.old state.new result }
     ensures bounded { RisesUpTo (2 * span.height + 1) steps.old steps.new }
 {
@@ -52,7 +52,7 @@ fn previous_in_place<S: NodeSource, L>(
     requires inside { (span.start <ℤ time) × (time ≤ℤ end_of span) }
     ensures point { IfOk result (λ r. AtEachPlace (S.IsAt (S.told state.old)) (S.site at) span (λ h.
         r ≡ last_within span.start time (bag h))) }
-    ensures sound { IfErr result (λ e. AtEachPlace (S.IsAt (S.told state.old)) (S.site at) span (λ h. S.IsHarmless e)) }
+    ensures sound { IfErr result (λ e. AtEachPlace (S.IsThere (S.told state.old)) (S.site at) span (λ h. S.IsHarmless e)) }
     ensures uses { UsesSource S.told S.faults S.IsCaused state.old state.new result }
     ensures bounded { RisesUpTo (2 * span.height + 1) steps.old steps.new }
     ensures none { IfOk result (λ r. IsNone r → steps.new ≤ steps.old + span.height + 1) }
@@ -83,7 +83,7 @@ fn previous_in_slots<S: NodeSource, L>(
     requires inside { (span.start <ℤ time) × (time ≤ℤ end_of span) }
     ensures point { IfOk result (λ r. AtEachSlots (S.IsAt (S.told state.old)) (S.inner_place slots.now) (S.inner_slot slots.now) span (λ h.
         r ≡ last_within span.start time (bag h))) }
-    ensures sound { IfErr result (λ e. AtEachSlots (S.IsAt (S.told state.old)) (S.inner_place slots.now) (S.inner_slot slots.now)
+    ensures sound { IfErr result (λ e. AtEachSlots (S.IsThere (S.told state.old)) (S.inner_place slots.now) (S.inner_slot slots.now)
         span (λ h. S.IsHarmless e)) }
     ensures uses { UsesSource S.told S.faults S.IsCaused state.old state.new result }
     ensures bounded { RisesUpTo (2 * span.height) steps.old steps.new }
@@ -108,7 +108,7 @@ fn last_in_place<S: NodeSource, L>(
     ensures point { IfOk result (λ r. AtEachPlace (S.IsAt (S.told state.old)) (S.site at) span (λ h.
         r ≡ last_within span.start (end_of span) (bag h))) }
     ensures some { IfOk result (λ r. 0 < S.count (S.site at) → IsSome r) }
-    ensures sound { IfErr result (λ e. AtEachPlace (S.IsAt (S.told state.old)) (S.site at) span (λ h. S.IsHarmless e)) }
+    ensures sound { IfErr result (λ e. AtEachPlace (S.IsThere (S.told state.old)) (S.site at) span (λ h. S.IsHarmless e)) }
     ensures uses { UsesSource S.told S.faults S.IsCaused state.old state.new result }
     ensures bounded { RisesUpTo (span.height + 1) steps.old steps.new }
 {
@@ -135,7 +135,7 @@ fn last_in_slots<S: NodeSource, L>(
     ensures point { IfOk result (λ r. AtEachSlots (S.IsAt (S.told state.old)) (S.inner_place slots.now) (S.inner_slot slots.now) span (λ h.
         r ≡ last_before_slot span to (bag h))) }
     ensures none { IfOk result (λ r. IsNone r → (steps.new ≡ steps.old) × AreEmpty (S.inner_slot slots.now) 0 to) }
-    ensures sound { IfErr result (λ e. AtEachSlots (S.IsAt (S.told state.old)) (S.inner_place slots.now) (S.inner_slot slots.now)
+    ensures sound { IfErr result (λ e. AtEachSlots (S.IsThere (S.told state.old)) (S.inner_place slots.now) (S.inner_slot slots.now)
         span (λ h. S.IsHarmless e)) }
     ensures uses { UsesSource S.told S.faults S.IsCaused state.old state.new result }
     ensures bounded { RisesUpTo span.height steps.old steps.new }

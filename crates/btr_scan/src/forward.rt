@@ -24,7 +24,7 @@ pub(crate) fn next_in_span<S: NodeSource, L>(
     requires safe { S.IsSafe (S.told state.old) (S.site at) span.height span.start }
     ensures point { IfOk result (λ r. AtEachPlace (S.IsAt (S.told state.old)) (S.site at) span (λ h.
         r ≡ nearest_in FORWARD time (points_in span (bag h)))) }
-    ensures sound { IfErr result (λ e. AtEachPlace (S.IsAt (S.told state.old)) (S.site at) span (λ h. S.IsHarmless e)) }
+    ensures sound { IfErr result (λ e. AtEachPlace (S.IsThere (S.told state.old)) (S.site at) span (λ h. S.IsHarmless e)) }
     ensures uses { UsesSource S.told S.faults S.IsCaused state.old state.new result }
     ensures bounded { RisesUpTo (2 * span.height + 1) steps.old steps.new }
 {
@@ -51,7 +51,7 @@ fn next_in_place<S: NodeSource, L>(
     requires inside { (span.start ≤ℤ time) × (time <ℤ end_of span) }
     ensures point { IfOk result (λ r. AtEachPlace (S.IsAt (S.told state.old)) (S.site at) span (λ h.
         r ≡ first_within time (end_of span) (bag h))) }
-    ensures sound { IfErr result (λ e. AtEachPlace (S.IsAt (S.told state.old)) (S.site at) span (λ h. S.IsHarmless e)) }
+    ensures sound { IfErr result (λ e. AtEachPlace (S.IsThere (S.told state.old)) (S.site at) span (λ h. S.IsHarmless e)) }
     ensures uses { UsesSource S.told S.faults S.IsCaused state.old state.new result }
     ensures bounded { RisesUpTo (2 * span.height + 1) steps.old steps.new }
     ensures none { IfOk result (λ r. IsNone r → steps.new ≤ steps.old + span.height + 1) }
@@ -80,7 +80,7 @@ fn next_in_slots<S: NodeSource, L>(
     requires inside { (span.start ≤ℤ time) × (time <ℤ end_of span) }
     ensures point { IfOk result (λ r. AtEachSlots (S.IsAt (S.told state.old)) (S.inner_place slots.now) (S.inner_slot slots.now) span (λ h.
         r ≡ first_within time (end_of span) (bag h))) }
-    ensures sound { IfErr result (λ e. AtEachSlots (S.IsAt (S.told state.old)) (S.inner_place slots.now) (S.inner_slot slots.now)
+    ensures sound { IfErr result (λ e. AtEachSlots (S.IsThere (S.told state.old)) (S.inner_place slots.now) (S.inner_slot slots.now)
         span (λ h. S.IsHarmless e)) }
     ensures uses { UsesSource S.told S.faults S.IsCaused state.old state.new result }
     ensures bounded { RisesUpTo (2 * span.height) steps.old steps.new }
@@ -105,7 +105,7 @@ fn first_in_place<S: NodeSource, L>(
     ensures point { IfOk result (λ r. AtEachPlace (S.IsAt (S.told state.old)) (S.site at) span (λ h.
         r ≡ first_within span.start (end_of span) (bag h))) }
     ensures some { IfOk result (λ r. 0 < S.count (S.site at) → IsSome r) }
-    ensures sound { IfErr result (λ e. AtEachPlace (S.IsAt (S.told state.old)) (S.site at) span (λ h. S.IsHarmless e)) }
+    ensures sound { IfErr result (λ e. AtEachPlace (S.IsThere (S.told state.old)) (S.site at) span (λ h. S.IsHarmless e)) }
     ensures uses { UsesSource S.told S.faults S.IsCaused state.old state.new result }
     ensures bounded { RisesUpTo (span.height + 1) steps.old steps.new }
 {
@@ -131,7 +131,7 @@ fn first_in_slots<S: NodeSource, L>(
     ensures point { IfOk result (λ r. AtEachSlots (S.IsAt (S.told state.old)) (S.inner_place slots.now) (S.inner_slot slots.now) span (λ h.
         r ≡ first_from_slot span from (bag h))) }
     ensures none { IfOk result (λ r. IsNone r → (steps.new ≡ steps.old) × AreEmpty (S.inner_slot slots.now) from 64) }
-    ensures sound { IfErr result (λ e. AtEachSlots (S.IsAt (S.told state.old)) (S.inner_place slots.now) (S.inner_slot slots.now)
+    ensures sound { IfErr result (λ e. AtEachSlots (S.IsThere (S.told state.old)) (S.inner_place slots.now) (S.inner_slot slots.now)
         span (λ h. S.IsHarmless e)) }
     ensures uses { UsesSource S.told S.faults S.IsCaused state.old state.new result }
     ensures bounded { RisesUpTo span.height steps.old steps.new }

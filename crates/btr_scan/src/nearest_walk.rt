@@ -5,7 +5,7 @@ ghost use Rattle.btr_tree.specs.History.{bag};
 ghost use Rattle.btr_tree.specs.EachHistory.{points_in};
 ghost use Rattle.btr_tree.specs.Root.{AtEachTree};
 ghost use Rattle.btr_tree.specs.NodeSource.{AtEachPlace, UsesSource, RisesUpTo};
-ghost use Rattle.btr_tree.specs.Spots.{AtEachRoot, IsHarmlessFault, IsWalkCause};
+ghost use Rattle.btr_tree.specs.Spots.{AtEachRoot, AtEachPossibleRoot, IsHarmlessFault, IsWalkCause};
 
 use crate::backward::previous_in_span;
 use crate::forward::next_in_span;
@@ -43,8 +43,8 @@ pub fn nearest<L>(tree: &Tree, time: i64, toward: Toward, steps: &mut Steps<L>) 
 ///
 /// `Failed` is a call that failed. `Damaged` names the root's block if that has no page of a root of the stream which is not
 /// newer than the version; or the block of a slot's child if that has no page; or else the block whose page has a slot with
-/// another span, count, version or stream than the page of its child. It is not returned if the pages are those of a past.
-/// `Want` is out of memory.
+/// another span, count, version or stream than the page of its child. It is not returned if all pages of a past's tree are
+/// there. An `Ok` is the answer for the whole tree, although pages of it may be lost. `Want` is out of memory.
 pub fn nearest_from<N: Nodes, L>(
     nodes: &mut N,
     root: Root,
@@ -52,10 +52,10 @@ pub fn nearest_from<N: Nodes, L>(
     toward: Toward,
     steps: &mut Steps<L>,
 ) -> Result<Option<Point>, NodeFault>
-    ensures point { N.is_observable → IfOk result (λ r. AtEachRoot (N.IsPage (N.contents nodes.old)) root (λ h.
+    ensures point { N.is_observable → IfOk result (λ r. AtEachPossibleRoot (N.IsPage (N.contents nodes.old)) root (λ h.
         r ≡ nearest_in toward time (bag h))) }
     ensures sound { N.is_observable → IfErr result (λ e. AtEachRoot (N.IsPage (N.contents nodes.old)) root (λ h. IsHarmlessFault e)) }
-    ensures same { N.is_observable → N.contents nodes.new ≡ N.contents nodes.old }
+    ensures same { N.contents nodes.new ≡ N.contents nodes.old }
     ensures rises { N.faults nodes.old ≤ N.faults nodes.new }
     ensures cause { IfErr result (IsWalkCause N.is_observable root (λ o. N.IsPage (N.contents nodes.old))
         (N.faults nodes.old) (N.faults nodes.new)) }
@@ -80,7 +80,7 @@ pub fn nearest_in_place<S: NodeSource, L>(
     requires safe { S.IsSafe (S.told state.old) (S.site at) span.height span.start }
     ensures point { IfOk result (λ r. AtEachPlace (S.IsAt (S.told state.old)) (S.site at) span (λ h.
         r ≡ nearest_in toward time (points_in span (bag h)))) }
-    ensures sound { IfErr result (λ e. AtEachPlace (S.IsAt (S.told state.old)) (S.site at) span (λ h. S.IsHarmless e)) }
+    ensures sound { IfErr result (λ e. AtEachPlace (S.IsThere (S.told state.old)) (S.site at) span (λ h. S.IsHarmless e)) }
     ensures uses { UsesSource S.told S.faults S.IsCaused state.old state.new result }
     ensures bounded { RisesUpTo (2 * span.height + 1) steps.old steps.new }
 {

@@ -3,7 +3,7 @@ ghost use Rattle.std.specs.Prelude.{◌≡◌, ◌++◌, ◌≤◌, IfOk, IfErr,
 ghost use Rattle.btr_base.specs.Bag.{within};
 ghost use Rattle.btr_tree.specs.History.{bag};
 ghost use Rattle.btr_tree.specs.Root.{AtEachTree};
-ghost use Rattle.btr_tree.specs.Spots.{AtEachRoot, IsHarmlessFault, IsWalkCause};
+ghost use Rattle.btr_tree.specs.Spots.{AtEachRoot, AtEachPossibleRoot, IsHarmlessFault, IsWalkCause};
 
 use crate::span_walk::append_in_place;
 use btr_base::{END, FIRST, Point, Range};
@@ -54,18 +54,18 @@ pub fn append_range(tree: &Tree, range: Range, rows: &mut Vec<Point>) -> Result<
 ///
 /// `Failed` is a call that failed. `Damaged` names the root's block if that has no page of a root of the stream which is not
 /// newer than the version; or the block of a slot's child if that has no page; or else the block whose page has a slot with
-/// another span, count, version or stream than the page of its child. It is not returned if the pages are those of a past.
-/// `Want` is out of memory.
+/// another span, count, version or stream than the page of its child. It is not returned if all pages of a past's tree are
+/// there. An `Ok` is the answer for the whole tree, although pages of it may be lost. `Want` is out of memory.
 pub fn range_from<N: Nodes>(
     alloc: Global,
     nodes: &mut N,
     root: Root,
     range: Range,
 ) -> Result<Vec<Point>, NodeFault>
-    ensures rows { N.is_observable → IfOk result (λ v. AtEachRoot (N.IsPage (N.contents nodes.old)) root (λ h.
+    ensures rows { N.is_observable → IfOk result (λ v. AtEachPossibleRoot (N.IsPage (N.contents nodes.old)) root (λ h.
         v.items ≡ within range.from range.to (bag h))) }
     ensures sound { N.is_observable → IfErr result (λ e. AtEachRoot (N.IsPage (N.contents nodes.old)) root (λ h. IsHarmlessFault e)) }
-    ensures same { N.is_observable → N.contents nodes.new ≡ N.contents nodes.old }
+    ensures same { N.contents nodes.new ≡ N.contents nodes.old }
     ensures rises { N.faults nodes.old ≤ N.faults nodes.new }
     ensures cause { IfErr result (IsWalkCause N.is_observable root (λ o. N.IsPage (N.contents nodes.old))
         (N.faults nodes.old) (N.faults nodes.new)) }

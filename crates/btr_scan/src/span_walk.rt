@@ -23,7 +23,7 @@ pub fn append_in_place<S: NodeSource, L>(
     requires meets { (range.from <ℤ end_of span) × (span.start <ℤ range.to) }
     ensures rows { OnOk result (AtEachPlace (S.IsAt (S.told state.old)) (S.site at) span
         (AppendsRange span range rows.old.items rows.new.items)) }
-    ensures sound { IfErr result (IfRefused (λ e. AtEachPlace (S.IsAt (S.told state.old)) (S.site at) span (λ h. S.IsHarmless e))) }
+    ensures sound { IfErr result (IfRefused (λ e. AtEachPlace (S.IsThere (S.told state.old)) (S.site at) span (λ h. S.IsHarmless e))) }
     ensures uses { UsesSource S.told S.faults (λ t a b. IfRefused (S.IsCaused t a b)) state.old state.new result }
     ensures never_falls { steps.old ≤ steps.new }
 {
@@ -57,7 +57,7 @@ fn append_in_slots<S: NodeSource, L>(
     requires meets { (range.from <ℤ end_of span) × (span.start <ℤ range.to) }
     ensures rows { OnOk result (AtEachSlots (S.IsAt (S.told state.old)) (S.inner_place slots.now) (S.inner_slot slots.now) span
         (AppendsRange span range rows.old.items rows.new.items)) }
-    ensures sound { IfErr result (IfRefused (λ e. AtEachSlots (S.IsAt (S.told state.old)) (S.inner_place slots.now)
+    ensures sound { IfErr result (IfRefused (λ e. AtEachSlots (S.IsThere (S.told state.old)) (S.inner_place slots.now)
         (S.inner_slot slots.now) span (λ h. S.IsHarmless e))) }
     ensures uses { UsesSource S.told S.faults (λ t a b. IfRefused (S.IsCaused t a b)) state.old state.new result }
     ensures never_falls { steps.old ≤ steps.new }

@@ -6,11 +6,13 @@ ghost use Rattle.btr_shelf.specs.DeviceBlocks.{HasEach, ReadCause};
 use btr_disk::Disk;
 use btr_node::{NodePage, PAGE, decode};
 use btr_tree::{NodeFault, Nodes};
+use std::snapshot::Snapshot;
 
 /// The pages of a device, each read in one call when it is asked for. The block that was read last is kept, and is not read again.
 ///
 /// It owns its handle of the device, and the count of faults is that of the handle. So threads that have a handle each read a
-/// device side by side. It takes no memory, and returns no `Want`.
+/// device side by side. It takes no memory, and returns no `Want`. What it tells of the blocks is what the device had when it was made:
+/// it only reads.
 #[derive(Drop)]
 pub struct DiskNodes<D: Disk> {
     disk: D,
@@ -20,8 +22,13 @@ pub struct DiskNodes<D: Disk> {
 
     /// Its bytes.
     bytes: [u8; PAGE],
+
+    /// The device as it was when this was made. It takes no bytes.
+    start: Snapshot<D>,
     ghost kept: { D.is_observable → (block k : ℕ) → held ≡ Some block → k < 4096
         → D.contents disk (4096 * block + k) ≡ slice_index bytes k },
+    ghost stays: { D.is_observable → Same (D.contents start.value) (D.contents disk) },
+    ghost sized: { D.size disk ≡ D.size start.value },
 }
 
 impl<D: Disk> DiskNodes<D> {
@@ -29,11 +36,14 @@ impl<D: Disk> DiskNodes<D> {
     pub fn new(disk: D) -> DiskNodes<D>
         ensures observable { D.is_observable → ⟦<DiskNodes<D> as Nodes>⟧.is_observable }
         ensures disk { result.disk ≡ disk }
+        ensures start { result.start.value ≡ disk }
     {
+        let start = Snapshot::of(&disk);
         DiskNodes {
             disk,
             held: None,
             bytes: [0; PAGE],
+            start,
         }
     }
 
@@ -47,8 +57,7 @@ impl<D: Disk> DiskNodes<D> {
     /// Makes the bytes those of a block, in one call of the device at most.
     fn hold(&mut self, block: u64) -> Result<(), NodeFault>
         requires inside { block < D.size self.old.disk }
-        ensures size { D.size self.new.disk ≡ D.size self.old.disk }
-        ensures same { D.is_observable → Same (D.contents self.old.disk) (D.contents self.new.disk) }
+        ensures start { self.new.start ≡ self.old.start }
         ensures held { D.is_observable → OnOk result (HasEach (D.contents self.new.disk) (4096 * block) self.new.bytes) }
         ensures long { length self.new.bytes ≡ 4096 }
         ensures rises { D.faults self.old.disk ≤ D.faults self.new.disk }
@@ -78,7 +87,7 @@ impl<D: Disk> Nodes for DiskNodes<D> {
 
     ghost Contents = { DeviceBlocks };
 
-    ghost contents = { λ n. told_blocks D.contents D.size n.disk };
+    ghost contents = { λ n. told_blocks D.contents D.size n.start.value };
 
     ghost IsPage = { IsBlockPage };
 
@@ -89,10 +98,10 @@ impl<D: Disk> Nodes for DiskNodes<D> {
     fn node(&mut self, block: u64) -> Result<NodePage, NodeFault>
         ensures keeps { IfOk result (λ page. Keeps page) }
         ensures fits { IfOk result (λ page. Fits page) }
-        ensures page { D.is_observable → IfOk result (λ page. IsBlockPage (told_blocks D.contents D.size self.old.disk) block page) }
-        ensures same { D.is_observable → told_blocks D.contents D.size self.new.disk ≡ told_blocks D.contents D.size self.old.disk }
+        ensures page { D.is_observable → IfOk result (λ page. IsBlockPage (told_blocks D.contents D.size self.old.start.value) block page) }
+        ensures same { told_blocks D.contents D.size self.new.start.value ≡ told_blocks D.contents D.size self.old.start.value }
         ensures rises { D.faults self.old.disk ≤ D.faults self.new.disk }
-        ensures cause { IfErr result (IsNodeCause D.is_observable (IsBlockPage (told_blocks D.contents D.size self.old.disk)) block
+        ensures cause { IfErr result (IsNodeCause D.is_observable (IsBlockPage (told_blocks D.contents D.size self.old.start.value)) block
             (D.faults self.old.disk) (D.faults self.new.disk)) }
         ensures no_want { IfErr result IsNoWant }
     {

@@ -11,9 +11,10 @@ use Rattle.btr_tree.specs.declared.node.Slot.{Slot}
 use Rattle.btr_tree.specs.declared.spot.Spot.{Spot}
 use Rattle.btr_tree.specs.Fetched.{found_in}
 use Rattle.btr_tree.specs.History.{Past}
+use Rattle.btr_tree.specs.NewNodes.{NewNodeValue}
 use Rattle.btr_tree.specs.NodeSource.{IsFoundAt, IsSafeFound}
 use Rattle.btr_tree.specs.Spots.{FitsSpot, IsSafeSpot, IsSpotAt, IsFetchedAt, shown_slot, shown_spot}
-use Rattle.btr_tree.proofs.SpotLemmas.{HasOnce, leaf-safe, inner-safe, leaf-found, inner-found}
+use Rattle.btr_tree.proofs.SpotLemmas.{IsPageIn, leaf-safe, inner-safe, leaf-found, inner-found}
 
 abbrev pub points_of_page : PagePoints → List Point
 points_of_page leaf = take leaf.count leaf.points
@@ -30,8 +31,8 @@ found-safe O has spot span (page.Leaf start height stream version count points) 
 found-safe O has spot span (page.Inner start height stream version count slots) keeps fits at there =
     inner-safe O has spot span start height stream version count slots keeps fits at there
 
-pub found-at : (O : Type 0) (has : O → ℕ → NodePage → Type 0) (o : O) (spot : Spot) (span : SpanValue) (above : List Point → Bool) (h : Past) (page : NodePage) → HasOnce (has o) → has o spot.block page → Keeps page → Fits page → 0 < spot.count → IsSpotAt (has o) spot span.height span.start above h → IsFoundAt (IsFetchedAt O has) points_of_page slots_of_inner spots_of_inner span above h (found_in spot page)
-found-at O has o spot span above h (page.Leaf start height stream version count points) once at keeps fits some is =
-    leaf-found (has o) spot span.height span.start above h start height stream version count points once at keeps fits some is
-found-at O has o spot span above h (page.Inner start height stream version count slots) once at keeps fits some is =
-    inner-found O has o spot span.height span.start above h start height stream version count slots once at keeps fits some is
+pub found-at : (O : Type 0) (nodes : O → ℕ → ℕ → NewNodeValue → Type 0) (o : O) (spot : Spot) (span : SpanValue) (above : List Point → Bool) (h : Past) (page : NodePage) → IsPageIn (nodes o) spot.stream spot.block page span.height span.start above h → Keeps page → Fits page → 0 < spot.count → IsSpotAt (nodes o) spot span.height span.start above h → IsFoundAt (IsFetchedAt O nodes) points_of_page slots_of_inner spots_of_inner span above h (found_in spot page)
+found-at O nodes o spot span above h (page.Leaf start height stream version count points) its keeps fits some is =
+    leaf-found (nodes o) spot span.height span.start above h start height stream version count points its keeps fits some is
+found-at O nodes o spot span above h (page.Inner start height stream version count slots) its keeps fits some is =
+    inner-found O nodes o spot span.height span.start above h start height stream version count slots its keeps fits some is

@@ -21,18 +21,18 @@ use Rattle.btr_tree.proofs.LeadsLemmas.{leads-along}
 
 module _ {N C : Type 0} (O : Type 0) (contents : N → C) (faults : N → ℕ) (IsPage : C → ℕ → NodePage → Type 0) (root : Root) where
   -- A walk after its root was found.
-  pub uses-walk : {A B : Type 0} (a b c : N) (r : Result A NodeFault) (q : Result B NodeFault) → UsesSource {Told = O → C} (λ n o. contents n) faults (λ t. IsRootCause O root (λ o. IsPage (t o))) a b r → UsesSource {Told = O → C} (λ n o. contents n) faults (λ t. IsFetchCause O (λ o. IsPage (t o))) b c q → UsesSource {Told = O → C} (λ n o. contents n) faults (λ t. IsWalkCause O root (λ o. IsPage (t o))) a c q
+  pub uses-walk : {A B : Type 0} (a b c : N) (r : Result A NodeFault) (q : Result B NodeFault) → UsesSource contents faults (λ t. IsRootCause O root (λ o. IsPage t)) a b r → UsesSource contents faults (λ t. IsFetchCause O (λ o. IsPage t)) b c q → UsesSource contents faults (λ t. IsWalkCause O root (λ o. IsPage t)) a c q
   uses-walk a b c r q one two =
       let low = one.rises in
       let high = two.rises in
       record {
         same = two.same ∙ one.same;
         rises = omega arith;
-        cause = IfErr-weaker q _ _ (λ e h. inr (cause_earlier O (λ o. IsPage (contents a)) (faults a) (faults b) (faults c) e low (subst (λ (t : O → C). IsFetchCause O (λ o. IsPage (t o)) (faults b) (faults c) e) one.same h))) two.cause;
+        cause = IfErr-weaker q _ _ (λ e h. inr (cause_earlier O (λ o. IsPage (contents a)) (faults a) (faults b) (faults c) e low (subst (λ (t : C). IsFetchCause O (λ o. IsPage t) (faults b) (faults c) e) one.same h))) two.cause;
       }
 
   -- A root that was not found.
-  pub uses-root : {A B : Type 0} (a b : N) (r : Result A NodeFault) (q : Result B NodeFault) (e : NodeFault) → r ≡ Err e → q ≡ Err e → UsesSource {Told = O → C} (λ n o. contents n) faults (λ t. IsRootCause O root (λ o. IsPage (t o))) a b r → UsesSource {Told = O → C} (λ n o. contents n) faults (λ t. IsWalkCause O root (λ o. IsPage (t o))) a b q
+  pub uses-root : {A B : Type 0} (a b : N) (r : Result A NodeFault) (q : Result B NodeFault) (e : NodeFault) → r ≡ Err e → q ≡ Err e → UsesSource contents faults (λ t. IsRootCause O root (λ o. IsPage t)) a b r → UsesSource contents faults (λ t. IsWalkCause O root (λ o. IsPage t)) a b q
   uses-root a b r q e p p' one =
       record {
         same = one.same;

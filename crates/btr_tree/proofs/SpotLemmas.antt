@@ -8,7 +8,6 @@ use Rattle.std.proofs.lemmas.Bool.Decides.{nat_tests}
 use Rattle.std.proofs.lemmas.List.{take_all, length-take-le, length-map}
 use Rattle.std.proofs.lemmas.List.Sums.{sum_by_more}
 use Rattle.std.proofs.lemmas.Option.{slice_get-get_or, slice_get-map, same_Some}
-use mathlib.Core.Path.{fun_ext}
 use Rattle.btr_base.specs.Agg.{AggValue}
 use Rattle.btr_base.specs.Bag.{is_within}
 use Rattle.btr_base.specs.Span.{width, SpanValue, IsSpan, slot_of}
@@ -34,7 +33,7 @@ use Rattle.btr_tree.specs.PageNodes.{slot_of_page, node_of_page, unused_slot, Is
 use Rattle.btr_tree.specs.Root.{root_part}
 use Rattle.btr_tree.specs.Shape.{slot_start, slot_of_points, IsLeaf, AreSlots}
 use Rattle.btr_tree.specs.NodeSource.{AreSafePoints, AreSafeSlots, IsInnerAt, UsesSource, count_in}
-use Rattle.btr_tree.specs.Spots.{HasNone, StandsIn, FitsSpot, child_spot, page_spot, IsChildSpot, IsFoundSpot, IsSafeSpot, IsLostChild, HasWrongChild, IsNodeCause, IsFetchCause, IsRootCause, IsHarmlessFault, slot_at, shown_slot, shown_spot, IsSpotAt, IsFetchedAt, IsRootAt}
+use Rattle.btr_tree.specs.Spots.{HasNone, StandsIn, MayStandIn, FitsSpot, child_spot, page_spot, IsChildSpot, IsFoundSpot, IsSafeSpot, IsLostChild, HasWrongChild, IsNodeCause, IsFetchCause, IsRootCause, IsHarmlessFault, slot_at, shown_slot, shown_spot, IsSpotAt, IsFetchedAt, IsRootAt, IsPossibleRoot}
 use Rattle.btr_tree.proofs.LeadsLemmas.{items-get}
 use Rattle.btr_tree.proofs.NodeLemmas.{joined-none, slot-part, total-all}
 use Rattle.btr_tree.proofs.RootLemmas.{span-whole}
@@ -159,6 +158,16 @@ says-count (Inner start height stream version count slots) links (suc below) s a
 
 -- ---- where a block leads
 
+-- The page is that of this node of the stream.
+pub record IsPageOf (stream : ℕ) (node : NewNodeValue) (page : NodePage) : Type 0 where
+  pub its_stream : (header page).stream ≡ stream
+  pub says : node_of_page page ≡ node
+
+-- The page is that of the span's node, if this is in the block.
+abbrev pub IsPageIn : (ℕ → ℕ → NewNodeValue → Type 0) → ℕ → ℕ → NodePage → ℕ → ℤ → (List Point → Bool) → Past → Type 0
+IsPageIn nodes stream block page k s above h =
+    (links : ℕ → ℕ) → nodes stream block (node_to links k s above h) → IsPageOf stream (node_to links k s above h) page
+
 -- The page in a block that leads to a span with points.
 pub record IsLedTo (stream : ℕ) (page : NodePage) (k : ℕ) (s : ℤ) (above : List Point → Bool) (h : Past) : Type 0 where
   pub links : ℕ → ℕ
@@ -169,25 +178,38 @@ pub record IsLedTo (stream : ℕ) (page : NodePage) (k : ℕ) (s : ℤ) (above :
 abbrev pub HasOnce : (ℕ → NodePage → Type 0) → Type 0
 HasOnce has = (b : ℕ) (p q : NodePage) → has b p → has b q → p ≡ q
 
-led-by : (has : ℕ → NodePage → Type 0) (stream block : ℕ) (page : NodePage) (k : ℕ) (s : ℤ) (above : List Point → Bool) (h : Past) (On : ℕ → ℕ → Type 0) → HasOnce has → has block page → LeadsToNode (StandsIn has stream) k s above h block On → IsLedTo stream page k s above h
-led-by has stream block page k s above h On once at to =
-    let same : to.is.page ≡ page = once block to.is.page page to.is.is at in
+-- A page that a block has, if no page is lost.
+pub stands-page : (has : ℕ → NodePage → Type 0) (stream block : ℕ) (page : NodePage) (k : ℕ) (s : ℤ) (above : List Point → Bool) (h : Past) → HasOnce has → has block page → IsPageIn (StandsIn has) stream block page k s above h
+stands-page has stream block page k s above h once at links stands =
+    let same : stands.page ≡ page = once block stands.page page stands.is at in
     record {
-      links = to.links;
-      its_stream = ap (λ p. (header p).stream) (sym same) ∙ to.is.its_stream;
-      says = ap node_of_page (sym same) ∙ to.is.says;
+      its_stream = ap (λ p. (header p).stream) (sym same) ∙ stands.its_stream;
+      says = ap node_of_page (sym same) ∙ stands.says;
     }
 
-pub led-page : (has : ℕ → NodePage → Type 0) (stream block : ℕ) (page : NodePage) (k : ℕ) (s : ℤ) (above : List Point → Bool) (h : Past) → HasOnce has → has block page → (LeadsNowhere k s h block → ⊥) → Leads (StandsIn has stream) k s above h block → IsLedTo stream page k s above h
-led-page has stream block page zero s above h once at some leads =
+-- A page that a block has, if some may be lost, but it has the span and the version of the node.
+pub may-page : (has : ℕ → NodePage → Type 0) (stream block : ℕ) (page : NodePage) (k : ℕ) (s : ℤ) (above : List Point → Bool) (h : Past) → has block page → (header page).stream ≡ stream → span_of_page page ≡ record { start = s; height = k } → (header page).version ≡ node_version above k s h → IsPageIn (MayStandIn has) stream block page k s above h
+may-page has stream block page k s above h at its_stream its_span its_version links may =
+    record {
+      its_stream = its_stream;
+      says = may page at its_stream (its_span ∙ sym (to-span links k s above h)) (its_version ∙ sym (to-version links k s above h));
+    }
+
+led-by : (nodes : ℕ → ℕ → NewNodeValue → Type 0) (stream block : ℕ) (page : NodePage) (k : ℕ) (s : ℤ) (above : List Point → Bool) (h : Past) (On : ℕ → ℕ → Type 0) → IsPageIn nodes stream block page k s above h → LeadsToNode (nodes stream) k s above h block On → IsLedTo stream page k s above h
+led-by nodes stream block page k s above h On its to =
+    let is = its to.links to.is in
+    record { links = to.links; its_stream = is.its_stream; says = is.says }
+
+pub led-page : (nodes : ℕ → ℕ → NewNodeValue → Type 0) (stream block : ℕ) (page : NodePage) (k : ℕ) (s : ℤ) (above : List Point → Bool) (h : Past) → IsPageIn nodes stream block page k s above h → (LeadsNowhere k s h block → ⊥) → Leads (nodes stream) k s above h block → IsLedTo stream page k s above h
+led-page nodes stream block page zero s above h its some leads =
     elim leads [
       | inl none ↦ absurd (some none)
-      | inr to ↦ led-by has stream block page zero s above h (λ i link. Unit {0}) once at to
+      | inr to ↦ led-by nodes stream block page zero s above h (λ i link. Unit {0}) its to
     ]
-led-page has stream block page (suc k) s above h once at some leads =
+led-page nodes stream block page (suc k) s above h its some leads =
     elim leads [
       | inl none ↦ absurd (some none)
-      | inr to ↦ led-by has stream block page (suc k) s above h (λ i link. Leads (StandsIn has stream) k (slot_start k s i) (is_inner (suc k) s) h link) once at to
+      | inr to ↦ led-by nodes stream block page (suc k) s above h (λ i link. Leads (nodes stream) k (slot_start k s i) (is_inner (suc k) s) h link) its to
     ]
 
 -- A block that leads to a span with points has a page.
@@ -199,20 +221,20 @@ led-some has stream block (suc k) s above h some leads none =
 
 -- ---- the page of a place after a past
 
-spot-some : (has : ℕ → NodePage → Type 0) (spot : Spot) (k : ℕ) (s : ℤ) (above : List Point → Bool) (h : Past) → IsSpotAt has spot k s above h → 0 < spot.count → LeadsNowhere k s h spot.block → ⊥
-spot-some has spot k s above h is some nowhere =
+spot-some : (nodes : ℕ → ℕ → NewNodeValue → Type 0) (spot : Spot) (k : ℕ) (s : ℤ) (above : List Point → Bool) (h : Past) → IsSpotAt nodes spot k s above h → 0 < spot.count → LeadsNowhere k s h spot.block → ⊥
+spot-some nodes spot k s above h is some nowhere =
     let none = ap (length {A = Point}) nowhere.none in
     let counted = is.counted in
     omega arith
 
-pub spot-led : (has : ℕ → NodePage → Type 0) (spot : Spot) (page : NodePage) (k : ℕ) (s : ℤ) (above : List Point → Bool) (h : Past) → HasOnce has → has spot.block page → 0 < spot.count → IsSpotAt has spot k s above h → IsLedTo spot.stream page k s above h
-spot-led has spot page k s above h once at some is =
-    led-page has spot.stream spot.block page k s above h once at (spot-some has spot k s above h is some) is.leads
+pub spot-led : (nodes : ℕ → ℕ → NewNodeValue → Type 0) (spot : Spot) (page : NodePage) (k : ℕ) (s : ℤ) (above : List Point → Bool) (h : Past) → IsPageIn nodes spot.stream spot.block page k s above h → 0 < spot.count → IsSpotAt nodes spot k s above h → IsLedTo spot.stream page k s above h
+spot-led nodes spot page k s above h its some is =
+    led-page nodes spot.stream spot.block page k s above h its (spot-some nodes spot k s above h is some) is.leads
 
 -- It fits the place.
-told-fits : (has : ℕ → NodePage → Type 0) (spot : Spot) (span : SpanValue) (page : NodePage) (above : List Point → Bool) (h : Past) → HasOnce has → has spot.block page → Keeps page → Fits page → 0 < spot.count → IsSpotAt has spot span.height span.start above h → FitsSpot spot span page
-told-fits has spot span page above h once at keeps fits some is =
-    let led = spot-led has spot page span.height span.start above h once at some is in
+told-fits : (nodes : ℕ → ℕ → NewNodeValue → Type 0) (spot : Spot) (span : SpanValue) (page : NodePage) (above : List Point → Bool) (h : Past) → IsPageIn nodes spot.stream spot.block page span.height span.start above h → Keeps page → Fits page → 0 < spot.count → IsSpotAt nodes spot span.height span.start above h → FitsSpot spot span page
+told-fits nodes spot span page above h its keeps fits some is =
+    let led = spot-led nodes spot page span.height span.start above h its some is in
     record {
       its_span = says-span page led.links span.height span.start above h led.says;
       its_stream = led.its_stream;
@@ -220,17 +242,17 @@ told-fits has spot span page above h once at keeps fits some is =
       its_count = says-count page led.links span.height span.start above h keeps fits led.says ∙ sym is.counted;
     }
 
-pub fits-never : (has : ℕ → NodePage → Type 0) (spot : Spot) (span : SpanValue) (page : NodePage) (above : List Point → Bool) (h : Past) → HasOnce has → has spot.block page → Keeps page → Fits page → 0 < spot.count → (FitsSpot spot span page → ⊥) → IsSpotAt has spot span.height span.start above h → ⊥
-fits-never has spot span page above h once at keeps fits some wrong is =
-    wrong (told-fits has spot span page above h once at keeps fits some is)
+pub fits-never : (nodes : ℕ → ℕ → NewNodeValue → Type 0) (spot : Spot) (span : SpanValue) (page : NodePage) (above : List Point → Bool) (h : Past) → IsPageIn nodes spot.stream spot.block page span.height span.start above h → Keeps page → Fits page → 0 < spot.count → (FitsSpot spot span page → ⊥) → IsSpotAt nodes spot span.height span.start above h → ⊥
+fits-never nodes spot span page above h its keeps fits some wrong is =
+    wrong (told-fits nodes spot span page above h its keeps fits some is)
 
 -- ---- refusals
 
-pub node-harmless : (O : Type 0) (has : ℕ → NodePage → Type 0) (spot : Spot) (b c k : ℕ) (s : ℤ) (e : NodeFault) (above : List Point → Bool) (h : Past) → O → 0 < spot.count → IsNodeCause O has spot.block b c e → IsSpotAt has spot k s above h → IsHarmlessFault e
+pub node-harmless : (O : Type 0) (has : ℕ → NodePage → Type 0) (spot : Spot) (b c k : ℕ) (s : ℤ) (e : NodeFault) (above : List Point → Bool) (h : Past) → O → 0 < spot.count → IsNodeCause O has spot.block b c e → IsSpotAt (StandsIn has) spot k s above h → IsHarmlessFault e
 node-harmless O has spot b c k s Failed above h o some cause is = tt
 node-harmless O has spot b c k s Want above h o some cause is = tt
 node-harmless O has spot b c k s (Damaged named) above h o some cause is =
-    led-some has spot.stream spot.block k s above h (spot-some has spot k s above h is some) is.leads (cause.1 o)
+    led-some has spot.stream spot.block k s above h (spot-some (StandsIn has) spot k s above h is some) is.leads (cause.1 o)
 
 lost-child : (has : ℕ → NodePage → Type 0) (spot : Spot) (part : SpanValue) (named : ℕ) → named ≡ spot.block → HasNone has spot.block → IsChildSpot has part spot ⊎ IsFoundSpot has part spot → IsLostChild has named ⊎ HasWrongChild has named
 lost-child has spot part named e none known =
@@ -280,9 +302,9 @@ wrong-page O has spot part page b c once safe some at wrong o =
     ]
 
 -- What a call of the pages does to their state.
-pub uses : {N C A : Type 0} (O : Type 0) (contents : N → C) (faults : N → ℕ) (Cause : (O → C) → ℕ → ℕ → NodeFault → Type 0) (old new : N) (q : Result A NodeFault) → (O → contents new ≡ contents old) → faults old ≤ faults new → IfErr q (Cause (λ o. contents old) (faults old) (faults new)) → UsesSource {Told = O → C} (λ n o. contents n) faults Cause old new q
-uses O contents faults Cause old new q same rises cause =
-    record { same = fun_ext same; rises = rises; cause = cause }
+pub uses : {N C A : Type 0} (contents : N → C) (faults : N → ℕ) (Cause : C → ℕ → ℕ → NodeFault → Type 0) (old new : N) (q : Result A NodeFault) → contents new ≡ contents old → faults old ≤ faults new → IfErr q (Cause (contents old) (faults old) (faults new)) → UsesSource contents faults Cause old new q
+uses contents faults Cause old new q same rises cause =
+    record { same = same; rises = rises; cause = cause }
 
 -- ---- what is safe to walk
 
@@ -350,12 +372,12 @@ no-length : (ps : List Point) (n : ℕ) → n ≡ 0 → n ≡ length ps → ps �
 no-length [] n e f = refl
 no-length (p ∷ ps) n e f = absurd (omega arith)
 
-pub nothing-found : (has : ℕ → NodePage → Type 0) (spot : Spot) (k : ℕ) (s : ℤ) (above : List Point → Bool) (h : Past) → spot.count ≡ 0 → IsSpotAt has spot k s above h → points_of k s (bag h) ≡ []
-nothing-found has spot k s above h none is = no-length (points_of k s (bag h)) spot.count none is.counted
+pub nothing-found : (nodes : ℕ → ℕ → NewNodeValue → Type 0) (spot : Spot) (k : ℕ) (s : ℤ) (above : List Point → Bool) (h : Past) → spot.count ≡ 0 → IsSpotAt nodes spot k s above h → points_of k s (bag h) ≡ []
+nothing-found nodes spot k s above h none is = no-length (points_of k s (bag h)) spot.count none is.counted
 
-pub leaf-found : (has : ℕ → NodePage → Type 0) (spot : Spot) (k : ℕ) (s : ℤ) (above : List Point → Bool) (h : Past) (start : ℤ) (height stream version count : ℕ) (points : List Point) → HasOnce has → has spot.block (Leaf start height stream version count points) → Keeps (Leaf start height stream version count points) → Fits (Leaf start height stream version count points) → 0 < spot.count → IsSpotAt has spot k s above h → IsLeaf k s above h version (take count points)
-leaf-found has spot k s above h start height stream version count points once at keeps fits some is =
-    let led = spot-led has spot (Leaf start height stream version count points) k s above h once at some is in
+pub leaf-found : (nodes : ℕ → ℕ → NewNodeValue → Type 0) (spot : Spot) (k : ℕ) (s : ℤ) (above : List Point → Bool) (h : Past) (start : ℤ) (height stream version count : ℕ) (points : List Point) → IsPageIn nodes spot.stream spot.block (Leaf start height stream version count points) k s above h → Keeps (Leaf start height stream version count points) → Fits (Leaf start height stream version count points) → 0 < spot.count → IsSpotAt nodes spot k s above h → IsLeaf k s above h version (take count points)
+leaf-found nodes spot k s above h start height stream version count points its keeps fits some is =
+    let led = spot-led nodes spot (Leaf start height stream version count points) k s above h its some is in
     let from = keeps.count_from in
     let to = keeps.count_to in
     let full : length points ≡ 252 = fits.1 in
@@ -368,30 +390,30 @@ leaf-found has spot k s above h start height stream version count points once at
     }
 
 -- The place of a slot's child.
-child-at : (has : ℕ → NodePage → Type 0) (stream block : ℕ) (slots : List PageSlot) (links : ℕ → ℕ) (below : ℕ) (s : ℤ) (h : Past) (i : ℕ) → SaysInner slots links below s h → i < 64 → Leads (StandsIn has stream) below (slot_start below s i) (is_inner (suc below) s) h (links i) → IsSpotAt has (shown_spot block stream slots i) below (slot_start below s i) (is_inner (suc below) s) h
-child-at has stream block slots links below s h i says lt leads =
+child-at : (nodes : ℕ → ℕ → NewNodeValue → Type 0) (stream block : ℕ) (slots : List PageSlot) (links : ℕ → ℕ) (below : ℕ) (s : ℤ) (h : Past) (i : ℕ) → SaysInner slots links below s h → i < 64 → Leads (nodes stream) below (slot_start below s i) (is_inner (suc below) s) h (links i) → IsSpotAt nodes (shown_spot block stream slots i) below (slot_start below s i) (is_inner (suc below) s) h
+child-at nodes stream block slots links below s h i says lt leads =
     let e = says.each i lt in
     let ps = points_of below (slot_start below s i) (bag h) in
     let counted : (slot_at slots i).agg.count ≡ length ps = ap (λ (x : Slot). x.agg.count) e ∙ agg-count ps in
     record {
-      leads = subst (Leads (StandsIn has stream) below (slot_start below s i) (is_inner (suc below) s) h) (sym (ap (λ (x : Slot). x.child) e)) leads;
+      leads = subst (Leads (nodes stream) below (slot_start below s i) (is_inner (suc below) s) h) (sym (ap (λ (x : Slot). x.child) e)) leads;
       counted = counted;
       dated = λ some.
           ap (λ (x : Slot). x.version) e
           ∙ sym (node-slot (is_inner (suc below) s) below (slot_start below s i) h (some-has ps (omega arith)));
     }
 
-pub inner-found : (O : Type 0) (has : O → ℕ → NodePage → Type 0) (o : O) (spot : Spot) (k : ℕ) (s : ℤ) (above : List Point → Bool) (h : Past) (start : ℤ) (height stream version count : ℕ) (slots : List PageSlot) → HasOnce (has o) → has o spot.block (Inner start height stream version count slots) → Keeps (Inner start height stream version count slots) → Fits (Inner start height stream version count slots) → 0 < spot.count → IsSpotAt (has o) spot k s above h → IsInnerAt (IsFetchedAt O has) (shown_spot spot.block spot.stream slots) (shown_slot slots) (record { start = s; height = k }) above h version
+pub inner-found : (O : Type 0) (nodes : O → ℕ → ℕ → NewNodeValue → Type 0) (o : O) (spot : Spot) (k : ℕ) (s : ℤ) (above : List Point → Bool) (h : Past) (start : ℤ) (height stream version count : ℕ) (slots : List PageSlot) → IsPageIn (nodes o) spot.stream spot.block (Inner start height stream version count slots) k s above h → Keeps (Inner start height stream version count slots) → Fits (Inner start height stream version count slots) → 0 < spot.count → IsSpotAt (nodes o) spot k s above h → IsInnerAt (IsFetchedAt O nodes) (shown_spot spot.block spot.stream slots) (shown_slot slots) (record { start = s; height = k }) above h version
 unfolding led-by
-inner-found O has o spot zero s above h start height stream version count slots once at keeps fits some is =
-    let led = spot-led (has o) spot (Inner start height stream version count slots) zero s above h once at some is in
+inner-found O nodes o spot zero s above h start height stream version count slots its keeps fits some is =
+    let led = spot-led (nodes o) spot (Inner start height stream version count slots) zero s above h its some is in
     absurd (not-inner start height stream version count slots led.links s above h fits.1 led.says)
-inner-found O has o spot (suc below) s above h start height stream version count slots once at keeps fits some is =
+inner-found O nodes o spot (suc below) s above h start height stream version count slots its keeps fits some is =
     elim is.leads [
-      | inl nowhere ↦ absurd (spot-some (has o) spot (suc below) s above h is some nowhere)
+      | inl nowhere ↦ absurd (spot-some (nodes o) spot (suc below) s above h is some nowhere)
       | inr to ↦
           let page = Inner start height stream version count slots in
-          let led = led-by (has o) spot.stream spot.block page (suc below) s above h (λ i link. Leads (StandsIn (has o) spot.stream) below (slot_start below s i) (is_inner (suc below) s) h link) once at to in
+          let led = led-by (nodes o) spot.stream spot.block page (suc below) s above h (λ i link. Leads (nodes o spot.stream) below (slot_start below s i) (is_inner (suc below) s) h link) its to in
           let says = inner-says start height stream version count slots to.links below s above h fits.1 led.says in
           record {
             version = says-version page to.links (suc below) s above h led.says;
@@ -400,39 +422,39 @@ inner-found O has o spot (suc below) s above h start height stream version count
               above = refl;
               many = says.many;
               all = slots-say slots to.links below s h says;
-              each = λ i lt. (o, child-at (has o) spot.stream spot.block slots to.links below s h i says lt (to.each says.many i lt).1);
+              each = λ i lt. (o, child-at (nodes o) spot.stream spot.block slots to.links below s h i says lt (to.each says.many i lt).1);
             };
           }
     ]
 
 -- ---- the place of a root
 
-pub root-none : (has : ℕ → NodePage → Type 0) (root : Root) (h : Past) (version parent : ℕ) → root.block ≡ 0 → IsRootAt has root h → IsSpotAt has (record { block = 0; stream = root.stream; version = version; count = 0; parent = parent }) 10 FIRST above_root h
-root-none has root h version parent e is =
+pub root-none : (nodes : ℕ → ℕ → NewNodeValue → Type 0) (root : Root) (h : Past) (version parent : ℕ) → root.block ≡ 0 → IsRootAt nodes root h → IsSpotAt nodes (record { block = 0; stream = root.stream; version = version; count = 0; parent = parent }) 10 FIRST above_root h
+root-none nodes root h version parent e is =
     let none : points_of 10 FIRST (bag h) ≡ [] = elim is.leads [ inl nowhere ↦ nowhere.none | inr to ↦ let some = to.some in absurd (omega arith) ] in
     record {
-      leads = subst (Leads (StandsIn has root.stream) 10 FIRST above_root h) e is.leads;
+      leads = subst (Leads (nodes root.stream) 10 FIRST above_root h) e is.leads;
       counted = sym (ap (length {A = Point}) none);
       dated = λ some. absurd (omega arith);
     }
 
-root-led : (has : ℕ → NodePage → Type 0) (root : Root) (page : NodePage) (h : Past) → HasOnce has → has root.block page → 0 < root.block → IsRootAt has root h → IsLedTo root.stream page 10 FIRST above_root h
-root-led has root page h once at some is =
-    led-page has root.stream root.block page 10 FIRST above_root h once at (λ nowhere. let none = nowhere.is in omega arith) is.leads
+root-led : (nodes : ℕ → ℕ → NewNodeValue → Type 0) (root : Root) (page : NodePage) (h : Past) → IsPageIn nodes root.stream root.block page 10 FIRST above_root h → 0 < root.block → IsRootAt nodes root h → IsLedTo root.stream page 10 FIRST above_root h
+root-led nodes root page h its some is =
+    led-page nodes root.stream root.block page 10 FIRST above_root h its (λ nowhere. let none = nowhere.is in omega arith) is.leads
 
-pub root-at : (has : ℕ → NodePage → Type 0) (root : Root) (page : NodePage) (h : Past) → HasOnce has → has root.block page → Keeps page → Fits page → 0 < root.block → IsRootAt has root h → IsSpotAt has (page_spot root.block page) 10 FIRST above_root h
-root-at has root page h once at keeps fits some is =
-    let led = root-led has root page h once at some is in
+pub root-at : (nodes : ℕ → ℕ → NewNodeValue → Type 0) (root : Root) (page : NodePage) (h : Past) → IsPageIn nodes root.stream root.block page 10 FIRST above_root h → Keeps page → Fits page → 0 < root.block → IsRootAt nodes root h → IsSpotAt nodes (page_spot root.block page) 10 FIRST above_root h
+root-at nodes root page h its keeps fits some is =
+    let led = root-led nodes root page h its some is in
     record {
-      leads = subst (λ n. Leads (StandsIn has n) 10 FIRST above_root h root.block) (sym led.its_stream) is.leads;
+      leads = subst (λ n. Leads (nodes n) 10 FIRST above_root h root.block) (sym led.its_stream) is.leads;
       counted = says-count page led.links 10 FIRST above_root h keeps fits led.says;
       dated = λ _. says-version page led.links 10 FIRST above_root h led.says;
     }
 
 -- It is found.
-pub root-fits : (has : ℕ → NodePage → Type 0) (root : Root) (page : NodePage) (h : Past) → HasOnce has → has root.block page → 0 < root.block → IsRootAt has root h → IsRootPage root.stream root.version page
-root-fits has root page h once at some is =
-    let led = root-led has root page h once at some is in
+pub root-fits : (nodes : ℕ → ℕ → NewNodeValue → Type 0) (root : Root) (page : NodePage) (h : Past) → IsPageIn nodes root.stream root.block page 10 FIRST above_root h → 0 < root.block → IsRootAt nodes root h → IsRootPage root.stream root.version page
+root-fits nodes root page h its some is =
+    let led = root-led nodes root page h its some is in
     let dated = says-version page led.links 10 FIRST above_root h led.says in
     let older = is.not_newer in
     record {
@@ -441,7 +463,7 @@ root-fits has root page h once at some is =
       not_newer = subst (λ v. v ≤ root.version) (sym dated) older;
     }
 
-pub root-harmless : (O : Type 0) (has : ℕ → NodePage → Type 0) (root : Root) (b c : ℕ) (e : NodeFault) (h : Past) → O → 0 < root.block → IsNodeCause O has root.block b c e → IsRootAt has root h → IsHarmlessFault e
+pub root-harmless : (O : Type 0) (has : ℕ → NodePage → Type 0) (root : Root) (b c : ℕ) (e : NodeFault) (h : Past) → O → 0 < root.block → IsNodeCause O has root.block b c e → IsRootAt (StandsIn has) root h → IsHarmlessFault e
 root-harmless O has root b c Failed h o some cause is = tt
 root-harmless O has root b c Want h o some cause is = tt
 root-harmless O has root b c (Damaged named) h o some cause is =
@@ -464,11 +486,21 @@ page-few : (page : NodePage) → Keeps page → (header page).count ≤ 2 ^ 32
 page-few (Leaf start height stream version count points) keeps = let to = keeps.count_to in omega arith
 page-few (Inner start height stream version count slots) keeps = keeps.count_to
 
+-- The page of a root is that of the whole domain.
+root-whole : (root : Root) (page : NodePage) → Keeps page → IsRootPage root.stream root.version page → span_of_page page ≡ root_part
+root-whole root page keeps is =
+    let high = is.height in
+    span-whole (span_of_page page) (page-aligned page keeps) (omega arith)
+
+-- A page of a root that was found, if some pages may be lost.
+pub may-root : (has : ℕ → NodePage → Type 0) (root : Root) (page : NodePage) (h : Past) → 0 < root.block → has root.block page → Keeps page → IsRootPage root.stream root.version page → IsPossibleRoot has root h → IsPageIn (MayStandIn has) root.stream root.block page 10 FIRST above_root h
+may-root has root page h some at keeps fits possible =
+    may-page has root.stream root.block page 10 FIRST above_root h at fits.its_stream (root-whole root page keeps fits) (possible.newest some page at fits)
+
 -- A walk may go to the place of a root whose page was found.
 pub root-safe : (O : Type 0) (has : ℕ → NodePage → Type 0) (root : Root) (page : NodePage) → (O → has root.block page) → Keeps page → IsRootPage root.stream root.version page → IsSafeSpot O (λ o. has) (page_spot root.block page) root_part
 root-safe O has root page at keeps is =
-    let high = is.height in
-    let whole : span_of_page page ≡ root_part = span-whole (span_of_page page) (page-aligned page keeps) (omega arith) in
+    let whole = root-whole root page keeps is in
     record {
       few = page-few page keeps;
       known = λ o some. inr (record {

@@ -1,7 +1,8 @@
 -- What a source of nodes finds at the place of a span, after a past and whatever the source holds, and what a call does to its state.
 --
--- A source says of a place, by `IsAt`, that it is that of a span after a past, and, by `IsSafe`, that a walk may go there.
--- `count` is at most how many points the span of a place has.
+-- A source says of a place, by `IsAt`, that it may be that of a span after a past, by `IsThere`, that it is, with all nodes below it, and,
+-- by `IsSafe`, that a walk may go there. What is said here over `IsAt` is said over `IsThere` as well. `count` is at most how many points
+-- the span of a place has.
 use Rattle.std.specs.Prelude.{◌≡◌, ℕ, suc, ◌+◌, ◌^◌, ◌<◌, ◌≤◌, ℤ, Bool, List, [], length, min, Result, IfOk, IfErr}
 use Rattle.btr_base.specs.Agg.{agg}
 use Rattle.btr_base.specs.Bag.{IsInOrder}

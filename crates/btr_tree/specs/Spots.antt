@@ -33,6 +33,17 @@ pub record StandsIn (has : ℕ → NodePage → Type 0) (stream block : ℕ) (no
   pub its_stream : (header page).stream ≡ stream
   pub says : node_of_page page ≡ node
 
+-- The block has the page of this node of the stream, or that page is lost. It is lost as well if a page of another stream, span or version
+-- is in its place.
+abbrev pub MayStandIn : (ℕ → NodePage → Type 0) → ℕ → ℕ → NewNodeValue → Type 0
+MayStandIn has stream block node =
+    (page : NodePage)
+    → has block page
+    → (header page).stream ≡ stream
+    → span_of_page page ≡ node.span
+    → (header page).version ≡ node.version
+    → node_of_page page ≡ node
+
 -- The block has a page with this slot, which has a point.
 pub record HasChildIn (has : ℕ → NodePage → Type 0) (block : ℕ) (page : NodePage) (i : ℕ) (slot : PageSlot) : Type 0 where
   pub is : has block page
@@ -159,28 +170,47 @@ abbrev pub shown_spot : ℕ → ℕ → List PageSlot → ℕ → Spot
 shown_spot block stream slots i = child_spot block stream (slot_at slots i)
 
 -- ---- after a past
+--
+-- All is said over the nodes of a stream that are in blocks: `StandsIn` of a source's pages, if all of them are there, or `MayStandIn`, if
+-- some may be lost.
 
 -- The place is that of a span after a past: the block leads to the span's nodes, and the place has the count of the span's points and,
 -- if there is one, the version of its node.
-pub record IsSpotAt (has : ℕ → NodePage → Type 0) (spot : Spot) (height : ℕ) (start : ℤ) (above : List Point → Bool) (h : Past) : Type 0 where
-  pub leads : Leads (StandsIn has spot.stream) height start above h spot.block
+pub record IsSpotAt (nodes : ℕ → ℕ → NewNodeValue → Type 0) (spot : Spot) (height : ℕ) (start : ℤ) (above : List Point → Bool)
+    (h : Past) : Type 0 where
+  pub leads : Leads (nodes spot.stream) height start above h spot.block
   pub counted : spot.count ≡ length (points_of height start (bag h))
   pub dated : 0 < spot.count → spot.version ≡ node_version above height start h
 
 -- The pages are told, and the place is that of a span after a past.
-abbrev pub IsFetchedAt : (observable : Type 0) → (observable → ℕ → NodePage → Type 0) → Spot → ℕ → ℤ → (List Point → Bool) → Past → Type 0
-IsFetchedAt observable has spot height start above h = (o : observable) × IsSpotAt (has o) spot height start above h
+abbrev pub IsFetchedAt : (observable : Type 0) → (observable → ℕ → ℕ → NewNodeValue → Type 0) → Spot → ℕ → ℤ
+    → (List Point → Bool) → Past → Type 0
+IsFetchedAt observable nodes spot height start above h = (o : observable) × IsSpotAt (nodes o) spot height start above h
 
 -- The root is that of a past: its block leads to the nodes of the past's tree, or is 0 if there is no point.
-pub record IsRootAt (has : ℕ → NodePage → Type 0) (root : Root) (h : Past) : Type 0 where
-  pub leads : Leads (StandsIn has root.stream) 10 FIRST above_root h root.block
+pub record IsRootAt (nodes : ℕ → ℕ → NewNodeValue → Type 0) (root : Root) (h : Past) : Type 0 where
+  pub leads : Leads (nodes root.stream) 10 FIRST above_root h root.block
   pub not_newer : node_version above_root 10 FIRST h ≤ root.version
   pub times : AreInDomain (bag h)
   pub few : length (bag h) ≤ MAX_POINTS
 
--- P holds for each past whose root this is.
+-- P holds for each past whose root this is, with all its pages there.
 abbrev pub AtEachRoot : (ℕ → NodePage → Type 0) → Root → (Past → Type 0) → Type 0
-AtEachRoot has root P = (h : Past) → IsRootAt has root h → P h
+AtEachRoot has root P = (h : Past) → IsRootAt (StandsIn has) root h → P h
+
+-- The root may be that of a past: any page of the past's tree may be lost. If its block is not 0 and has a page of such a root, then that
+-- has the version of the past's root.
+pub record IsPossibleRoot (has : ℕ → NodePage → Type 0) (root : Root) (h : Past) : Type 0 where
+  pub is : IsRootAt (MayStandIn has) root h
+  pub newest : 0 < root.block
+      → (page : NodePage)
+      → has root.block page
+      → IsRootPage root.stream root.version page
+      → (header page).version ≡ node_version above_root 10 FIRST h
+
+-- P holds for each past whose root this may be.
+abbrev pub AtEachPossibleRoot : (ℕ → NodePage → Type 0) → Root → (Past → Type 0) → Type 0
+AtEachPossibleRoot has root P = (h : Past) → IsPossibleRoot has root h → P h
 
 -- The place of a root: of no point if the root's block is 0, and else that of the page in the block, which is that of such a root.
 pub record IsRootSpot (has : ℕ → NodePage → Type 0) (root : Root) (spot : Spot) : Type 0 where

@@ -1,6 +1,6 @@
 //! Nodes that are fetched from blocks, one page at a time.
 ghost use Rattle.std.specs.Prelude.{◌≡◌, ◌↔◌, ℕ, ◌<◌, ◌≤◌, IfOk, IfErr, IsTrue};
-ghost use Rattle.btr_base.specs.declared.limits.TheConstants.{FIRST as FIRST_TIME};
+ghost use Rattle.btr_base.specs.declared.limits.TheConstants.{FIRST as BEGIN};
 ghost use Rattle.btr_node.specs.Page.{Keeps, Fits};
 ghost use Rattle.btr_node.specs.declared.page.NodePage.{NodePage as PageSpec};
 ghost use Rattle.btr_tree.specs.Nodes.{above_root};
@@ -8,7 +8,7 @@ ghost use Rattle.btr_tree.specs.PageNodes.{IsRootPage};
 ghost use Rattle.btr_tree.specs.Root.{root_part};
 ghost use Rattle.btr_tree.specs.NodeSource.{AtEachPlace, UsesSource};
 ghost use Rattle.btr_tree.specs.Spots.{IsNodeCause, IsFetchCause, IsRootCause, IsHarmlessFault, FitsSpot, IsSafeSpot, IsSpotAt};
-ghost use Rattle.btr_tree.specs.Spots.{AtEachRoot, IsRootSpot, page_spot};
+ghost use Rattle.btr_tree.specs.Spots.{StandsIn, MayStandIn, AtEachRoot, AtEachPossibleRoot, IsRootSpot, page_spot};
 
 use crate::spot::{Root, Spot};
 use btr_base::{ROOT_HEIGHT, Span};
@@ -51,7 +51,7 @@ pub trait Nodes {
         ensures keeps { IfOk result (λ page. Keeps page) }
         ensures fits { IfOk result (λ page. Fits page) }
         ensures page { is_observable → IfOk result (λ page. IsPage (contents self.old) block page) }
-        ensures same { is_observable → contents self.new ≡ contents self.old }
+        ensures same { contents self.new ≡ contents self.old }
         ensures rises { faults self.old ≤ faults self.new }
         ensures cause { IfErr result (IsNodeCause is_observable (IsPage (contents self.old)) block (faults self.old) (faults self.new)) };
 
@@ -67,9 +67,9 @@ pub fn fetch_node<N: Nodes>(nodes: &mut N, span: Span, at: Spot) -> Result<NodeP
     ensures fits { IfOk result (λ page. Fits page × FitsSpot at span page) }
     ensures page { N.is_observable → IfOk result (λ page. N.IsPage (N.contents nodes.old) at.block page) }
     ensures sound { N.is_observable → IfErr result (λ e.
-        AtEachPlace (IsSpotAt (N.IsPage (N.contents nodes.old))) at span (λ h. IsHarmlessFault e)) }
-    ensures uses { UsesSource {Told = N.is_observable → N.Contents} (λ n o. N.contents n) N.faults
-        (λ t. IsFetchCause N.is_observable (λ o. N.IsPage (t o))) nodes.old nodes.new result }
+        AtEachPlace (IsSpotAt (StandsIn (N.IsPage (N.contents nodes.old)))) at span (λ h. IsHarmlessFault e)) }
+    ensures uses { UsesSource N.contents N.faults
+        (λ t. IsFetchCause N.is_observable (λ o. N.IsPage t)) nodes.old nodes.new result }
 {
     let page = nodes.node(at.block)?;
     if !is_page_of(&page, span, at) {
@@ -96,11 +96,13 @@ fn is_page_of(page: &NodePage, span: Span, at: Spot) -> bool
 pub fn find_root<N: Nodes>(nodes: &mut N, root: Root) -> Result<Spot, NodeFault>
     ensures safe { IfOk result (λ at. IsSafeSpot N.is_observable (λ o. N.IsPage (N.contents nodes.new)) at root_part) }
     ensures found { N.is_observable → IfOk result (IsRootSpot (N.IsPage (N.contents nodes.old)) root) }
-    ensures at { N.is_observable → IfOk result (λ at. AtEachRoot (N.IsPage (N.contents nodes.old)) root
-        (λ h. IsSpotAt (N.IsPage (N.contents nodes.old)) at 10 FIRST_TIME above_root h)) }
+    ensures at { N.is_observable → IfOk result (λ at. AtEachPossibleRoot (N.IsPage (N.contents nodes.old)) root
+        (λ h. IsSpotAt (MayStandIn (N.IsPage (N.contents nodes.old))) at 10 BEGIN above_root h)) }
+    ensures there { N.is_observable → IfOk result (λ at. AtEachRoot (N.IsPage (N.contents nodes.old)) root
+        (λ h. IsSpotAt (StandsIn (N.IsPage (N.contents nodes.old))) at 10 BEGIN above_root h)) }
     ensures sound { N.is_observable → IfErr result (λ e. AtEachRoot (N.IsPage (N.contents nodes.old)) root (λ h. IsHarmlessFault e)) }
-    ensures uses { UsesSource {Told = N.is_observable → N.Contents} (λ n o. N.contents n) N.faults
-        (λ t. IsRootCause N.is_observable root (λ o. N.IsPage (t o))) nodes.old nodes.new result }
+    ensures uses { UsesSource N.contents N.faults
+        (λ t. IsRootCause N.is_observable root (λ o. N.IsPage t)) nodes.old nodes.new result }
 {
     if root.block == 0 {
         return Ok(Spot {

@@ -37,6 +37,7 @@ impl<N: Nodes> NodeSource for Fetched<N> {
     ghost use Rattle.std.specs.Prelude.{take};
     ghost use Rattle.btr_tree.specs.declared.spot.Spot.{Spot as SpotSpec};
     ghost use Rattle.btr_tree.specs.Spots.{IsFetchedAt, IsSafeSpot, IsFetchCause, IsHarmlessFault, shown_spot};
+    ghost use Rattle.btr_tree.specs.Spots.{StandsIn, MayStandIn};
     ghost use Rattle.btr_tree.specs.FetchedLaws.{cause_earlier};
 
     type State = N;
@@ -49,9 +50,9 @@ impl<N: Nodes> NodeSource for Fetched<N> {
 
     type Fault = NodeFault;
 
-    ghost Told = { N.is_observable → N.Contents };
+    ghost Told = { N.Contents };
 
-    ghost told = { λ n o. N.contents n };
+    ghost told = { N.contents };
 
     ghost faults = { N.faults };
 
@@ -61,11 +62,13 @@ impl<N: Nodes> NodeSource for Fetched<N> {
 
     ghost count = { λ s. s.count };
 
-    ghost IsAt = { λ t. IsFetchedAt N.is_observable (λ o. N.IsPage (t o)) };
+    ghost IsAt = { λ t. IsFetchedAt N.is_observable (λ o. MayStandIn (N.IsPage t)) };
 
-    ghost IsSafe = { λ t s height start. IsSafeSpot N.is_observable (λ o. N.IsPage (t o)) s (record { start = start; height = height }) };
+    ghost IsThere = { λ t. IsFetchedAt N.is_observable (λ o. StandsIn (N.IsPage t)) };
 
-    ghost IsCaused = { λ t. IsFetchCause N.is_observable (λ o. N.IsPage (t o)) };
+    ghost IsSafe = { λ t s height start. IsSafeSpot N.is_observable (λ o. N.IsPage t) s (record { start = start; height = height }) };
+
+    ghost IsCaused = { λ t. IsFetchCause N.is_observable (λ o. N.IsPage t) };
 
     ghost IsHarmless = { IsHarmlessFault };
 
@@ -75,7 +78,7 @@ impl<N: Nodes> NodeSource for Fetched<N> {
 
     ghost inner_place = { λ inner. shown_spot inner.block inner.stream inner.slots };
 
-    ghost caused_earlier = { λ t. cause_earlier N.is_observable (λ o. N.IsPage (t o)) };
+    ghost caused_earlier = { λ t. cause_earlier N.is_observable (λ o. N.IsPage t) };
 
     fn visit<L>(
         state: &mut N,

@@ -48,6 +48,8 @@ impl<'a> NodeSource for Memory<'a> {
 
     ghost IsAt = { λ t n height start above h. IsChild height start above h n };
 
+    ghost IsThere = { λ t n height start above h. IsChild height start above h n };
+
     ghost IsSafe = { λ t n height start. IsSomeChild height start n 0 };
 
     ghost IsCaused = { λ t before after e. ⊥ };

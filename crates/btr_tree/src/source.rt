@@ -16,8 +16,9 @@ use btr_base::{Point, Span};
 /// A walk is generic in its source, and so it is proved once for all sources. It starts at the place of a root, and visits
 /// places that it reads from inner nodes. The state is what a visit may change. It serves all roots of a walk.
 ///
-/// A source may refuse a visit. What it finds is safe to walk, whatever it holds. If what it holds is the tree of a past, then
-/// it finds that tree's nodes, and refuses only harmlessly.
+/// A source may refuse a visit. What it finds is safe to walk, whatever it holds. What it finds are the nodes of each past's tree
+/// of which it may hold a part: it never finds nothing for a node that is lost. If it holds the whole tree of a past, then it
+/// refuses only harmlessly.
 pub trait NodeSource {
     /// What a visit needs and may change.
     type State;
@@ -52,8 +53,12 @@ pub trait NodeSource {
     /// At most how many points there are at a place, by what the place itself says.
     ghost count: { Site → ℕ };
 
-    /// The place is that of a span, by its height and start, after a past. The span above it was an inner node as `above` says.
+    /// The place may be that of a span, by its height and start, after a past: each node that the source holds there and below it
+    /// is that of the past's tree, but some may be lost. The span above it was an inner node as `above` says.
     ghost IsAt: { Told → Site → ℕ → ℤ → (List PointSpec → Bool) → Past → Type 0 };
+
+    /// The place is that of a span after a past, and the source holds all nodes there and below it.
+    ghost IsThere: { Told → Site → ℕ → ℤ → (List PointSpec → Bool) → Past → Type 0 };
 
     /// A walk may visit the place as that of a span, by its height and start.
     ghost IsSafe: { Told → Site → ℕ → ℤ → Type 0 };
@@ -84,7 +89,8 @@ pub trait NodeSource {
         requires safe { IsSafe (told state.old) (site at) span.height span.start }
         ensures safe { IfOk result (IsSafeFound (IsSafe (told state.old)) count leaf_points inner_slot inner_place (count (site at)) span) }
         ensures found { IfOk result (IsRightlyFound (IsAt (told state.old)) leaf_points inner_slot inner_place (site at) span) }
-        ensures sound { IfErr result (λ e. AtEachPlace (IsAt (told state.old)) (site at) span (λ h. IsHarmless e)) }
+        ensures there { IfOk result (IsRightlyFound (IsThere (told state.old)) leaf_points inner_slot inner_place (site at) span) }
+        ensures sound { IfErr result (λ e. AtEachPlace (IsThere (told state.old)) (site at) span (λ h. IsHarmless e)) }
         ensures uses { UsesSource told faults IsCaused state.old state.new result }
         ensures counts { CountsVisit steps.old steps.new result };
 

@@ -2,10 +2,10 @@
 
 use super::pages_tests::{Change, changed};
 use super::shelf::{
-    Block, Question, Roots, STREAM, Stream, TALL, disk_of, held_of, roots_of, stream_of,
+    Block, Commit, Question, Roots, STREAM, Stream, TALL, disk_of, held_of, roots_of, stream_of,
 };
-use super::shelf_tests::{Tally, ask};
-use btr_base::Toward;
+use super::shelf_tests::{FAR, Tally, ask};
+use btr_base::{END, FIRST, Toward};
 use btr_node::{PAGE, decode, spell};
 use btr_shelf::DiskNodes;
 use btr_tree::{NodeFault, Nodes, Root};
@@ -265,6 +265,100 @@ fn no_roots_are_refused(rt: HostRuntime) -> Result<(), Fail> {
         };
         let roots = Roots { new, ..roots };
         assert!(rt; are_refused_by_both(rt.alloc(), &stream.blocks, roots, QUESTIONS, *block)?);
+    }
+    Ok(())
+}
+
+// ---- any page lost
+
+/// The points of three leaves, in blocks 4 to 6, below the root in block 7. Then the second leaf again with one point more, in block 8,
+/// below the root in block 9.
+const SMALL: &[Commit] = &[
+    Commit(&[(0, 1, 100), (FAR, 1, 100), (2 * FAR, 1, 100)], &[]),
+    Commit(&[(FAR + 7, 0, 1)], &[]),
+];
+
+/// A block of `SMALL`, and the one that is named if a page of another stream is in it.
+struct Place(usize, u64);
+
+const PLACES: &[Place] = &[
+    Place(4, 9),
+    Place(5, 7),
+    Place(6, 9),
+    Place(7, 7),
+    Place(8, 9),
+    Place(9, 9),
+];
+
+/// A question of the last version of `SMALL` and the one before it, and the blocks whose pages its walk fetches.
+struct Walk(Question, &'static [usize]);
+
+const WALKS: &[Walk] = &[
+    Walk(Question::Points(FIRST, END), &[4, 6, 8, 9]),
+    Walk(Question::Points(FAR, FAR + 10), &[8, 9]),
+    Walk(Question::Nearest(FAR + 3, Toward::Forward), &[8, 9]),
+    Walk(Question::Nearest(FAR, Toward::Backward), &[4, 9]),
+    Walk(Question::Aggregate(50, FAR + 50), &[4, 8, 9]),
+    Walk(Question::Aggregate(FIRST, END), &[9]),
+    Walk(Question::Aligned(FAR, FAR + 4, 1), &[8, 9]),
+    Walk(Question::Aligned(FIRST, END, 57), &[9]),
+    Walk(Question::Windows(0, FAR + 50, 50), &[4, 8, 9]),
+    Walk(Question::Changes(0), &[5, 7, 8, 9]),
+];
+
+/// Whether a question has the answer of the trees by these blocks, if its walk does not fetch the lost page, or else is refused with the
+/// block that is named.
+fn is_right_or_refused(
+    alloc: Global,
+    stream: &Stream,
+    blocks: &[Block],
+    walk: &Walk,
+    lost: usize,
+    named: u64,
+) -> Result<bool, Fail> {
+    let [_, old, new] = stream.versions.as_slice() else {
+        return Err("three versions".into());
+    };
+    let Walk(question, fetched) = walk;
+    let roots = Roots {
+        old: old.root,
+        new: new.root,
+    };
+    let mut held = held_of(alloc, blocks)?;
+    if fetched.contains(&lost) {
+        return Ok(is_refused(alloc, &mut held, roots, *question, named));
+    }
+    let right = question.of_trees(alloc, old, new)?;
+    Ok(match question.of_pages(alloc, &mut held, roots) {
+        Ok(answered) => answered == right,
+        Err(_) => false,
+    })
+}
+
+/// Fails with the number of the first walk that gives another answer, or names another block, if one page is lost.
+fn are_right_or_refused(
+    alloc: Global,
+    stream: &Stream,
+    lost: usize,
+    what: Content,
+    named: u64,
+) -> Result<(), Fail> {
+    let mut blocks = Vec::from_slice(alloc, &stream.blocks)?;
+    put(&mut blocks, lost, what)?;
+    for (number, walk) in WALKS.iter().enumerate() {
+        if !is_right_or_refused(alloc, stream, &blocks, walk, lost, named)? {
+            return Err(Fail::new(format_args!("block {lost}, walk {number}")));
+        }
+    }
+    Ok(())
+}
+
+#[test]
+fn no_answer_lacks_what_is_in_a_lost_page(rt: HostRuntime) -> Result<(), Fail> {
+    let stream = stream_of(rt.alloc(), SMALL)?;
+    for Place(lost, above) in PLACES {
+        are_right_or_refused(rt.alloc(), &stream, *lost, GONE, *lost as u64)?;
+        are_right_or_refused(rt.alloc(), &stream, *lost, STRANGE, *above)?;
     }
     Ok(())
 }

@@ -14,7 +14,7 @@ use std::thread::{Threads, join};
 // ---- a stream of trees of every shape
 
 /// The start of a slot of the root.
-const FAR: i64 = 144115188075855872;
+pub(crate) const FAR: i64 = 144115188075855872;
 
 /// One 256th of the width of a slot of the root.
 const STRIDE: i64 = 281474976710656;

@@ -6,7 +6,7 @@ ghost use Rattle.btr_tree.specs.Change.{end_of};
 ghost use Rattle.btr_tree.specs.Root.{IsTree};
 ghost use Rattle.btr_tree.specs.NodeSource.{AtEachPlace, AtEachSlots, AreSafeSlots, count_in, UsesSource, RisesUpTo};
 ghost use Rattle.btr_tree.specs.NodeSource.{ForPlace, ForSlots, ForSlot};
-ghost use Rattle.btr_tree.specs.Spots.{AtEachRoot, IsHarmlessFault, IsWalkCause};
+ghost use Rattle.btr_tree.specs.Spots.{AtEachRoot, AtEachPossibleRoot, IsHarmlessFault, IsWalkCause};
 ghost use Rattle.btr_window.specs.RangeEnds.{AddsRange, ends_inside, IsMet, IsSafeSlot};
 
 use crate::inside::is_inside;
@@ -38,18 +38,18 @@ pub fn aggregate<L>(tree: &Tree, range: Range, steps: &mut Steps<L>) -> Agg
 ///
 /// `Failed` is a call that failed. `Damaged` names the root's block if that has no page of a root of the stream which is not
 /// newer than the version; or the block of a slot's child if that has no page; or else the block whose page has a slot with
-/// another span, count, version or stream than the page of its child. It is not returned if the pages are those of a past.
-/// `Want` is out of memory.
+/// another span, count, version or stream than the page of its child. It is not returned if all pages of a past's tree are
+/// there. An `Ok` is the answer for the whole tree, although pages of it may be lost. `Want` is out of memory.
 pub fn aggregate_from<N: Nodes, L>(
     nodes: &mut N,
     root: Root,
     range: Range,
     steps: &mut Steps<L>,
 ) -> Result<Agg, NodeFault>
-    ensures agg { N.is_observable → IfOk result (λ r. AtEachRoot (N.IsPage (N.contents nodes.old)) root (λ h.
+    ensures agg { N.is_observable → IfOk result (λ r. AtEachPossibleRoot (N.IsPage (N.contents nodes.old)) root (λ h.
         r ≡ agg_within range.from range.to (bag h))) }
     ensures sound { N.is_observable → IfErr result (λ e. AtEachRoot (N.IsPage (N.contents nodes.old)) root (λ h. IsHarmlessFault e)) }
-    ensures same { N.is_observable → N.contents nodes.new ≡ N.contents nodes.old }
+    ensures same { N.contents nodes.new ≡ N.contents nodes.old }
     ensures rises { N.faults nodes.old ≤ N.faults nodes.new }
     ensures cause { IfErr result (IsWalkCause N.is_observable root (λ o. N.IsPage (N.contents nodes.old))
         (N.faults nodes.old) (N.faults nodes.new)) }
@@ -83,7 +83,7 @@ fn sum_in_place<S: NodeSource, L>(
     ensures agg { OnOk result (ForPlace (S.IsAt (S.told state.old)) (S.site at) span
         (AddsRange range all.old all.new)) }
     ensures few { OnOk result (all.new.count ≤ all.old.count + S.count (S.site at)) }
-    ensures sound { IfErr result (λ e. AtEachPlace (S.IsAt (S.told state.old)) (S.site at) span (λ h. S.IsHarmless e)) }
+    ensures sound { IfErr result (λ e. AtEachPlace (S.IsThere (S.told state.old)) (S.site at) span (λ h. S.IsHarmless e)) }
     ensures uses { UsesSource S.told S.faults S.IsCaused state.old state.new result }
     ensures bounded { RisesUpTo (1 + span.height * ends_inside span.start (end_of span) range.from range.to) steps.old steps.new }
 {
@@ -116,7 +116,7 @@ fn sum_in_slots<S: NodeSource, L>(
     ensures agg { OnOk result (ForSlots (S.IsAt (S.told state.old)) (S.inner_place slots.now) (S.inner_slot slots.now) span
         (AddsRange range all.old all.new)) }
     ensures few { OnOk result (all.new.count ≤ all.old.count + count_in (S.inner_slot slots.now)) }
-    ensures sound { IfErr result (λ e. AtEachSlots (S.IsAt (S.told state.old)) (S.inner_place slots.now) (S.inner_slot slots.now)
+    ensures sound { IfErr result (λ e. AtEachSlots (S.IsThere (S.told state.old)) (S.inner_place slots.now) (S.inner_slot slots.now)
         span (λ h. S.IsHarmless e)) }
     ensures uses { UsesSource S.told S.faults S.IsCaused state.old state.new result }
     ensures bounded { RisesUpTo (span.height * ends_inside span.start (end_of span) range.from range.to) steps.old steps.new }
@@ -150,7 +150,7 @@ fn sum_in_slot<S: NodeSource, L>(
     ensures agg { OnOk result (ForSlot (S.IsAt (S.told state.old)) (S.inner_place slots.now part.i)
         (S.inner_slot slots.now part.i) part.span (AddsRange range all.old all.new)) }
     ensures few { OnOk result (all.new.count ≤ all.old.count + (S.inner_slot slots.now part.i).agg.count) }
-    ensures sound { IfErr result (λ e. AtEachPlace (S.IsAt (S.told state.old)) (S.inner_place slots.now part.i) part.span
+    ensures sound { IfErr result (λ e. AtEachPlace (S.IsThere (S.told state.old)) (S.inner_place slots.now part.i) part.span
         (λ h. S.IsHarmless e)) }
     ensures uses { UsesSource S.told S.faults S.IsCaused state.old state.new result }
     ensures bounded { RisesUpTo ((part.span.height + 1) * ends_inside part.span.start (end_of part.span) range.from range.to)

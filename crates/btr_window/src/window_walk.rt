@@ -6,7 +6,7 @@ ghost use Rattle.btr_tree.specs.Root.{IsTree};
 ghost use Rattle.btr_tree.specs.Slots.{IsOccupied};
 ghost use Rattle.btr_tree.specs.NodeSource.{AtEachPlace, AtEachSlots, AreSafeSlots, count_in, IfRefused, UsesSource};
 ghost use Rattle.btr_tree.specs.NodeSource.{ForPlace, ForSlots, ForSlot};
-ghost use Rattle.btr_tree.specs.Spots.{AtEachRoot, IsHarmlessFault, IsWalkCause};
+ghost use Rattle.btr_tree.specs.Spots.{AtEachRoot, AtEachPossibleRoot, IsHarmlessFault, IsWalkCause};
 ghost use Rattle.btr_window.specs.Accumulate.{AddsWithin, HaveAtMost, HaveRoom, IsStart, MeetsWindows};
 ghost use Rattle.btr_window.specs.RangeEnds.{IsSafeSlot};
 
@@ -108,8 +108,8 @@ fn cells_of(alloc: Global, tree: &Tree, grid: Grid, range: Range) -> Result<Vec<
 ///
 /// `Failed` is a call that failed. `Damaged` names the root's block if that has no page of a root of the stream which is not
 /// newer than the version; or the block of a slot's child if that has no page; or else the block whose page has a slot with
-/// another span, count, version or stream than the page of its child. It is not returned if the pages are those of a past.
-/// `Want` is out of memory.
+/// another span, count, version or stream than the page of its child. It is not returned if all pages of a past's tree are
+/// there. An `Ok` is the answer for the whole tree, although pages of it may be lost. `Want` is out of memory.
 pub fn aligned_from<N: Nodes>(
     alloc: Global,
     nodes: &mut N,
@@ -118,10 +118,10 @@ pub fn aligned_from<N: Nodes>(
     p: u8,
 ) -> Result<Vec<Cell>, NodeFault>
     requires { p ≤ 62 }
-    ensures cells { N.is_observable → IfOk result (λ v. AtEachRoot (N.IsPage (N.contents nodes.old)) root (λ h.
+    ensures cells { N.is_observable → IfOk result (λ v. AtEachPossibleRoot (N.IsPage (N.contents nodes.old)) root (λ h.
         v.items ≡ aligned_of p range.from range.to (bag h))) }
     ensures sound { N.is_observable → IfErr result (λ e. AtEachRoot (N.IsPage (N.contents nodes.old)) root (λ h. IsHarmlessFault e)) }
-    ensures same { N.is_observable → N.contents nodes.new ≡ N.contents nodes.old }
+    ensures same { N.contents nodes.new ≡ N.contents nodes.old }
     ensures rises { N.faults nodes.old ≤ N.faults nodes.new }
     ensures cause { IfErr result (IsWalkCause N.is_observable root (λ o. N.IsPage (N.contents nodes.old))
         (N.faults nodes.old) (N.faults nodes.new)) }
@@ -140,8 +140,8 @@ pub fn aligned_from<N: Nodes>(
 ///
 /// `Failed` is a call that failed. `Damaged` names the root's block if that has no page of a root of the stream which is not
 /// newer than the version; or the block of a slot's child if that has no page; or else the block whose page has a slot with
-/// another span, count, version or stream than the page of its child. It is not returned if the pages are those of a past.
-/// `Want` is out of memory.
+/// another span, count, version or stream than the page of its child. It is not returned if all pages of a past's tree are
+/// there. An `Ok` is the answer for the whole tree, although pages of it may be lost. `Want` is out of memory.
 pub fn windows_from<N: Nodes>(
     alloc: Global,
     nodes: &mut N,
@@ -151,10 +151,10 @@ pub fn windows_from<N: Nodes>(
 ) -> Result<Vec<Cell>, NodeFault>
     requires some { 1 ≤ width }
     requires most { width ≤ 2 ^ 62 }
-    ensures cells { N.is_observable → IfOk result (λ v. AtEachRoot (N.IsPage (N.contents nodes.old)) root (λ h.
+    ensures cells { N.is_observable → IfOk result (λ v. AtEachPossibleRoot (N.IsPage (N.contents nodes.old)) root (λ h.
         v.items ≡ windows_of width range.from range.to (bag h))) }
     ensures sound { N.is_observable → IfErr result (λ e. AtEachRoot (N.IsPage (N.contents nodes.old)) root (λ h. IsHarmlessFault e)) }
-    ensures same { N.is_observable → N.contents nodes.new ≡ N.contents nodes.old }
+    ensures same { N.contents nodes.new ≡ N.contents nodes.old }
     ensures rises { N.faults nodes.old ≤ N.faults nodes.new }
     ensures cause { IfErr result (IsWalkCause N.is_observable root (λ o. N.IsPage (N.contents nodes.old))
         (N.faults nodes.old) (N.faults nodes.new)) }
@@ -185,10 +185,10 @@ fn cells_from<N: Nodes>(
     requires grid { IsGrid grid.first grid.width }
     requires begins { IsStart grid range.from }
     requires ends { IsStart grid range.to }
-    ensures cells { N.is_observable → IfOk result (λ v. AtEachRoot (N.IsPage (N.contents nodes.old)) root (λ h.
+    ensures cells { N.is_observable → IfOk result (λ v. AtEachPossibleRoot (N.IsPage (N.contents nodes.old)) root (λ h.
         v.items ≡ cells_between grid.first grid.width range.from range.to (bag h))) }
     ensures sound { N.is_observable → IfErr result (λ e. AtEachRoot (N.IsPage (N.contents nodes.old)) root (λ h. IsHarmlessFault e)) }
-    ensures same { N.is_observable → N.contents nodes.new ≡ N.contents nodes.old }
+    ensures same { N.contents nodes.new ≡ N.contents nodes.old }
     ensures rises { N.faults nodes.old ≤ N.faults nodes.new }
     ensures cause { IfErr result (IsWalkCause N.is_observable root (λ o. N.IsPage (N.contents nodes.old))
         (N.faults nodes.old) (N.faults nodes.new)) }
@@ -229,7 +229,7 @@ fn walk_place<S: NodeSource, L>(
     ensures cells { OnOk result (ForPlace (S.IsAt (S.told state.old)) (S.site at) span
         (AddsWithin windows.now cells.old.items cells.new.items)) }
     ensures few { OnOk result (HaveAtMost windows.now.grid cells.old.items cells.new.items (S.count (S.site at))) }
-    ensures sound { IfErr result (IfRefused (λ e. AtEachPlace (S.IsAt (S.told state.old)) (S.site at) span (λ h. S.IsHarmless e))) }
+    ensures sound { IfErr result (IfRefused (λ e. AtEachPlace (S.IsThere (S.told state.old)) (S.site at) span (λ h. S.IsHarmless e))) }
     ensures uses { UsesSource S.told S.faults (λ t a b. IfRefused (S.IsCaused t a b)) state.old state.new result }
 {
     match S::visit(state, span, at, steps) {
@@ -266,7 +266,7 @@ fn walk_slots<S: NodeSource, L>(
     ensures cells { OnOk result (ForSlots (S.IsAt (S.told state.old)) (S.inner_place slots.now) (S.inner_slot slots.now) span
         (AddsWithin windows.now cells.old.items cells.new.items)) }
     ensures few { OnOk result (HaveAtMost windows.now.grid cells.old.items cells.new.items (count_in (S.inner_slot slots.now))) }
-    ensures sound { IfErr result (IfRefused (λ e. AtEachSlots (S.IsAt (S.told state.old)) (S.inner_place slots.now)
+    ensures sound { IfErr result (IfRefused (λ e. AtEachSlots (S.IsThere (S.told state.old)) (S.inner_place slots.now)
         (S.inner_slot slots.now) span (λ h. S.IsHarmless e))) }
     ensures uses { UsesSource S.told S.faults (λ t a b. IfRefused (S.IsCaused t a b)) state.old state.new result }
 {
@@ -307,7 +307,7 @@ fn walk_slot<S: NodeSource, L>(
         (S.inner_slot slots.now part.i) part.span
         (AddsWithin windows.now cells.old.items cells.new.items)) }
     ensures few { OnOk result (HaveAtMost windows.now.grid cells.old.items cells.new.items (S.inner_slot slots.now part.i).agg.count) }
-    ensures sound { IfErr result (IfRefused (λ e. AtEachPlace (S.IsAt (S.told state.old)) (S.inner_place slots.now part.i) part.span
+    ensures sound { IfErr result (IfRefused (λ e. AtEachPlace (S.IsThere (S.told state.old)) (S.inner_place slots.now part.i) part.span
         (λ h. S.IsHarmless e))) }
     ensures uses { UsesSource S.told S.faults (λ t a b. IfRefused (S.IsCaused t a b)) state.old state.new result }
 {

@@ -53,9 +53,9 @@ returns-else-not-is_newer-clause-sound g c =
     let back = c.in-Ok.ensures.uses.same in
     let told = src.told c.args.state.now in
     refused-weaker _ _ c.compare_found-compared.result (λ e f h k was now.
-    let old = root-place (src.IsAt told) span (src.site c.args.old) h is was.holds in
-    let found = c.in-Ok.ensures.found above_root k (root-place (src.IsAt told) span (src.site c.args.new) k is now.holds) in
-    f h k (above_root, subst (λ u. src.IsAt u (src.site c.args.old) span.height span.start above_root h) (sym back) old) (above_root, subst (λ u. IsFoundAt (src.IsAt u) src.leaf_points src.inner_slot src.inner_place span above_root k c.in-Ok.found) (sym back) found)) c.compare_found-compared.ensures.sound
+    let old = root-place (src.IsThere told) span (src.site c.args.old) h is was.holds in
+    let found = c.in-Ok.ensures.there above_root k (root-place (src.IsThere told) span (src.site c.args.new) k is now.holds) in
+    f h k (above_root, subst (λ u. src.IsThere u (src.site c.args.old) span.height span.start above_root h) (sym back) old) (above_root, subst (λ u. IsFoundAt (src.IsThere u) src.leaf_points src.inner_slot src.inner_place span above_root k c.in-Ok.found) (sym back) found)) c.compare_found-compared.ensures.sound
 
 pub returns-else-not-is_newer-clause-newer : goal.returns-else-not-is_newer-clause-newer
 returns-else-not-is_newer-clause-newer g c =

@@ -43,7 +43,7 @@ compare_found-returns-in-Nothing-clause-sound g t c =
     let src = g.S.NodeSource in
     let span = c.args.task.span in
     refused-weaker _ _ c.compare_with_points.result (λ e f h k was is.
-    f h k was (sym (found-nothing src.leaf_points src.inner_slot src.inner_place span c.args.new (src.IsAt (src.told c.args.state.now)) is.0 k c.in-Nothing.is is.1))) c.compare_with_points.ensures.sound
+    f h k was (sym (found-nothing src.leaf_points src.inner_slot src.inner_place span c.args.new (src.IsThere (src.told c.args.state.now)) is.0 k c.in-Nothing.is is.1))) c.compare_with_points.ensures.sound
 
 pub compare_found-returns-in-Leaf-clause-adds : goal.compare_found-returns-in-Leaf-clause-adds
 compare_found-returns-in-Leaf-clause-adds g t c =
@@ -57,7 +57,7 @@ compare_found-returns-in-Leaf-clause-sound g t c =
     let src = g.S.NodeSource in
     let span = c.args.task.span in
     refused-weaker _ _ c.compare_with_points-in-Leaf.result (λ e f h k was is.
-    f h k was (c.points.ensures ∙ (found-leaf src.leaf_points src.inner_slot src.inner_place span c.args.new (src.IsAt (src.told c.args.state.now)) is.0 k c.in-Leaf.version c.in-Leaf.points c.in-Leaf.is is.1).same)) c.compare_with_points-in-Leaf.ensures.sound
+    f h k was (c.points.ensures ∙ (found-leaf src.leaf_points src.inner_slot src.inner_place span c.args.new (src.IsThere (src.told c.args.state.now)) is.0 k c.in-Leaf.version c.in-Leaf.points c.in-Leaf.is is.1).same)) c.compare_with_points-in-Leaf.ensures.sound
 
 pub compare_found-returns-in-Inner-clause-adds : goal.compare_found-returns-in-Inner-clause-adds
 compare_found-returns-in-Inner-clause-adds g t c =
@@ -71,7 +71,7 @@ compare_found-returns-in-Inner-clause-sound g t c =
     let src = g.S.NodeSource in
     let span = c.args.task.span in
     refused-weaker _ _ c.compare_with_slots.result (λ e f h k was is.
-    f h k was (found-inner src.leaf_points src.inner_slot src.inner_place span c.args.new (src.IsAt (src.told c.args.state.now)) is.0 k c.in-Inner.version c.in-Inner.slots c.in-Inner.is is.1).inner) c.compare_with_slots.ensures.sound
+    f h k was (found-inner src.leaf_points src.inner_slot src.inner_place span c.args.new (src.IsThere (src.told c.args.state.now)) is.0 k c.in-Inner.version c.in-Inner.slots c.in-Inner.is is.1).inner) c.compare_with_slots.ensures.sound
 
 pub compare_found-returns-in-Inner-clause-newer : goal.compare_found-returns-in-Inner-clause-newer
 compare_found-returns-in-Inner-clause-newer g t c =
@@ -120,7 +120,7 @@ compare_with_slots-returns-in-Nothing-clause-sound g t c =
     let told = src.told c.args.state.now in
     let back = c.in-Ok.ensures.uses.same in
     refused-weaker _ _ c.compare_points_with_slots.result (λ e f h k was slots.
-    f k (subst (λ u. AreSlotsAt (src.IsAt u) (src.inner_place c.args.new.now) (src.inner_slot c.args.new.now) span k) (sym back) slots)) c.compare_points_with_slots.ensures.sound
+    f k (subst (λ u. AreSlotsAt (src.IsThere u) (src.inner_place c.args.new.now) (src.inner_slot c.args.new.now) span k) (sym back) slots)) c.compare_points_with_slots.ensures.sound
 
 pub compare_with_slots-returns-in-Nothing-clause-newer : goal.compare_with_slots-returns-in-Nothing-clause-newer
 compare_with_slots-returns-in-Nothing-clause-newer g t c =
@@ -150,7 +150,7 @@ compare_with_slots-returns-in-Leaf-clause-sound g t c =
     let told = src.told c.args.state.now in
     let back = c.in-Ok.ensures.uses.same in
     refused-weaker _ _ c.compare_points_with_slots-in-Leaf.result (λ e f h k was slots.
-    f k (subst (λ u. AreSlotsAt (src.IsAt u) (src.inner_place c.args.new.now) (src.inner_slot c.args.new.now) span k) (sym back) slots)) c.compare_points_with_slots-in-Leaf.ensures.sound
+    f k (subst (λ u. AreSlotsAt (src.IsThere u) (src.inner_place c.args.new.now) (src.inner_slot c.args.new.now) span k) (sym back) slots)) c.compare_points_with_slots-in-Leaf.ensures.sound
 
 pub compare_with_slots-returns-in-Leaf-clause-newer : goal.compare_with_slots-returns-in-Leaf-clause-newer
 compare_with_slots-returns-in-Leaf-clause-newer g t c =
@@ -180,7 +180,7 @@ compare_with_slots-returns-in-Inner-clause-sound g t c =
     let told = src.told c.args.state.now in
     let back = c.in-Ok.ensures.uses.same in
     refused-weaker _ _ c.compare_slots.result (λ e f h k was slots.
-    f h k (subst (λ u. AreSlotsAt (src.IsAt u) (src.inner_place c.in-Inner.slots) (src.inner_slot c.in-Inner.slots) span h) (sym back) (found-inner src.leaf_points src.inner_slot src.inner_place span c.in-Ok.found (src.IsAt told) was.0 h c.in-Inner.version c.in-Inner.slots c.in-Inner.is (c.in-Ok.ensures.found was.0 h was.1)).inner) (subst (λ u. AreSlotsAt (src.IsAt u) (src.inner_place c.args.new.now) (src.inner_slot c.args.new.now) span k) (sym back) slots)) c.compare_slots.ensures.sound
+    f h k (subst (λ u. AreSlotsAt (src.IsThere u) (src.inner_place c.in-Inner.slots) (src.inner_slot c.in-Inner.slots) span h) (sym back) (found-inner src.leaf_points src.inner_slot src.inner_place span c.in-Ok.found (src.IsThere told) was.0 h c.in-Inner.version c.in-Inner.slots c.in-Inner.is (c.in-Ok.ensures.there was.0 h was.1)).inner) (subst (λ u. AreSlotsAt (src.IsThere u) (src.inner_place c.args.new.now) (src.inner_slot c.args.new.now) span k) (sym back) slots)) c.compare_slots.ensures.sound
 
 pub compare_with_slots-returns-in-Inner-clause-newer : goal.compare_with_slots-returns-in-Inner-clause-newer
 compare_with_slots-returns-in-Inner-clause-newer g t c =
@@ -232,7 +232,7 @@ pub compare_slot-returns-in-Err-clause-newer : goal.compare_slot-returns-in-Err-
 compare_slot-returns-in-Err-clause-newer g t c =
     let src = g.S.NodeSource in
     let counts = c.in-Err.ensures.counts in
-    slot-visited (src.IsAt (src.told c.args.state.now)) c.args.task c.args.new.version c.args.new.count (src.site c.args.new.place) c.args.steps.now c.visit.new.steps (omega (arith, c.if-new-eq0.false)) (omega (arith, c.requires.newer)) counts.never_falls counts.at_most
+    slot-visited (src.IsAt (src.told c.args.state.now)) c.args.task c.args.new.version c.args.new.count (src.site c.args.new.place) c.args.steps.now c.visit.new.steps (omega (arith, c.if-new-eq0.false)) (omega (arith, c.requires.new.newer)) counts.never_falls counts.at_most
 
 pub compare_slot-compare_found-requires : goal.compare_slot-compare_found-requires
 compare_slot-compare_found-requires g t c κs o =
@@ -260,7 +260,7 @@ compare_slot-returns-in-Ok-clause-sound g t c =
     let told = src.told c.args.state.now in
     let back = c.in-Ok.ensures.uses.same in
     refused-weaker _ _ c.compare_found.result (λ e f h k was slot.
-    f h k (subst (λ u. IsPlace (src.site c.args.old) (src.IsAt u) span h) (sym back) was) (is_inner slot.above slot.begin, subst (λ u. IsFoundAt (src.IsAt u) src.leaf_points src.inner_slot src.inner_place span (is_inner slot.above slot.begin) k c.in-Ok.found) (sym back) (c.in-Ok.ensures.found (is_inner slot.above slot.begin) k slot.holds))) c.compare_found.ensures.sound
+    f h k (subst (λ u. IsPlace (src.site c.args.old) (src.IsThere u) span h) (sym back) was) (is_inner slot.above slot.begin, subst (λ u. IsFoundAt (src.IsThere u) src.leaf_points src.inner_slot src.inner_place span (is_inner slot.above slot.begin) k c.in-Ok.found) (sym back) (c.in-Ok.ensures.there (is_inner slot.above slot.begin) k slot.holds))) c.compare_found.ensures.sound
 
 pub compare_slot-returns-in-Ok-clause-newer : goal.compare_slot-returns-in-Ok-clause-newer
 compare_slot-returns-in-Ok-clause-newer g t c =
@@ -270,7 +270,7 @@ compare_slot-returns-in-Ok-clause-newer g t c =
     let back = c.in-Ok.ensures.uses.same in
     let counts = c.in-Ok.ensures.counts in
     let below = c.compare_found.ensures.newer in
-    slot-walked (src.IsAt told) c.args.task c.args.new.version c.args.new.count (src.site c.args.new.place) c.args.steps.now c.visit.new.steps c.compare_found.new.steps (omega (arith, c.if-new-eq0.false)) (omega (arith, c.requires.newer)) counts.never_falls counts.at_most below.never_falls (λ k slot. below.bounded k (is_inner slot.above slot.begin, subst (λ u. IsFoundAt (src.IsAt u) src.leaf_points src.inner_slot src.inner_place span (is_inner slot.above slot.begin) k c.in-Ok.found) (sym back) (c.in-Ok.ensures.found (is_inner slot.above slot.begin) k slot.holds)))
+    slot-walked (src.IsAt told) c.args.task c.args.new.version c.args.new.count (src.site c.args.new.place) c.args.steps.now c.visit.new.steps c.compare_found.new.steps (omega (arith, c.if-new-eq0.false)) (omega (arith, c.requires.new.newer)) counts.never_falls counts.at_most below.never_falls (λ k slot. below.bounded k (is_inner slot.above slot.begin, subst (λ u. IsFoundAt (src.IsAt u) src.leaf_points src.inner_slot src.inner_place span (is_inner slot.above slot.begin) k c.in-Ok.found) (sym back) (c.in-Ok.ensures.found (is_inner slot.above slot.begin) k slot.holds)))
 
 pub compare_slot-returns-in-Ok-clause-older : goal.compare_slot-returns-in-Ok-clause-older
 compare_slot-returns-in-Ok-clause-older g t c =
@@ -318,7 +318,7 @@ compare_slots-compare_slot-requires g t c κs o =
     let before = subst (λ u. src.IsSafe u (src.site c.place-place.result) part.height part.start) (sym same) (subst (λ s. src.IsSafe told s part.height part.start) (sym c.place-place.ensures) first) in
     let here = subst (λ u. src.IsSafe u (src.site c.newer_slot-slot.result.place) part.height part.start) (sym same) (subst (λ s. src.IsSafe told s part.height part.start) (sym c.newer_slot-slot.ensures.place) second) in
     let inside = slot-in_domain span c.requires.old.below i part c.requires.task.1 c.requires.old.above number c.slot.ensures in
-    (omega arith, (o.0, (o.1.0, (o.1.1.0, (o.1.1.1.0, (o.1.1.1.1.0, (o.1.1.1.1.1.0, (o.1.1.1.1.1.1.0, (o.1.1.1.1.1.1.1, ((c.requires.task.0, inside), (before, (here, omega (arith, c.if-slot-task.false)))))))))))))
+    (omega arith, (o.0, (o.1.0, (o.1.1.0, (o.1.1.1.0, (o.1.1.1.1.0, (o.1.1.1.1.1.0, (o.1.1.1.1.1.1.0, (o.1.1.1.1.1.1.1, ((c.requires.task.0, inside), (before, record { safe = here; newer = omega (arith, c.if-slot-task.false) })))))))))))
 
 pub compare_slots-loop-i-preserved : goal.compare_slots-loop-i-preserved
 unfolding slots-slot
@@ -439,10 +439,10 @@ compare_slots-returns-in_err-compare_slot-clause-sound g t c =
     let low : i < 64 = omega arith in
     let before = c.loop-i.invariant in
     let read = c.newer_slot-slot.ensures in
-    let is_old : (h : Past) → AreSlotsAt (src.IsAt told) (src.inner_place old) (src.inner_slot old) span h → IsPlace (src.site c.place-place.result) (src.IsAt at) part h = λ h slots.
-    slots-place (src.IsAt at) (src.inner_place old) (src.inner_slot old) span h i part (src.site c.place-place.result) (subst (λ u. AreSlotsAt (src.IsAt u) (src.inner_place old) (src.inner_slot old) span h) (sym before.same) slots) low c.slot.ensures c.place-place.ensures in
-    let is_slot = λ (k : Past) (slots : AreSlotsAt (src.IsAt told) (src.inner_place new) (src.inner_slot new) span k).
-    slots-slot (src.IsAt at) (src.inner_place new) (src.inner_slot new) span k i part c.newer_slot-slot.result.version c.newer_slot-slot.result.count (src.site c.newer_slot-slot.result.place) (subst (λ u. AreSlotsAt (src.IsAt u) (src.inner_place new) (src.inner_slot new) span k) (sym before.same) slots) low c.slot.ensures read.version read.count read.place in
+    let is_old : (h : Past) → AreSlotsAt (src.IsThere told) (src.inner_place old) (src.inner_slot old) span h → IsPlace (src.site c.place-place.result) (src.IsThere at) part h = λ h slots.
+    slots-place (src.IsThere at) (src.inner_place old) (src.inner_slot old) span h i part (src.site c.place-place.result) (subst (λ u. AreSlotsAt (src.IsThere u) (src.inner_place old) (src.inner_slot old) span h) (sym before.same) slots) low c.slot.ensures c.place-place.ensures in
+    let is_slot = λ (k : Past) (slots : AreSlotsAt (src.IsThere told) (src.inner_place new) (src.inner_slot new) span k).
+    slots-slot (src.IsThere at) (src.inner_place new) (src.inner_slot new) span k i part c.newer_slot-slot.result.version c.newer_slot-slot.result.count (src.site c.newer_slot-slot.result.place) (subst (λ u. AreSlotsAt (src.IsThere u) (src.inner_place new) (src.inner_slot new) span k) (sym before.same) slots) low c.slot.ensures read.version read.count read.place in
     let p = err_from_is_err_and c.from_residual.result c.from_residual.ensures.1 in
     rw (p.1, p.2) (refused-weaker {A = Unit {0}} _ _ (Err c.in_err-compare_slot.field-0.0) (λ e f h k was slots. f h k (is_old h was) (is_slot k slots)) c.in_err-compare_slot.ensures.sound)
 

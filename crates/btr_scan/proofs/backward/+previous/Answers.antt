@@ -61,7 +61,7 @@ previous_in_slots-returns-in-None-clause-point g t c =
 
 pub previous_in_slots-returns-in-None-clause-sound : goal.previous_in_slots-returns-in-None-clause-sound
 previous_in_slots-returns-in-None-clause-sound g t c =
-    IfErr-weaker c.last_in_slots.result _ _ (λ e harmless h at. harmless h (slots-same g.S.NodeSource.IsAt _ _ _ _ c.args.span h c.in_ok-point.ensures.uses.same at)) c.last_in_slots.ensures.sound
+    IfErr-weaker c.last_in_slots.result _ _ (λ e harmless h at. harmless h (slots-same g.S.NodeSource.IsThere _ _ _ _ c.args.span h c.in_ok-point.ensures.uses.same at)) c.last_in_slots.ensures.sound
 
 pub previous_in_slots-returns-in-None-clause-none : goal.previous_in_slots-returns-in-None-clause-none
 previous_in_slots-returns-in-None-clause-none g t c =

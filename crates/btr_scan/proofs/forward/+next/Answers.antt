@@ -59,4 +59,4 @@ next_in_slots-returns-in-None-clause-point g t c =
 
 pub next_in_slots-returns-in-None-clause-sound : goal.next_in_slots-returns-in-None-clause-sound
 next_in_slots-returns-in-None-clause-sound g t c =
-    IfErr-weaker c.first_in_slots.result _ _ (λ e harmless h at. harmless h (slots-same g.S.NodeSource.IsAt _ _ _ _ c.args.span h c.in_ok-point.ensures.uses.same at)) c.first_in_slots.ensures.sound
+    IfErr-weaker c.first_in_slots.result _ _ (λ e harmless h at. harmless h (slots-same g.S.NodeSource.IsThere _ _ _ _ c.args.span h c.in_ok-point.ensures.uses.same at)) c.first_in_slots.ensures.sound

@@ -11,9 +11,7 @@ use Rattle.btr_tree.proofs.RootLemmas.{root-points}
 use Rattle.btr_scan.proofs.nearest_walk.nearest_from.Goals as goal
 
 pub returns-in_err-at-clause-same : goal.returns-in_err-at-clause-same
-returns-in_err-at-clause-same g c o =
-    let nodes = g.N.Nodes in
-    ap (λ (t : nodes.is_observable → nodes.Contents). t o) c.in_err-at.ensures.uses.same
+returns-in_err-at-clause-same g c = c.in_err-at.ensures.uses.same
 
 pub returns-in_err-at-clause-cause : goal.returns-in_err-at-clause-cause
 returns-in_err-at-clause-cause g c =
@@ -27,23 +25,21 @@ pub returns-clause-point : goal.returns-clause-point
 returns-clause-point g c o =
     let nodes = g.N.Nodes in
     let part = c.root_span.result in
-    let same = ap (λ (t : nodes.is_observable → nodes.Contents). t o) c.in_ok-at.ensures.uses.same in
+    let same = c.in_ok-at.ensures.uses.same in
     IfOk-weaker c.nearest_in_place.result _ _ (λ r said h is.
     said above_root h (o, rw (c.root_span.ensures, same) (c.in_ok-at.ensures.at o h is))
     ∙ ap (λ t. nearest_in c.args.toward t (points_of part.height part.start (bag h))) (to_z-of_z w64 c.args.time c.ranges.time)
     ∙ ap (λ (u : SpanValue). nearest_in c.args.toward c.args.time (points_of u.height u.start (bag h))) c.root_span.ensures
-    ∙ ap (λ (b : List Point). nearest_in c.args.toward c.args.time b) (root-points (bag h) is.times)) c.nearest_in_place.ensures.point
+    ∙ ap (λ (b : List Point). nearest_in c.args.toward c.args.time b) (root-points (bag h) is.is.times)) c.nearest_in_place.ensures.point
 
 pub returns-clause-sound : goal.returns-clause-sound
 returns-clause-sound g c o =
     let nodes = g.N.Nodes in
-    let same = ap (λ (t : nodes.is_observable → nodes.Contents). t o) c.in_ok-at.ensures.uses.same in
-    IfErr-weaker c.nearest_in_place.result _ _ (λ e said h is. said above_root h (o, rw (c.root_span.ensures, same) (c.in_ok-at.ensures.at o h is))) c.nearest_in_place.ensures.sound
+    let same = c.in_ok-at.ensures.uses.same in
+    IfErr-weaker c.nearest_in_place.result _ _ (λ e said h is. said above_root h (o, rw (c.root_span.ensures, same) (c.in_ok-at.ensures.there o h is))) c.nearest_in_place.ensures.sound
 
 pub returns-clause-same : goal.returns-clause-same
-returns-clause-same g c o =
-    let nodes = g.N.Nodes in
-    ap (λ (t : nodes.is_observable → nodes.Contents). t o) (c.nearest_in_place.ensures.uses.same ∙ c.in_ok-at.ensures.uses.same)
+returns-clause-same g c = c.nearest_in_place.ensures.uses.same ∙ c.in_ok-at.ensures.uses.same
 
 pub returns-clause-cause : goal.returns-clause-cause
 returns-clause-cause g c =

@@ -11,15 +11,13 @@ use Rattle.btr_tree.specs.History.{bag}
 use Rattle.btr_tree.specs.Nodes.{points_of, above_root}
 use Rattle.btr_tree.specs.NodeSource.{IfRefused, AtEachPlace}
 use Rattle.btr_tree.specs.declared.fetch.NodeFault.{NodeFault}
-use Rattle.btr_tree.specs.Spots.{IsFetchCause, IsFetchedAt, IsHarmlessFault}
+use Rattle.btr_tree.specs.Spots.{StandsIn, IsFetchCause, IsFetchedAt, IsHarmlessFault}
 use Rattle.btr_tree.proofs.FromLemmas.{uses-walk}
 use Rattle.btr_tree.proofs.RootLemmas.{end-root, root-points}
 use Rattle.btr_scan.proofs.range_walk.range_from.Goals as goal
 
 pub returns-in_err-at-clause-same : goal.returns-in_err-at-clause-same
-returns-in_err-at-clause-same g c o =
-    let nodes = g.N.Nodes in
-    ap (λ (t : nodes.is_observable → nodes.Contents). t o) c.in_err-at.ensures.uses.same
+returns-in_err-at-clause-same g c = c.in_err-at.ensures.uses.same
 
 pub returns-in_err-at-clause-cause : goal.returns-in_err-at-clause-cause
 returns-in_err-at-clause-cause g c =
@@ -46,32 +44,26 @@ returns-in-Ok-clause-rows g c o h is =
     let nodes = g.N.Nodes in
     let range = c.args.range in
     let part = c.root_span.result in
-    let same = ap (λ (t : nodes.is_observable → nodes.Contents). t o) c.in_ok-at.ensures.uses.same in
+    let same = c.in_ok-at.ensures.uses.same in
     c.in-Ok.ensures.rows above_root h (o, rw (c.root_span.ensures, same) (c.in_ok-at.ensures.at o h is))
     ∙ ap (λ old. old ++ within range.from range.to (points_of part.height part.start (bag h))) c.new-rows.ensures.items
     ∙ ap (λ (u : SpanValue). within range.from range.to (points_of u.height u.start (bag h))) c.root_span.ensures
-    ∙ ap (within range.from range.to) (root-points (bag h) is.times)
+    ∙ ap (within range.from range.to) (root-points (bag h) is.is.times)
 
 pub returns-in-Ok-clause-same : goal.returns-in-Ok-clause-same
-returns-in-Ok-clause-same g c o =
-    let nodes = g.N.Nodes in
-    ap (λ (t : nodes.is_observable → nodes.Contents). t o) (c.in-Ok.ensures.uses.same ∙ c.in_ok-at.ensures.uses.same)
+returns-in-Ok-clause-same g c = c.in-Ok.ensures.uses.same ∙ c.in_ok-at.ensures.uses.same
 
 pub returns-in-Err-Want-clause-same : goal.returns-in-Err-Want-clause-same
-returns-in-Err-Want-clause-same g c o =
-    let nodes = g.N.Nodes in
-    ap (λ (t : nodes.is_observable → nodes.Contents). t o) (c.in-Err-Want.ensures.uses.same ∙ c.in_ok-at.ensures.uses.same)
+returns-in-Err-Want-clause-same g c = c.in-Err-Want.ensures.uses.same ∙ c.in_ok-at.ensures.uses.same
 
 pub returns-clause-same : goal.returns-clause-same
-returns-clause-same g c o =
-    let nodes = g.N.Nodes in
-    ap (λ (t : nodes.is_observable → nodes.Contents). t o) (c.in-Err-Refused.ensures.uses.same ∙ c.in_ok-at.ensures.uses.same)
+returns-clause-same g c = c.in-Err-Refused.ensures.uses.same ∙ c.in_ok-at.ensures.uses.same
 
 pub returns-clause-sound : goal.returns-clause-sound
 returns-clause-sound g c o h is =
     let nodes = g.N.Nodes in
-    let same = ap (λ (t : nodes.is_observable → nodes.Contents). t o) c.in_ok-at.ensures.uses.same in
-    subst (IfRefused (λ e. AtEachPlace (IsFetchedAt nodes.is_observable (λ x. nodes.IsPage (nodes.contents c.find_root.new.nodes))) c.in_ok-at.at c.root_span.result (λ h. IsHarmlessFault e))) c.in-Err-Refused.field-0-is c.in-Err-Refused.ensures.sound above_root h (o, rw (c.root_span.ensures, same) (c.in_ok-at.ensures.at o h is))
+    let same = c.in_ok-at.ensures.uses.same in
+    subst (IfRefused (λ e. AtEachPlace (IsFetchedAt nodes.is_observable (λ x. StandsIn (nodes.IsPage (nodes.contents c.find_root.new.nodes)))) c.in_ok-at.at c.root_span.result (λ h. IsHarmlessFault e))) c.in-Err-Refused.field-0-is c.in-Err-Refused.ensures.sound above_root h (o, rw (c.root_span.ensures, same) (c.in_ok-at.ensures.there o h is))
 
 pub returns-clause-cause : goal.returns-clause-cause
 returns-clause-cause g c =

@@ -58,7 +58,7 @@ append_in_slots-returns-in_err-append_in_place-clause-sound g t c =
     let found = c.in-Some.ensures in
     let p = err_from_is_err_and c.from_residual.result c.from_residual.ensures.1 in
     refused-passed _ _ c.from_residual.result c.in_err-append_in_place.field-0.0 (rw (← p.2) p.1) (λ e harmless h at.
-    harmless (is_inner (suc at.below) c.args.span.start) h (held-later source.IsAt _ _ _ _ c.args.span c.slot.result h c.in-Some.i _ c.loop-i.invariant.same at found.1 c.slot.ensures c.place.ensures)) c.in_err-append_in_place.ensures.sound
+    harmless (is_inner (suc at.below) c.args.span.start) h (held-later source.IsThere _ _ _ _ c.args.span c.slot.result h c.in-Some.i _ c.loop-i.invariant.same at found.1 c.slot.ensures c.place.ensures)) c.in_err-append_in_place.ensures.sound
 
 pub append_in_slots-returns-in_err-append_in_place-clause-uses : goal.append_in_slots-returns-in_err-append_in_place-clause-uses
 append_in_slots-returns-in_err-append_in_place-clause-uses g t c =

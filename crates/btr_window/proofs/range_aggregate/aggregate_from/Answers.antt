@@ -15,9 +15,7 @@ use Rattle.btr_tree.proofs.RootLemmas.{end-root, root-points}
 use Rattle.btr_window.proofs.range_aggregate.aggregate_from.Goals as goal
 
 pub returns-in_err-at-clause-same : goal.returns-in_err-at-clause-same
-returns-in_err-at-clause-same g c o =
-    let nodes = g.N.Nodes in
-    ap (λ (t : nodes.is_observable → nodes.Contents). t o) c.in_err-at.ensures.uses.same
+returns-in_err-at-clause-same g c = c.in_err-at.ensures.uses.same
 
 pub returns-in_err-at-clause-cause : goal.returns-in_err-at-clause-cause
 returns-in_err-at-clause-cause g c =
@@ -49,28 +47,24 @@ returns-in-Ok-clause-agg g c o h is =
     let nodes = g.N.Nodes in
     let range = c.args.range in
     let part = c.root_span.result in
-    let same = ap (λ (t : nodes.is_observable → nodes.Contents). t o) c.in_ok-at.ensures.uses.same in
+    let same = c.in_ok-at.ensures.uses.same in
     c.in-Ok.ensures.agg above_root h (o, rw (c.root_span.ensures, same) (c.in_ok-at.ensures.at o h is))
     ∙ ap (λ a. joined a (agg_within range.from range.to (points_in part (bag h)))) c.none-all.ensures
     ∙ joined-none (agg_within range.from range.to (points_in part (bag h)))
     ∙ ap (λ (s : SpanValue). agg_within range.from range.to (points_of s.height s.start (bag h))) c.root_span.ensures
-    ∙ ap (agg_within range.from range.to) (root-points (bag h) is.times)
+    ∙ ap (agg_within range.from range.to) (root-points (bag h) is.is.times)
 
 pub returns-in-Ok-clause-same : goal.returns-in-Ok-clause-same
-returns-in-Ok-clause-same g c o =
-    let nodes = g.N.Nodes in
-    ap (λ (t : nodes.is_observable → nodes.Contents). t o) (c.in-Ok.ensures.uses.same ∙ c.in_ok-at.ensures.uses.same)
+returns-in-Ok-clause-same g c = c.in-Ok.ensures.uses.same ∙ c.in_ok-at.ensures.uses.same
 
 pub returns-in-Err-clause-same : goal.returns-in-Err-clause-same
-returns-in-Err-clause-same g c o =
-    let nodes = g.N.Nodes in
-    ap (λ (t : nodes.is_observable → nodes.Contents). t o) (c.in-Err.ensures.uses.same ∙ c.in_ok-at.ensures.uses.same)
+returns-in-Err-clause-same g c = c.in-Err.ensures.uses.same ∙ c.in_ok-at.ensures.uses.same
 
 pub returns-in-Err-clause-sound : goal.returns-in-Err-clause-sound
 returns-in-Err-clause-sound g c o h is =
     let nodes = g.N.Nodes in
-    let same = ap (λ (t : nodes.is_observable → nodes.Contents). t o) c.in_ok-at.ensures.uses.same in
-    c.in-Err.ensures.sound above_root h (o, rw (c.root_span.ensures, same) (c.in_ok-at.ensures.at o h is))
+    let same = c.in_ok-at.ensures.uses.same in
+    c.in-Err.ensures.sound above_root h (o, rw (c.root_span.ensures, same) (c.in_ok-at.ensures.there o h is))
 
 pub returns-in-Err-clause-cause : goal.returns-in-Err-clause-cause
 returns-in-Err-clause-cause g c =

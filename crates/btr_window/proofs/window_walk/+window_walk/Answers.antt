@@ -154,9 +154,9 @@ walk_slots-returns-in_err-walk_slot-clause-sound g t c =
     let slots = src.inner_slot c.args.slots.now in
     let places = src.inner_place c.args.slots.now in
     let p = err_from_is_err_and c.from_residual.result c.from_residual.ensures.1 in
-    rw (p.1, p.2) (refused-weaker (λ e. AtEachPlace (src.IsAt (src.told c.loop-i.state)) (places i) part (λ h. src.IsHarmless e)) (λ e. AtEachSlots (src.IsAt (src.told c.args.state.now)) places slots span (λ h. src.IsHarmless e)) _ (λ e each h at.
-    let slot = place-at (src.IsAt (src.told c.args.state.now)) places slots span part h i at c.in-Some.ensures.1 c.slot.ensures in
-    each (is_inner (suc at.below) span.start) h (subst (λ t. src.IsAt t (places i) part.height part.start (is_inner (suc at.below) span.start) h) (sym c.loop-i.invariant.same) slot.holds)) c.in_err-walk_slot.ensures.sound)
+    rw (p.1, p.2) (refused-weaker (λ e. AtEachPlace (src.IsThere (src.told c.loop-i.state)) (places i) part (λ h. src.IsHarmless e)) (λ e. AtEachSlots (src.IsThere (src.told c.args.state.now)) places slots span (λ h. src.IsHarmless e)) _ (λ e each h at.
+    let slot = place-at (src.IsThere (src.told c.args.state.now)) places slots span part h i at c.in-Some.ensures.1 c.slot.ensures in
+    each (is_inner (suc at.below) span.start) h (subst (λ t. src.IsThere t (places i) part.height part.start (is_inner (suc at.below) span.start) h) (sym c.loop-i.invariant.same) slot.holds)) c.in_err-walk_slot.ensures.sound)
 
 pub walk_slots-returns-in_err-walk_slot-clause-uses : goal.walk_slots-returns-in_err-walk_slot-clause-uses
 walk_slots-returns-in_err-walk_slot-clause-uses g t c =

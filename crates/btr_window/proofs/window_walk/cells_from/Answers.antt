@@ -11,7 +11,7 @@ use Rattle.btr_tree.specs.Nodes.{points_of, above_root}
 use Rattle.btr_tree.specs.Change.{end_of}
 use Rattle.btr_tree.specs.NodeSource.{IfRefused, AtEachPlace}
 use Rattle.btr_tree.specs.declared.fetch.NodeFault.{NodeFault}
-use Rattle.btr_tree.specs.Spots.{IsFetchCause, IsFetchedAt, IsHarmlessFault}
+use Rattle.btr_tree.specs.Spots.{StandsIn, IsFetchCause, IsFetchedAt, IsHarmlessFault}
 use Rattle.btr_tree.proofs.FromLemmas.{uses-walk}
 use Rattle.btr_tree.proofs.RootLemmas.{end-root, root-points}
 use Rattle.btr_tree.proofs.VersionLemmas.{bag-in_order}
@@ -20,9 +20,7 @@ use Rattle.btr_window.proofs.Cells.{cells-are, cells-as}
 use Rattle.btr_window.proofs.window_walk.cells_from.Goals as goal
 
 pub returns-in_err-at-clause-same : goal.returns-in_err-at-clause-same
-returns-in_err-at-clause-same g c o =
-    let nodes = g.N.Nodes in
-    ap (λ (t : nodes.is_observable → nodes.Contents). t o) c.in_err-at.ensures.uses.same
+returns-in_err-at-clause-same g c = c.in_err-at.ensures.uses.same
 
 pub returns-in_err-at-clause-cause : goal.returns-in_err-at-clause-cause
 returns-in_err-at-clause-cause g c =
@@ -53,7 +51,7 @@ walk_place-requires-clause-meets g c =
 pub returns-in-Ok-clause-cells : goal.returns-in-Ok-clause-cells
 returns-in-Ok-clause-cells g c o h is =
     let nodes = g.N.Nodes in
-    let same = ap (λ (t : nodes.is_observable → nodes.Contents). t o) c.in_ok-at.ensures.uses.same in
+    let same = c.in_ok-at.ensures.uses.same in
     let grid = c.args.grid in
     let range = c.args.range in
     let part = c.root_span.result in
@@ -63,29 +61,23 @@ returns-in-Ok-clause-cells g c o h is =
     c.in-Ok.ensures.cells above_root h (o, rw (c.root_span.ensures, same) (c.in_ok-at.ensures.at o h is))
     ∙ ap (λ old. add_points grid.first grid.width old (within range.from range.to (points_of part.height part.start (bag h)))) c.new-cells.ensures.items
     ∙ ap (λ (s : SpanValue). add_points grid.first grid.width [] (within range.from range.to (points_of s.height s.start (bag h)))) c.root_span.ensures
-    ∙ ap (λ b. add_points grid.first grid.width [] (within range.from range.to b)) (root-points (bag h) is.times)
+    ∙ ap (λ b. add_points grid.first grid.width [] (within range.from range.to b)) (root-points (bag h) is.is.times)
     ∙ bounds
 
 pub returns-in-Ok-clause-same : goal.returns-in-Ok-clause-same
-returns-in-Ok-clause-same g c o =
-    let nodes = g.N.Nodes in
-    ap (λ (t : nodes.is_observable → nodes.Contents). t o) (c.in-Ok.ensures.uses.same ∙ c.in_ok-at.ensures.uses.same)
+returns-in-Ok-clause-same g c = c.in-Ok.ensures.uses.same ∙ c.in_ok-at.ensures.uses.same
 
 pub returns-in-Err-Want-clause-same : goal.returns-in-Err-Want-clause-same
-returns-in-Err-Want-clause-same g c o =
-    let nodes = g.N.Nodes in
-    ap (λ (t : nodes.is_observable → nodes.Contents). t o) (c.in-Err-Want.ensures.uses.same ∙ c.in_ok-at.ensures.uses.same)
+returns-in-Err-Want-clause-same g c = c.in-Err-Want.ensures.uses.same ∙ c.in_ok-at.ensures.uses.same
 
 pub returns-clause-same : goal.returns-clause-same
-returns-clause-same g c o =
-    let nodes = g.N.Nodes in
-    ap (λ (t : nodes.is_observable → nodes.Contents). t o) (c.in-Err-Refused.ensures.uses.same ∙ c.in_ok-at.ensures.uses.same)
+returns-clause-same g c = c.in-Err-Refused.ensures.uses.same ∙ c.in_ok-at.ensures.uses.same
 
 pub returns-clause-sound : goal.returns-clause-sound
 returns-clause-sound g c o h is =
     let nodes = g.N.Nodes in
-    let same = ap (λ (t : nodes.is_observable → nodes.Contents). t o) c.in_ok-at.ensures.uses.same in
-    subst (IfRefused (λ e. AtEachPlace (IsFetchedAt nodes.is_observable (λ x. nodes.IsPage (nodes.contents c.find_root.new.nodes))) c.in_ok-at.at c.root_span.result (λ h. IsHarmlessFault e))) c.in-Err-Refused.field-0-is c.in-Err-Refused.ensures.sound above_root h (o, rw (c.root_span.ensures, same) (c.in_ok-at.ensures.at o h is))
+    let same = c.in_ok-at.ensures.uses.same in
+    subst (IfRefused (λ e. AtEachPlace (IsFetchedAt nodes.is_observable (λ x. StandsIn (nodes.IsPage (nodes.contents c.find_root.new.nodes)))) c.in_ok-at.at c.root_span.result (λ h. IsHarmlessFault e))) c.in-Err-Refused.field-0-is c.in-Err-Refused.ensures.sound above_root h (o, rw (c.root_span.ensures, same) (c.in_ok-at.ensures.there o h is))
 
 pub returns-clause-cause : goal.returns-clause-cause
 returns-clause-cause g c =
