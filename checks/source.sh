@@ -18,6 +18,7 @@ expect 'types with Label stand in these files alone' "$(lines_with '\bimpl\b.*\b
     'crates/btr_distil/src/changed.rt impl Label for InputWalk {}
 crates/btr_distil/src/split_times.rt impl Label for CountWalk {}
 crates/btr_open/src/loading.rt impl Label for OpenWalk {}
+crates/btr_open/src/shelf_rows.rt impl Label for ShelfWalk {}
 crates/btr_scan/src/range_walk.rt impl Label for RangeWalk {}
 crates/btr_streams/src/answering.rt impl Label for AnswerWalk {}
 crates/btr_streams/src/next_tree.rt impl Label for StageWalk {}
@@ -28,6 +29,7 @@ expect 'no other file names Label' "$(lines_with '\bLabel\b' | cut -d ' ' -f 1 |
 crates/btr_distil/src/changed.rt
 crates/btr_distil/src/split_times.rt
 crates/btr_open/src/loading.rt
+crates/btr_open/src/shelf_rows.rt
 crates/btr_scan/src/range_walk.rt
 crates/btr_streams/src/answering.rt
 crates/btr_streams/src/next_tree.rt
@@ -45,6 +47,9 @@ crates/btr_distil/src/changed.rt let older = old.uncounted::<InputWalk>();
 crates/btr_distil/src/split_times.rt let mut steps = Steps::<CountWalk>::new();
 crates/btr_distil/src/split_times.rt let mut steps = Steps::<CountWalk>::new();
 crates/btr_open/src/loading.rt steps: Steps::new(),
+crates/btr_open/src/shelf_rows.rt let mut steps = Steps::<ShelfWalk>::new();
+crates/btr_open/src/shelf_rows.rt let mut steps = Steps::<ShelfWalk>::new();
+crates/btr_open/src/shelf_rows.rt let mut steps = Steps::<ShelfWalk>::new();
 crates/btr_scan/src/range_walk.rt let mut steps = Steps::<RangeWalk>::new();
 crates/btr_scan/src/range_walk.rt let mut steps = Steps::<RangeWalk>::new();
 crates/btr_streams/src/answering.rt let mut steps = Steps::<AnswerWalk>::new();

@@ -4,7 +4,7 @@ use Rattle.std.specs.Prelude.{◌≡◌, ◌⊎◌, ℕ, ◌+◌, ◌-◌, ◌*�
 use Rattle.std.specs.List.{flat_map}
 use Rattle.std.proofs.Common.{refl, sym, ◌∙◌, ap, subst, inl, inr, arith, ⊎_elim}
 use Rattle.std.proofs.Math.Seq.{take-add}
-use Rattle.std.proofs.lemmas.Bool.{cases_lt}
+use Rattle.std.proofs.lemmas.Bool.{cases_lt, false≢true}
 use Rattle.std.proofs.lemmas.List.{take_at, drop-take, length-take-le, length-drop}
 use Rattle.btr_disk.specs.Bytes.{Image}
 use Rattle.btr_disk.specs.Gate.{IsOpen}
@@ -23,12 +23,13 @@ use Rattle.btr_pages.proofs.PagesLemmas.{right-next}
 use Rattle.btr_hist.specs.declared.entry.Entry.{Entry}
 use Rattle.btr_hist.specs.declared.entry.Entry.TheVariants.{Create, Define, Commit, Distillate, Retire}
 use Rattle.btr_engine.specs.Body.{first_page}
-use Rattle.btr_open.specs.Content.{HasContent}
+use Rattle.btr_open.specs.Content.{HasContent, MayHeadStand}
 use Rattle.btr_open.specs.Reached.{Reached}
 use Rattle.btr_open.specs.RootTest.{MayLeadIn, IsNamedBlock, IsNamedRoot}
 use Rattle.btr_open.specs.Below.{StandBelow}
 use Rattle.btr_open.specs.Walk.{IsNextBody, IsCheckpointBody, IsNoNextBody, IsOutOfPlace, pages_from}
-use Rattle.btr_open.specs.Walk.{IsForbiddenBody, HasWrongRoot, HasWrongNode, BreaksBodyBy, IsDamagedNextBy}
+use Rattle.btr_open.specs.Walk.{IsForbiddenBody, HasWrongRoot, HasWrongNode, BreaksBodyBy, IsDamagedGate, IsDamagedNextBy}
+use Rattle.btr_open.proofs.FirstReading.{first-unsealed}
 use Rattle.btr_open.proofs.BelowLemmas.{pages_joined-is}
 use Rattle.btr_open.proofs.ContentLemmas.{content-one}
 use Rattle.btr_open.proofs.RootLemmas.{may-lead-in, pages-keep}
@@ -246,33 +247,36 @@ one-extent image blocks gate a b x y =
       ]
     ]
 
+-- A whole log is read as that of a store that is not sealed. So a gate that is damaged has a damaged extent.
+pub gate-extent : (image : Image) (s : Super) (gate block : ℕ) → IsDamagedGate image (first_reading s) gate block → IsDamagedExtent image s.blocks gate block
+gate-extent image s gate block (inl t) = absurd (false≢true (sym (first-unsealed s) ∙ t.sealed))
+gate-extent image s gate block (inr d) = d.1
+
 module _ (May : Entry → ℕ → Type 0) (image : Image) (s : Super) (log : Reached) (few : log.entries + 1 < 2 ^ 64) where
   -- One block at a gate is the first one that breaks the format.
   pub one-next : (a b : ℕ) → IsDamagedNextBy May image (first_reading s) log a → IsDamagedNextBy May image (first_reading s) log b → a ≡ b
-  one-next a b (inl x) (inl y) = one-extent image s.blocks log.gate a b x y
-  one-next a b (inl x) (inr y) = absurd (extent-unbroken image log.gate y.body y.head y.extent s.blocks a y.inside x)
-  one-next a b (inr x) (inl y) = absurd (extent-unbroken image log.gate x.body x.head x.extent s.blocks b x.inside y)
+  one-next a b (inl x) (inl y) =
+      one-extent image s.blocks log.gate a b (gate-extent image s log.gate a x) (gate-extent image s log.gate b y)
+  one-next a b (inl x) (inr y) = absurd (extent-unbroken image log.gate y.body y.head y.extent s.blocks a y.inside (gate-extent image s log.gate a x))
+  one-next a b (inr x) (inl y) = absurd (extent-unbroken image log.gate x.body x.head x.extent s.blocks b x.inside (gate-extent image s log.gate b y))
   one-next a b (inr x) (inr y) =
       let same = one-body image log.gate x.body x.head x.extent y.body y.head y.extent in
-      let heads = ap (λ (h : Head). h.format) (head-of-body image log.gate x.body x.head x.extent y.body y.head y.extent) in
+      let heads : y.head ≡ x.head = head-of-body image log.gate x.body x.head x.extent y.body y.head y.extent in
+      let limit = (first_reading s).format in
       elim x.breaks [
         | inl p ↦ elim y.breaks [
           | inl q ↦ p.1 ∙ sym q.1
-          | inr q ↦
-              let more = p.0 in
-              let under = q.0 in
-              absurd (omega (arith, more, under, heads))
+          | inr q ↦ absurd (p.0 (subst (MayHeadStand limit) heads q.0))
         ]
         | inr p ↦ elim y.breaks [
-          | inl q ↦
-              let more = q.0 in
-              let under = p.0 in
-              absurd (omega (arith, more, under, heads))
+          | inl q ↦ absurd (q.0 (subst (MayHeadStand limit) (sym heads) p.0))
           | inr q ↦ one-break May image log x.body few a b p.1 (subst (λ c. BreaksBodyBy May image 0 log c b) same q.1)
         ]
       ]
 
 -- The gate of an extent that breaks the format is open, and inside the store.
 pub damaged-open : (May : Entry → ℕ → Type 0) (image : Image) (s : Super) (log : Reached) (block : ℕ) → IsDamagedNextBy May image (first_reading s) log block → IsOpen image log.gate × (log.gate < s.blocks)
-damaged-open May image s log block (inl x) = (x.is_open, elim x.damage [ inl p ↦ omega (arith, p.0) | inr p ↦ omega (arith, p.0) ])
+damaged-open May image s log block (inl x) =
+    let d = gate-extent image s log.gate block x in
+    (d.is_open, elim d.damage [ inl p ↦ omega (arith, p.0) | inr p ↦ omega (arith, p.0) ])
 damaged-open May image s log block (inr x) = (x.extent.is_open, omega (arith, x.inside))

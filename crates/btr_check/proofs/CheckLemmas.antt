@@ -1,6 +1,6 @@
 -- The verdict on a device, by what each part of a check found out.
 use Rattle.std.specs.Prelude.{◌≡◌, ◌↔◌, ℕ, ◌+◌, ◌*◌, ◌≤◌, map, Option, Some, None, Result, Ok, Err, IfOk, IfErr}
-use Rattle.std.proofs.Common.{sym, subst, inl, inr, arith}
+use Rattle.std.proofs.Common.{refl, sym, subst, inl, inr, arith}
 use Rattle.btr_disk.specs.declared.disk.Disk.{Ghosts}
 use Rattle.btr_disk.specs.Bytes.{Image}
 use Rattle.btr_disk.specs.Gate.{IsClosed}
@@ -24,7 +24,7 @@ use Rattle.btr_check.specs.declared.checker.Checker.{Checker}
 use Rattle.btr_check.specs.declared.verdict.Verdict.{Verdict}
 use Rattle.btr_check.specs.declared.verdict.Verdict.TheVariants.{Stands, Wrong, NotAStore, Fault, Want}
 use Rattle.btr_check.specs.Rule.{MayStand}
-use Rattle.btr_check.specs.Whole.{IsLegalLog, IsNamedStart}
+use Rattle.btr_check.specs.Whole.{IsLegalLog, IsNamedStart, EndsAtSeal}
 use Rattle.btr_check.specs.Verdict.{IsVerdict}
 use Rattle.btr_check.specs.Check.{VerdictHolds, IsUnlessEnded}
 use Rattle.btr_check.specs.Checkpoints.{mark_of}
@@ -64,24 +64,37 @@ module _ {D : Type 0} (disk : Ghosts D) where
         let image = disk.contents old in
         inr (s, chosen reported, inr (inl (record { whole = legal-log image s c w (read reported); unnamed = λ named. unnamed (seen-named reported named); of = is })))
 
+    -- The log ends where its superblock says exactly if the gate to which it was read is there.
+    ends-read : (reported : disk.is_observable) → EndsAtSeal s w.tail → EndsAtSeal s (read reported).log.gate
+    ends-read reported ends = subst (EndsAtSeal s) (sym (read reported).at) ends
+
+    read-ends : (reported : disk.is_observable) → EndsAtSeal s (read reported).log.gate → EndsAtSeal s w.tail
+    read-ends reported ends = subst (EndsAtSeal s) (read reported).at ends
+
+    -- If it does not, the block of the tail is wrong.
+    pub open-tail-wrong : IsNamed → (EndsAtSeal s w.tail → ⊥) → VerdictBetween disk old new (Wrong s.tail)
+    open-tail-wrong named goes_on reported =
+        let image = disk.contents old in
+        inr (s, chosen reported, inr (inr (inl (record { whole = legal-log image s c w (read reported); named = named-seen reported named; goes_on = λ ends. goes_on (read-ends reported ends); of = refl }))))
+
     -- Else the trees decide.
-    pub named-verdict : IsNamed → (trees : Result (Option ℕ) VerifyFault) → (disk.is_observable → (l : IsJudgedLog MayStand HasSeen (disk.contents old) (first_reading s) c w) → IfOk trees (AreTreesFound l.log.pages l.seen.entries l.seen.roots)) → IfErr trees (VerifyCause disk old new) → VerdictBetween disk old new (verdict_of_trees c.board.entries trees)
-    named-verdict named (Ok None) found ended = λ reported.
+    pub named-verdict : IsNamed → EndsAtSeal s w.tail → (trees : Result (Option ℕ) VerifyFault) → (disk.is_observable → (l : IsJudgedLog MayStand HasSeen (disk.contents old) (first_reading s) c w) → IfOk trees (AreTreesFound l.log.pages l.seen.entries l.seen.roots)) → IfErr trees (VerifyCause disk old new) → VerdictBetween disk old new (verdict_of_trees c.board.entries trees)
+    named-verdict named ends (Ok None) found ended = λ reported.
         let l = read reported in
         let image = disk.contents old in
-        (l.seen.entries, legal-stands (disk.size old) image s (chosen reported) (legal-log image s c w l) (named-seen reported named) (found reported l), l.judged.of.entries)
-    named-verdict named (Ok (Some block)) found ended = λ reported.
+        (l.seen.entries, legal-stands (disk.size old) image s (chosen reported) (legal-log image s c w l) (named-seen reported named) (ends-read reported ends) (found reported l), l.judged.of.entries)
+    named-verdict named ends (Ok (Some block)) found ended = λ reported.
         let l = read reported in
         let first = found reported l in
-        inr (s, chosen reported, inr (inr (record { whole = legal-log (disk.contents old) s c w l; named = named-seen reported named; n = first.0; first = first.1 })))
-    named-verdict named (Err verify.Fault) found ended = ended
-    named-verdict named (Err verify.Want) found ended = tt
+        inr (s, chosen reported, inr (inr (inr (record { whole = legal-log (disk.contents old) s c w l; named = named-seen reported named; ends = ends-read reported ends; n = first.0; first = first.1 }))))
+    named-verdict named ends (Err verify.Fault) found ended = ended
+    named-verdict named ends (Err verify.Want) found ended = tt
 
   -- ---- a log that is not whole
 
-  pub cause-verdict : (old new : D) (s : Super) (why : OpenCause) → (disk.is_observable → IsChosen (disk.size old) (disk.contents old) s) → PartCause disk (IsDamagedLogBy MayStand (disk.contents old) (first_reading s)) old new why → VerdictBetween disk old new (verdict_of_cause why)
+  pub cause-verdict : (old new : D) (s : Super) (why : OpenCause) → (disk.is_observable → IsChosen (disk.size old) (disk.contents old) s) → PartCause disk (IsDamagedLogBy MayStand (disk.contents old) (first_reading s)) old new why → VerdictBetween disk old new (verdict_of_cause s why)
   cause-verdict old new s cause.NotAStore chosen is = absurd is
-  cause-verdict old new s (cause.Damaged block) chosen is = λ reported. inr (s, chosen reported, inl (is reported))
+  cause-verdict old new s (cause.Damaged block) chosen is = λ reported. inr (s, chosen reported, inl (record { at = block; damaged = is reported; of = refl }))
   cause-verdict old new s cause.Fault chosen is = is
   cause-verdict old new s cause.Want chosen is = tt
 

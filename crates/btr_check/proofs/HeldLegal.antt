@@ -1,7 +1,8 @@
--- A device that holds a legal history, as a check sees it: its log is legal, the chosen superblock names a start of it, and the root of each
--- entry leads to the tree of its version.
+-- A device that holds a legal history, as a check sees it: its log is legal, the chosen superblock names a start of it, and its end if the
+-- store is sealed, and the root of each entry leads to the tree of its version.
 use Rattle.std.specs.Prelude.{◌≡◌, ℕ, ◌+◌, ◌<◌, ◌≤◌, List, [], ◌∷◌, ◌++◌, length, take, get_or, slice_get, Some}
 use Rattle.std.proofs.Common.{refl, sym, ◌∙◌, ap, subst, inl, inr, arith, length-append}
+use Rattle.std.proofs.lemmas.Bool.{false≢true}
 use Rattle.std.proofs.lemmas.List.{take_at, take-append-le, get_or_append_left, get_or_push}
 use Rattle.std.proofs.lemmas.Option.{slice_get_within}
 use Rattle.btr_base.proofs.ListLemmas.{get-append, get_last}
@@ -20,6 +21,7 @@ use Rattle.btr_engine.specs.Roots.{IsRootOf}
 use Rattle.btr_engine.specs.Holds.{IsMarked, HoldsHistoryTo}
 use Rattle.btr_engine.proofs.BodyLemmas.{LeadTo-roots}
 use Rattle.btr_open.specs.Reached.{beginning}
+use Rattle.btr_open.proofs.FirstReading.{first-unsealed, formats-first}
 use Rattle.btr_open.proofs.ListLemmas.{push-at}
 use Rattle.btr_open.proofs.HeldPages.{AreBelow, below-extent, if-each, if-at}
 use Rattle.btr_open.proofs.HeldRoots.{LeadTo-on}
@@ -27,7 +29,7 @@ use Rattle.btr_open.proofs.HeldLemmas.{reached_of, reached-all, body-next, mark-
 use Rattle.btr_open.proofs.WalkLemmas.{lead-plain, lead-append}
 use Rattle.btr_open.specs.Seen.{Mark, Seen, LeadOnBy}
 use Rattle.btr_check.specs.Rule.{MayStand}
-use Rattle.btr_check.specs.Whole.{IsLegalLog, IsNamedStart, LeadAll}
+use Rattle.btr_check.specs.Whole.{IsLegalLog, IsNamedStart, EndsAtSeal, LeadAll}
 use Rattle.btr_check.proofs.LeadLemmas.{AreSameBelow, root-along, root-low, root-fits}
 
 -- ---- the entries keep the rule
@@ -124,10 +126,12 @@ lead-all p (body ∷ bodies) q leads counted some below was = elim leads [
 
 -- ---- the whole
 
--- The log is legal, the superblock names a start of it, and the root of each entry leads to the tree of its version.
+-- The log is legal, the superblock names a start of it, and its end if the store is sealed, and the root of each entry leads to the tree of
+-- its version.
 pub record IsRightStore (image : Image) (s : Super) : Type 0 where
   pub whole : IsLegalLog image s
   pub named : IsNamedStart s whole.seen.marks
+  pub ends : EndsAtSeal s whole.log.gate
   pub right : LeadAll whole.log.pages whole.seen.entries whole.seen.roots
 
 module _ (size : ℕ) (image : Image) (blocks tail : ℕ) (h : List Entry) (holds : HoldsHistoryTo size image blocks tail h) (legal : Legal h) where
@@ -184,7 +188,8 @@ module _ (size : ℕ) (image : Image) (blocks tail : ℕ) (h : List Entry) (hold
             bodies = holds.bodies;
             extents = holds.extents;
             leads = lead-plain MayStand beginning (seen_of no_extents []) holds.bodies log all w.leads;
-            formats = holds.formats;
+            formats = formats-first holds.super holds.bodies holds.chosen.stored.spelled.keeps.known_format.1 holds.formats;
+            sealed = λ sealed. absurd (false≢true (sym (first-unsealed holds.super) ∙ sealed));
           };
           seen = all;
           keeps = w.leads;
@@ -192,5 +197,6 @@ module _ (size : ℕ) (image : Image) (blocks tail : ℕ) (h : List Entry) (hold
           inside = omega (arith, holds.inside, holds.same_blocks);
         };
         named = w.named;
+        ends = holds.sealed;
         right = lead-all no_extents holds.bodies final holds.leads.lead refl (omega arith) (λ block high. refl) (λ n. tt);
       }

@@ -1,5 +1,5 @@
--- If a log is legal, the superblock names a start of it, and the root of each entry leads to the tree of its version, the device holds a legal
--- history: that of the entries that were seen.
+-- If a log is legal, the superblock names a start of it, and its end if the store is sealed, and the root of each entry leads to the tree of
+-- its version, the device holds a legal history: that of the entries that were seen.
 use Rattle.std.specs.Prelude.{◌≡◌, ℕ, ◌+◌, ◌<◌, ◌≤◌, ◌^◌, List, [], ◌∷◌, ◌++◌, length, take, get_or, slice_get, Some}
 use Rattle.std.specs.List.{flat_map}
 use Rattle.std.proofs.Common.{refl, sym, ◌∙◌, ap, subst, inl, inr, arith, length-append}
@@ -21,6 +21,7 @@ use Rattle.btr_engine.specs.Holds.{IsMarked}
 use Rattle.btr_engine.proofs.BodyLemmas.{needed-push, LeadTo-split, LeadTo-gate}
 use Rattle.btr_open.specs.Reached.{Reached, beginning, next_roll, with_entry, pages_with, passed}
 use Rattle.btr_open.specs.Walk.{IsNextBody, IsCheckpointBody}
+use Rattle.btr_open.proofs.FirstReading.{formats-from-first}
 use Rattle.btr_open.proofs.ContentLemmas.{body-content, contents-apart}
 use Rattle.btr_open.proofs.HeldPages.{AreBelow, below-extent, if-at}
 use Rattle.btr_open.proofs.HeldRolls.{roll-next}
@@ -190,7 +191,7 @@ begins = record {
 }
 
 pub legal-stands : LegalLogStands
-legal-stands size image s chosen whole named right =
+legal-stands size image s chosen whole named ends right =
     let walk = whole-walk MayStand image s whole.log whole.seen whole.walk whole.keeps in
     let log = whole.log in
     let seen = whole.seen in
@@ -208,7 +209,7 @@ legal-stands size image s chosen whole named right =
           bodies = walk.bodies;
           extents = walk.extents;
           leads = record { roots = seen.roots; pages = log.pages; lead = leads };
-          formats = walk.formats;
+          formats = formats-from-first s walk.bodies walk.formats;
           starts = elim named [
             | inl first ↦ inl first
             | inr m ↦
@@ -218,6 +219,7 @@ legal-stands size image s chosen whole named right =
                   | inr is ↦ inr (marked walk.bodies (prefix_of log seen) s.checkpoint s.tail leads short is)
                 ]
           ];
+          sealed = ends;
           closed = whole.closed;
           inside = whole.inside;
           follows = legal-follows seen.entries agrees.legal;

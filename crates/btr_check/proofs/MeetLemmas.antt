@@ -13,15 +13,16 @@ use Rattle.btr_node.specs.Page.{page_bytes}
 use Rattle.btr_node.specs.declared.page.NodePage.{NodePage}
 use Rattle.btr_hist.specs.declared.entry.Entry.{Entry}
 use Rattle.btr_engine.specs.Body.{MayStandUnder}
-use Rattle.btr_engine.proofs.BodyLemmas.{format-body}
+use Rattle.btr_open.specs.Content.{MayHeadStand}
 use Rattle.btr_open.specs.Reached.{Reached, with_entry, passed}
 use Rattle.btr_open.specs.Start.{IsReadingStart}
 use Rattle.btr_open.specs.Reached.{beginning}
 use Rattle.btr_open.specs.Walk.{IsNextBody, IsCheckpointBody, IsWalk, BreaksBodyBy, IsDamagedNextBy}
+use Rattle.btr_open.proofs.Formats.{head-may}
 use Rattle.btr_open.proofs.UniqueLemmas.{next-one, next-content, marks-apart}
 use Rattle.btr_open.proofs.UnbrokenLemmas.{one-body, head-of-body, extent-unbroken}
 use Rattle.btr_open.specs.Seen.{Seen, nothing_seen, with_seen, with_mark, EntryRule, Lets, LeadOnBy, KeepsRule, first_reading}
-use Rattle.btr_check.proofs.BreakLemmas.{entry-unbroken, mark-unbroken}
+use Rattle.btr_check.proofs.BreakLemmas.{entry-unbroken, mark-unbroken, gate-extent}
 
 -- ---- where a walk ends
 
@@ -36,23 +37,23 @@ module _ (May : EntryRule) (image : Image) (blocks format : ℕ) where
       ((e : Entry) × (root : ℕ) × (pages : List NodePage) × IsNextBody log e root pages body × May seen.entries e root)
       ⊎ IsCheckpointBody log body
 
-  -- No extent at the gate, inside the blocks, whose format is no greater, has such a body.
+  -- No extent at the gate, inside the blocks, that may stand under this format has such a body.
   abbrev pub IsEnd : Reached → Seen → Type 0
-  IsEnd log seen = (body : List ℕ) (head : Head) → IsExtent image log.gate body head → log.gate + need body < blocks → head.format ≤ format → FollowsOn log seen body → ⊥
+  IsEnd log seen = (body : List ℕ) (head : Head) → IsExtent image log.gate body head → log.gate + need body < blocks → MayHeadStand format head → FollowsOn log seen body → ⊥
 
   -- A walk ends at a closed gate.
   pub closed-ends : (log : Reached) (seen : Seen) → IsClosed image log.gate → IsEnd log seen
   closed-ends log seen closed body head extent inside under follows = closed extent.is_open
 
 -- It ends where the extent breaks the format or the rule.
-pub damaged-ends : (May : EntryRule) (image : Image) (s : Super) (log : Reached) (seen : Seen) (block : ℕ) → s.blocks ≤ 2 ^ 32 → log.entries + 1 < 2 ^ 64 → IsDamagedNextBy (Lets May log seen.entries) image (first_reading s) log block → IsEnd May image s.blocks s.format log seen
+pub damaged-ends : (May : EntryRule) (image : Image) (s : Super) (log : Reached) (seen : Seen) (block : ℕ) → s.blocks ≤ 2 ^ 32 → log.entries + 1 < 2 ^ 64 → IsDamagedNextBy (Lets May log seen.entries) image (first_reading s) log block → IsEnd May image s.blocks (first_reading s).format log seen
 damaged-ends May image s log seen block limit few (inl x) body head extent inside under follows =
-    extent-unbroken image log.gate body head extent s.blocks block inside x
+    extent-unbroken image log.gate body head extent s.blocks block inside (gate-extent image s log.gate block x)
 damaged-ends May image s log seen block limit few (inr x) body head extent inside under follows =
     let same = one-body image log.gate body head extent x.body x.head x.extent in
-    let heads = ap (λ (h : Head). h.format) (head-of-body image log.gate body head extent x.body x.head x.extent) in
+    let heads : x.head ≡ head = head-of-body image log.gate body head extent x.body x.head x.extent in
     elim x.breaks [
-      | inl above ↦ let more = above.0 in omega (arith, more, heads, under)
+      | inl above ↦ above.0 (subst (MayHeadStand (first_reading s).format) (sym heads) under)
       | inr breaks ↦
           let here : BreaksBodyBy (Lets May log seen.entries) image 0 log body block = subst (λ c. BreaksBodyBy (Lets May log seen.entries) image 0 log c block) same breaks.1 in
           elim follows [
@@ -70,7 +71,7 @@ module _ (May : EntryRule) (image : Image) (blocks format : ℕ) (limit : blocks
 
   not-ended : (log : Reached) (seen : Seen) (body : List ℕ) (bodies : List (List ℕ)) (after : Reached) (all : Seen) → LeadOnBy May log seen (body ∷ bodies) after all → MayStandUnder format body → Extents image log.gate (body ∷ bodies) after.gate → after.gate < blocks → IsEnd May image blocks format log seen → ⊥
   not-ended log seen body bodies after all leads under x inside ends =
-      ends body x.0.0 x.0.1 (omega (arith, inside, Extents-le image (log.gate + need body) bodies after.gate x.1)) (omega (arith, under, format-body body x.0.0 x.0.1.is_body)) (first-follows log seen body bodies after all leads)
+      ends body x.0.0 x.0.1 (omega (arith, inside, Extents-le image (log.gate + need body) bodies after.gate x.1)) (head-may format body x.0.0 x.0.1.is_body under) (first-follows log seen body bodies after all leads)
 
   pub meet : (log : Reached) (seen : Seen) (bodies others : List (List ℕ)) (after : Reached) (all : Seen) (other : Reached) (all_too : Seen) → 2 * log.entries + 4 ≤ log.gate → LeadOnBy May log seen bodies after all → AllByRecursion (MayStandUnder format) bodies → Extents image log.gate bodies after.gate → after.gate < blocks → IsEnd May image blocks format after all → LeadOnBy May log seen others other all_too → AllByRecursion (MayStandUnder format) others → Extents image log.gate others other.gate → other.gate < blocks → IsEnd May image blocks format other all_too → (after ≡ other) × (all ≡ all_too)
   meet log seen [] [] after all other all_too counted leads formats x inside ends leads_too formats_too y inside_too ends_too =
@@ -116,14 +117,14 @@ pub whole-start : (image : Image) (s : Super) (start : Reached) → IsReadingSta
 whole-start image s start (inl x) = x.2
 whole-start image s start (inr x) = absurd (omega (arith, x.0))
 
--- The bodies of a walk of a whole log lead on from the beginning. None has a greater format than this one.
+-- The bodies of a walk of a whole log lead on from the beginning. Each may stand under this format.
 pub record IsWholeWalk (May : EntryRule) (image : Image) (format : ℕ) (log : Reached) (seen : Seen) : Type 0 where
   pub bodies : List (List ℕ)
   pub extents : Extents image beginning.gate bodies log.gate
   pub leads : LeadOnBy May beginning nothing_seen bodies log seen
   pub formats : AllByRecursion (MayStandUnder format) bodies
 
-pub whole-walk : (May : EntryRule) (image : Image) (s : Super) (log : Reached) (seen : Seen) (walk : IsWalk image (first_reading s) log) → KeepsRule May walk seen → IsWholeWalk May image s.format log seen
+pub whole-walk : (May : EntryRule) (image : Image) (s : Super) (log : Reached) (seen : Seen) (walk : IsWalk image (first_reading s) log) → KeepsRule May walk seen → IsWholeWalk May image (first_reading s).format log seen
 whole-walk May image s log seen walk keeps =
     let same = whole-start image s walk.start walk.starts in
     record {

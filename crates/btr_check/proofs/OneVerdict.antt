@@ -13,8 +13,8 @@ use Rattle.btr_check.specs.declared.verdict.Verdict.TheVariants.{Stands, Wrong, 
 use Rattle.btr_open.specs.Walk.{IsDamagedNextBy}
 use Rattle.btr_open.specs.Seen.{Seen, Lets, IsDamagedLogBy, first_reading}
 use Rattle.btr_check.specs.Rule.{MayStand}
-use Rattle.btr_check.specs.Whole.{IsLegalLog, IsNamedStart, LeadAll, IsFirstWrongAt}
-use Rattle.btr_check.specs.Verdict.{HoldsLegal, IsWrongStore, IsWrong}
+use Rattle.btr_check.specs.Whole.{IsLegalLog, IsNamedStart, EndsAtSeal, LeadAll, IsFirstWrongAt}
+use Rattle.btr_check.specs.Verdict.{named_block, HoldsLegal, IsWrongStore, IsWrong}
 use Rattle.btr_check.specs.Laws.{OneVerdictHolds}
 use Rattle.btr_check.proofs.BreakLemmas.{one-next, damaged-open}
 use Rattle.btr_check.proofs.MeetLemmas.{IsWholeWalk, IsEnd, closed-ends, damaged-ends, whole-walk, few-next, one-walk}
@@ -26,15 +26,15 @@ use Rattle.btr_check.proofs.HeldLegal.{IsRightStore, held-right}
 module _ (image : Image) (s : Super) (limit : s.blocks ≤ 2 ^ 32) where
   -- A walk of the whole log that ends inside the store, and what was seen.
   record IsEnded (log : Reached) (seen : Seen) : Type 0 where
-    walk : IsWholeWalk MayStand image s.format log seen
+    walk : IsWholeWalk MayStand image (first_reading s).format log seen
     inside : log.gate < s.blocks
-    ends : IsEnd MayStand image s.blocks s.format log seen
+    ends : IsEnd MayStand image s.blocks (first_reading s).format log seen
 
   legal-ended : (l : IsLegalLog image s) → IsEnded l.log l.seen
   legal-ended l = record {
     walk = whole-walk MayStand image s l.log l.seen l.walk l.keeps;
     inside = l.inside;
-    ends = closed-ends MayStand image s.blocks s.format l.log l.seen l.closed;
+    ends = closed-ends MayStand image s.blocks (first_reading s).format l.log l.seen l.closed;
   }
 
   abbrev IsDamaged : ℕ → Type 0
@@ -45,7 +45,7 @@ module _ (image : Image) (s : Super) (limit : s.blocks ≤ 2 ^ 32) where
 
   few : (block : ℕ) (d : IsDamaged block) → d.log.entries + 1 < 2 ^ 64
   few block d =
-      few-next MayStand image s.blocks s.format d.log d.seen limit (whole-walk MayStand image s d.log d.seen d.walk d.keeps) (open-inside block d).1
+      few-next MayStand image s.blocks (first_reading s).format d.log d.seen limit (whole-walk MayStand image s d.log d.seen d.walk d.keeps) (open-inside block d).1
 
   damaged-ended : (block : ℕ) (d : IsDamaged block) → IsEnded d.log d.seen
   damaged-ended block d = record {
@@ -57,7 +57,7 @@ module _ (image : Image) (s : Super) (limit : s.blocks ≤ 2 ^ 32) where
   -- Two such walks are one.
   same-end : (log other : Reached) (seen seen_too : Seen) → IsEnded log seen → IsEnded other seen_too → (log ≡ other) × (seen ≡ seen_too)
   same-end log other seen seen_too x y =
-      one-walk MayStand image s.blocks s.format log other seen seen_too limit x.walk x.inside x.ends y.walk y.inside y.ends
+      one-walk MayStand image s.blocks (first_reading s).format log other seen seen_too limit x.walk x.inside x.ends y.walk y.inside y.ends
 
   -- A legal log is not damaged.
   not-damaged : (l : IsLegalLog image s) (block : ℕ) → IsDamaged block → ⊥
@@ -79,18 +79,28 @@ module _ (image : Image) (s : Super) (limit : s.blocks ≤ 2 ^ 32) where
   named-too : (l m : IsLegalLog image s) → IsNamedStart s l.seen.marks → IsNamedStart s m.seen.marks
   named-too l m named = subst (λ (seen : Seen). IsNamedStart s seen.marks) (one-legal l m).1 named
 
+  ends-too : (l m : IsLegalLog image s) → EndsAtSeal s l.log.gate → EndsAtSeal s m.log.gate
+  ends-too l m ends = subst (λ (log : Reached). EndsAtSeal s log.gate) (one-legal l m).0 ends
+
   -- ---- one wrong block
 
   pub one-store : (a b : ℕ) → IsWrongStore image s a → IsWrongStore image s b → a ≡ b
-  one-store a b (inl x) (inl y) = one-damage a b x y
-  one-store a b (inl x) (inr (inl y)) = absurd (not-damaged y.whole a x)
-  one-store a b (inl x) (inr (inr y)) = absurd (not-damaged y.whole a x)
-  one-store a b (inr (inl x)) (inl y) = absurd (not-damaged x.whole b y)
-  one-store a b (inr (inr x)) (inl y) = absurd (not-damaged x.whole b y)
+  one-store a b (inl x) (inl y) = x.of ∙ ap (named_block s) (one-damage x.at y.at x.damaged y.damaged) ∙ sym y.of
+  one-store a b (inl x) (inr (inl y)) = absurd (not-damaged y.whole x.at x.damaged)
+  one-store a b (inl x) (inr (inr (inl y))) = absurd (not-damaged y.whole x.at x.damaged)
+  one-store a b (inl x) (inr (inr (inr y))) = absurd (not-damaged y.whole x.at x.damaged)
+  one-store a b (inr (inl x)) (inl y) = absurd (not-damaged x.whole y.at y.damaged)
+  one-store a b (inr (inr (inl x))) (inl y) = absurd (not-damaged x.whole y.at y.damaged)
+  one-store a b (inr (inr (inr x))) (inl y) = absurd (not-damaged x.whole y.at y.damaged)
   one-store a b (inr (inl x)) (inr (inl y)) = x.of ∙ sym y.of
-  one-store a b (inr (inl x)) (inr (inr y)) = absurd (x.unnamed (named-too y.whole x.whole y.named))
-  one-store a b (inr (inr x)) (inr (inl y)) = absurd (y.unnamed (named-too x.whole y.whole x.named))
-  one-store a b (inr (inr x)) (inr (inr y)) =
+  one-store a b (inr (inl x)) (inr (inr (inl y))) = absurd (x.unnamed (named-too y.whole x.whole y.named))
+  one-store a b (inr (inl x)) (inr (inr (inr y))) = absurd (x.unnamed (named-too y.whole x.whole y.named))
+  one-store a b (inr (inr (inl x))) (inr (inl y)) = absurd (y.unnamed (named-too x.whole y.whole x.named))
+  one-store a b (inr (inr (inr x))) (inr (inl y)) = absurd (y.unnamed (named-too x.whole y.whole x.named))
+  one-store a b (inr (inr (inl x))) (inr (inr (inl y))) = x.of ∙ sym y.of
+  one-store a b (inr (inr (inl x))) (inr (inr (inr y))) = absurd (x.goes_on (ends-too y.whole x.whole y.ends))
+  one-store a b (inr (inr (inr x))) (inr (inr (inl y))) = absurd (y.goes_on (ends-too x.whole y.whole x.ends))
+  one-store a b (inr (inr (inr x))) (inr (inr (inr y))) =
       let same = one-legal x.whole y.whole in
       let log = y.whole.log in
       let seen = y.whole.seen in
@@ -99,9 +109,10 @@ module _ (image : Image) (s : Super) (limit : s.blocks ≤ 2 ^ 32) where
 
   -- A store that is right has no wrong block.
   pub right-store : IsRightStore image s → (block : ℕ) → IsWrongStore image s block → ⊥
-  right-store r block (inl d) = not-damaged r.whole block d
+  right-store r block (inl d) = not-damaged r.whole d.at d.damaged
   right-store r block (inr (inl x)) = x.unnamed (named-too r.whole x.whole r.named)
-  right-store r block (inr (inr x)) =
+  right-store r block (inr (inr (inl x))) = x.goes_on (ends-too r.whole x.whole r.ends)
+  right-store r block (inr (inr (inr x))) =
       let same = one-legal r.whole x.whole in
       let log = x.whole.log in
       let seen = x.whole.seen in

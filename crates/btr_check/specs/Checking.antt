@@ -18,6 +18,7 @@ use Rattle.btr_check.specs.declared.verdict.Verdict.{Verdict}
 use Rattle.btr_check.specs.declared.verdict.Verdict.TheVariants.{Stands, Wrong, NotAStore, Fault, Want}
 use Rattle.btr_check.specs.Rule.{MayStand}
 use Rattle.btr_check.specs.Whole.{LeadAll, IsFirstWrongAt}
+use Rattle.btr_check.specs.Verdict.{named_block}
 use Rattle.btr_check.specs.Check.{VerdictHolds}
 use Rattle.btr_check.specs.Checker.{HasSeen}
 
@@ -29,12 +30,12 @@ verdict_of_choice choice.NotAStore = NotAStore
 verdict_of_choice (choice.Damaged block) = Wrong block
 verdict_of_choice choice.Fault = Fault
 
--- The log was not read whole.
-abbrev pub verdict_of_cause : OpenCause → Verdict
-verdict_of_cause cause.NotAStore = NotAStore
-verdict_of_cause (cause.Damaged block) = Wrong block
-verdict_of_cause cause.Fault = Fault
-verdict_of_cause cause.Want = Want
+-- The log of this superblock's store was not read whole.
+abbrev pub verdict_of_cause : Super → OpenCause → Verdict
+verdict_of_cause found cause.NotAStore = NotAStore
+verdict_of_cause found (cause.Damaged block) = Wrong (named_block found block)
+verdict_of_cause found cause.Fault = Fault
+verdict_of_cause found cause.Want = Want
 
 -- The log is legal, with this number of entries, and its trees were judged.
 abbrev pub verdict_of_trees : ℕ → Result (Option ℕ) VerifyFault → Verdict

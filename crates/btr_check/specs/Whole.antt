@@ -1,10 +1,11 @@
--- A log that was read whole: its entries keep the rule of a check; whether a superblock names a start of it; and whether the roots of its
--- entries lead to the trees of their versions.
-use Rattle.std.specs.Prelude.{◌≡◌, ◌⊎◌, ℕ, ◌+◌, ◌<◌, List, take, get_or, slice_get, Some, IfSome, []}
+-- A log that was read whole: its entries keep the rule of a check; whether a superblock names a start of it, and, if the store is sealed,
+-- its end; and whether the roots of its entries lead to the trees of their versions.
+use Rattle.std.specs.Prelude.{◌≡◌, ◌⊎◌, ℕ, ◌+◌, ◌<◌, true, List, take, get_or, slice_get, Some, IfSome, []}
 use Rattle.btr_disk.specs.Bytes.{Image}
 use Rattle.btr_disk.specs.Gate.{IsClosed}
 use Rattle.btr_log.specs.Extents.{first_gate}
 use Rattle.btr_super.specs.declared.superblock.Super.{Super}
+use Rattle.btr_super.specs.Super.{has_seal}
 use Rattle.btr_tree.specs.PageNodes.{Pages, nodes_in}
 use Rattle.btr_hist.specs.declared.entry.Entry.{Entry}
 use Rattle.btr_hist.specs.declared.entry.Entry.TheVariants.{Create, Define, Commit, Distillate, Retire}
@@ -29,7 +30,7 @@ pub record IsLegalLog (image : Image) (s : Super) : Type 0 where
   pub closed : IsClosed image log.gate
   pub inside : log.gate < s.blocks
 
--- ---- the start that a superblock names
+-- ---- the start and the end that a superblock names
 
 -- One of these checkpoints has this gate, and this gate after it.
 abbrev pub HasMark : List Mark → ℕ → ℕ → Type 0
@@ -38,6 +39,10 @@ HasMark marks gate next = (k : ℕ) × (slice_get marks k ≡ Some (record { gat
 -- The superblock names no checkpoint, and the first gate as the tail; or one of these checkpoints, and the gate after it.
 abbrev pub IsNamedStart : Super → List Mark → Type 0
 IsNamedStart s marks = ((s.checkpoint ≡ 0) × (s.tail ≡ first_gate)) ⊎ HasMark marks s.checkpoint s.tail
+
+-- If the store is sealed, the tail that the superblock names is this gate, at which the log ends.
+abbrev pub EndsAtSeal : Super → ℕ → Type 0
+EndsAtSeal s gate = has_seal s ≡ true → s.tail ≡ gate
 
 -- ---- the trees
 

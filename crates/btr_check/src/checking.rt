@@ -7,13 +7,13 @@ ghost use Rattle.btr_log.specs.Reads.{OnlyReads};
 ghost use Rattle.btr_open.specs.Seen.{EndsInside};
 ghost use Rattle.btr_verify.specs.Trees.{VerifyCause};
 ghost use Rattle.btr_check.specs.declared.verdict.Verdict.{Verdict as VerdictSpec};
-ghost use Rattle.btr_check.specs.Verdict.{IsVerdict};
+ghost use Rattle.btr_check.specs.Verdict.{IsVerdict, named_block};
 ghost use Rattle.btr_check.specs.Check.{VerdictHolds, IsUnlessEnded};
 ghost use Rattle.btr_check.specs.Checking.{verdict_of_choice, verdict_of_cause, verdict_of_trees};
 ghost use Rattle.btr_check.specs.Checking.{VerdictBetween, IsCheckedLog, WasChecked, AreTreesFound};
 
 use crate::checker::Checker;
-use crate::checkpoints::is_named;
+use crate::checkpoints::{ends_at_seal, is_named};
 use crate::remains::CheckRemains;
 use crate::verdict::Verdict;
 use btr_disk::Disk;
@@ -37,13 +37,15 @@ pub struct Checked<D> {
 /// Checks whether a device holds a legal history, and returns the verdict. It writes and syncs nothing.
 ///
 /// It chooses the superblock, and reads the whole log from its first gate, whatever checkpoint the superblock names. Each entry is tested
-/// against those before it: whether it may follow them, and whether its root is 0 exactly if its version has no point. Each distillate
-/// is computed anew from what it has read, and compared. Each checkpoint is compared with the entries before it, and the superblock is to
-/// name one of them, or the first gate. Then each stored page is compared once with the node of its span in the tree of its version, which
-/// is made of the entries, so that for each root it is known whether it leads to the tree of its version.
+/// against those before it: whether it may follow them, and whether its root is 0 exactly if its version has no point. Each distillate is
+/// computed anew from what it has read, and compared. Each checkpoint is compared with the entries before it, and the superblock is to name
+/// one of them, or the first gate. The log of a sealed store is to end at the superblock's tail. Then each stored page is compared once
+/// with the node of its span in the tree of its version, which is made of the entries, so that for each root it is known whether it leads
+/// to the tree of its version.
 ///
-/// The first block that is wrong is named: `specs/Verdict.antt` says which one this is. At most one verdict is right
-/// ([`one_verdict_holds`](crate::one_verdict_holds)), and this call returns it, unless the device fails or memory runs out.
+/// The first block that is wrong is named; but in a sealed store, if the log breaks the format after the tail, the tail.
+/// `specs/Verdict.antt` says which block this is. At most one verdict is right ([`one_verdict_holds`](crate::one_verdict_holds)), and this
+/// call returns it, unless the device fails or memory runs out.
 ///
 /// The log is read once as an opening reads it, in pieces of 1 MiB or of an extent that is larger; then its pages are read once more, in
 /// runs of 1 MiB. The time is linear in the bytes of the log and in what the commits and the distillates cost when they are made. The
@@ -84,14 +86,15 @@ fn check_store<D: Disk>(alloc: Global, disk: D, found: Super) -> Checked<D>
             }
         }
         Err(cause) => Checked {
-            verdict: verdict_of_cause(cause),
+            verdict: verdict_of_cause(&found, cause),
             disk,
             remains: None,
         },
     }
 }
 
-/// Checks what is left when the log was read whole: the start that the superblock names, and the trees.
+/// Checks what is left when the log was read whole: the start that the superblock names, the end that it names if the store is sealed, and
+/// the trees.
 fn check_whole<D: Disk>(
     alloc: Global,
     disk: D,
@@ -109,6 +112,9 @@ fn check_whole<D: Disk>(
     if !is_named(&checker.checkpoints, &found) {
         let block = 2 * (found.side as u64) + 1;
         return (Verdict::Wrong { block }, disk);
+    }
+    if !ends_at_seal(&found, whole.tail) {
+        return (Verdict::Wrong { block: found.tail }, disk);
     }
     let mut disk = disk;
     let trees = judge_trees(alloc, &mut disk, checker, whole);
@@ -154,14 +160,27 @@ fn verdict_of_choice(fault: ChooseFault) -> Verdict
 }
 
 /// The verdict on a device whose log was not read whole.
-fn verdict_of_cause(cause: OpenCause) -> Verdict
-    ensures { result ≡ verdict_of_cause cause }
+fn verdict_of_cause(found: &Super, cause: OpenCause) -> Verdict
+    ensures { result ≡ verdict_of_cause found.now cause }
 {
     match cause {
         OpenCause::NotAStore => Verdict::NotAStore,
-        OpenCause::Damaged { block } => Verdict::Wrong { block },
+        OpenCause::Damaged { block } => verdict_of_damage(found, block),
         OpenCause::Fault => Verdict::Fault,
         OpenCause::Want => Verdict::Want,
+    }
+}
+
+/// The verdict on a device whose log is damaged in this block. The log of a sealed store has to end at its tail: if the damage is after the
+/// tail, the tail is named.
+fn verdict_of_damage(found: &Super, block: u64) -> Verdict
+    ensures { result ≡ Verdict.Wrong (named_block found.now block) }
+{
+    if found.is_sealed() {
+        let block = block.min(found.tail);
+        Verdict::Wrong { block }
+    } else {
+        Verdict::Wrong { block }
     }
 }
 

@@ -1,6 +1,6 @@
-//! The checkpoints of a log, and whether a superblock names one of them.
+//! The checkpoints of a log, and whether a superblock names one of them, and the end of the log if the store is sealed.
 ghost use Rattle.std.specs.Prelude.{◌≡◌, ◌↔◌, map, IsTrue};
-ghost use Rattle.btr_check.specs.Whole.{HasMark, IsNamedStart};
+ghost use Rattle.btr_check.specs.Whole.{HasMark, IsNamedStart, EndsAtSeal};
 ghost use Rattle.btr_check.specs.Checkpoints.{mark_of};
 
 use btr_super::{LOG_START, Super};
@@ -20,6 +20,14 @@ pub(crate) fn is_named(checkpoints: &[Checkpoint], found: &Super) -> bool
         return true;
     }
     has_checkpoint(checkpoints, found.checkpoint, found.tail)
+}
+
+/// Whether a log that ends at this gate ends where the superblock says: at its tail, if the store is sealed. The superblock of another
+/// store does not say where its log ends.
+pub(crate) fn ends_at_seal(found: &Super, gate: u64) -> bool
+    ensures { IsTrue result ↔ EndsAtSeal found.now gate }
+{
+    !found.is_sealed() || found.tail == gate
 }
 
 /// Whether one of the checkpoints has this gate, and this gate after it.

@@ -1,5 +1,5 @@
 -- What an append of the extent of an entry leaves of the images of a log: at each moment, and after it.
-use Rattle.std.specs.Prelude.{◌≡◌, ℕ, ◌+◌, ◌*◌, ◌<◌, ◌≤◌, ◌^◌, List, [], ◌∷◌, ◌++◌, length, None}
+use Rattle.std.specs.Prelude.{◌≡◌, ℕ, ◌+◌, ◌*◌, ◌<◌, ◌≤◌, ◌^◌, false, List, [], ◌∷◌, ◌++◌, length, None}
 use Rattle.std.specs.List.{AllByRecursion}
 use Rattle.std.proofs.Common.{sym, ◌∙◌, ap, subst, arith}
 use Rattle.btr_disk.specs.declared.disk.Disk.{Ghosts}
@@ -16,6 +16,7 @@ use Rattle.btr_hist.specs.Legal.{rejection}
 use Rattle.btr_entry.specs.Grammar.{IsSpelled}
 use Rattle.btr_entry.specs.Format.{format_of}
 use Rattle.btr_super.specs.declared.superblock.Super.{Super}
+use Rattle.btr_super.specs.Super.{has_seal}
 use Rattle.btr_node.specs.Page.{Fits}
 use Rattle.btr_node.specs.declared.page.NodePage.{NodePage}
 use Rattle.btr_tree.specs.PageNodes.{Pages}
@@ -65,13 +66,16 @@ module _ {D : Type 0} {disk : Ghosts D} (h : List Entry) (l : Log D disk) (e : E
       let same : need (append.body_in_run run) ≡ need (body_of (length h + 1) e root pages) = ap need (brings (length h + 1) e root pages run is.bytes) in
       omega (arith, same, need-body_of (length h + 1) e root pages is.places, is.nodes)
 
-  module _ (b : Kept) (s : Super) (now : HoldsNow h b s l) (fits : need (append.body_in_run run) ≤ log.log_room l) (may : format_of e ≤ s.format) where
+  module _ (b : Kept) (s : Super) (now : HoldsNow h b s l) (fits : need (append.body_in_run run) ≤ log.log_room l) (may : format_of e ≤ s.format) (unsealed : has_seal s ≡ false) where
     -- What is before the tail.
     abbrev pub before_tail : Prefix
     before_tail = prefix_to (log.log_tail l) h now.holds.leads.roots now.holds.leads.pages
 
     may_stand : format_of e ≤ now.holds.super.format
     may_stand = subst (λ (x : Super). format_of e ≤ x.format) (sym now.under) may
+
+    unsealed_now : has_seal now.holds.super ≡ false
+    unsealed_now = ap has_seal now.under ∙ unsealed
 
     -- A block is left after it for the next gate.
     inside : log.log_tail l + need_of h e < log.log_blocks l
@@ -85,7 +89,7 @@ module _ {D : Type 0} {disk : Ghosts D} (h : List Entry) (l : Log D disk) (e : E
       moments leaves =
           let contents = disk.contents (log.log_device l) in
           weakens disk.calls disk.images_since (log.log_device l) (log.log_device after) (append.IsMoment contents (log.log_tail l) now.holds.bodies (append.body_in_run run)) (IsBeforeOrAfter (disk.size (log.log_device l)) h e)
-          (before_or_after (disk.size (log.log_device l)) contents (log.log_blocks l) (log.log_tail l) h now.holds e root pages (append.body_in_run run) (its_body (log.log_tail l) now.holds.leads.roots now.holds.leads.pages stand) stand.keeps is.allowed needed inside may_stand)
+          (before_or_after (disk.size (log.log_device l)) contents (log.log_blocks l) (log.log_tail l) h now.holds e root pages (append.body_in_run run) (its_body (log.log_tail l) now.holds.leads.roots now.holds.leads.pages stand) stand.keeps is.allowed needed inside may_stand unsealed_now)
           leaves
 
       -- After it the log holds the history with the entry, with the trees of the next board.
@@ -99,7 +103,7 @@ module _ {D : Type 0} {disk : Ghosts D} (h : List Entry) (l : Log D disk) (e : E
           let tail_after : log.log_tail after ≡ tail + need_of h e = appended.tail ∙ ap (λ n. tail + n) needed in
           let below : (k : ℕ) → k < 4096 * tail → image k ≡ disk.contents (log.log_device l) k = λ k lt. written.elsewhere k (λ le. absurd (omega (arith, le, lt))) (λ le. absurd (omega (arith, le, lt))) in
           let its_log = AtRest-IsLog image (disk.images_now (log.log_device after)) (log.log_tail after) (now.holds.bodies ++ append.body_in_run run ∷ []) log_rests in
-          let holds : HoldsTrees size image blocks (tail + need_of h e) (h ++ e ∷ []) s streams = holds_trees size (disk.contents (log.log_device l)) blocks tail h now.holds e root pages (append.body_in_run run) (its_body tail now.holds.leads.roots now.holds.leads.pages stand) stand.keeps is.allowed needed inside may_stand image below its_log s now.under streams stored have in
+          let holds : HoldsTrees size image blocks (tail + need_of h e) (h ++ e ∷ []) s streams = holds_trees size (disk.contents (log.log_device l)) blocks tail h now.holds e root pages (append.body_in_run run) (its_body tail now.holds.leads.roots now.holds.leads.pages stand) stand.keeps is.allowed needed inside may_stand unsealed_now image below its_log s now.under streams stored have in
           let sized = subst (λ n. HoldsTrees n image blocks (tail + need_of h e) (h ++ e ∷ []) s streams) (sym kept.device_kept.same_size) holds in
           let blocked = subst (λ n. HoldsTrees (disk.size (log.log_device after)) image n (tail + need_of h e) (h ++ e ∷ []) s streams) (sym kept.blocks) sized in
           let tailed = subst (λ n. HoldsTrees (disk.size (log.log_device after)) image (log.log_blocks after) n (h ++ e ∷ []) s streams) (sym tail_after) blocked in

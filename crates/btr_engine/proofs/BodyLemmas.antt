@@ -3,7 +3,7 @@
 use Rattle.std.specs.Prelude.{◌≡◌, ℕ, ◌+◌, ◌*◌, ◌<◌, ◌≤◌, ◌^◌, max, List, [], ◌∷◌, ◌++◌, length, take}
 use Rattle.btr_base.specs.Commit.{Change}
 use Rattle.std.specs.List.{flat_map, AllByRecursion}
-use Rattle.std.proofs.Common.{refl, sym, ◌∙◌, ap, subst, inl, inr, arith, length-append}
+use Rattle.std.proofs.Common.{refl, sym, ◌∙◌, ap, subst, inl, inr, ⊎_elim, arith, length-append}
 use Rattle.std.proofs.lemmas.List.{take_at}
 use Rattle.std.proofs.lemmas.Nat.{from_be_bytes-to_be_bytes_4}
 use Rattle.btr_disk.specs.Gate.{zeros}
@@ -57,7 +57,7 @@ module _ (number : ℕ) (e : Entry) (root : ℕ) (pages : List NodePage) where
   -- The head of a body keeps the grammar.
   pub IsHead-head_of : FitsBody number e root pages → IsHead (head_of number e root pages)
   IsHead-head_of is =
-      IsHead-entry_head (format_of e) number (length (spelling e)) (length pages) root (format-from e) (format-to e) is.some is.few (omega (arith, length-spelling e is.spelled)) is.room is.low
+      IsHead-entry_head (format_of e) number (length (spelling e)) (length pages) root (format-from e) (omega (arith, (format-to e))) is.some is.few (omega (arith, length-spelling e is.spelled)) is.room is.low
 
   take-head : take 64 (body_of number e root pages) ≡ head_bytes (head_of number e root pages)
   unfolding body_of
@@ -168,7 +168,7 @@ module _ (format : ℕ) (h : List Entry) (roots : List ℕ) where
       omega (arith, length-append (head_bytes head_of_checkpoint) filled_content, length-append (content_of format h roots) (zeros (padding size)), length-head_bytes head_of_checkpoint, length-zeros (padding size))
 
   -- The head of a checkpoint keeps the grammar, if its numbers fit.
-  pub IsHead-checkpoint : 1 ≤ format → format ≤ 3 → length h < 2 ^ 64 → length (content_of format h roots) < 2 ^ 64 → IsHead head_of_checkpoint
+  pub IsHead-checkpoint : 1 ≤ format → format ≤ 4 → length h < 2 ^ 64 → length (content_of format h roots) < 2 ^ 64 → IsHead head_of_checkpoint
   IsHead-checkpoint some known few short = record {
     kind = inr (refl, refl, refl);
     format = (some, known);
@@ -176,7 +176,7 @@ module _ (format : ℕ) (h : List Entry) (roots : List ℕ) where
     fits = record { number = few; n = omega (arith, short); length = short; nodes = omega arith; root = omega arith };
   }
 
-  pub IsBody-checkpoint_body : 1 ≤ format → format ≤ 3 → length h < 2 ^ 64 → length (content_of format h roots) < 2 ^ 64 → IsBody (checkpoint_body format h roots) head_of_checkpoint
+  pub IsBody-checkpoint_body : 1 ≤ format → format ≤ 4 → length h < 2 ^ 64 → length (content_of format h roots) < 2 ^ 64 → IsBody (checkpoint_body format h roots) head_of_checkpoint
   unfolding checkpoint_body
   IsBody-checkpoint_body some known few short = record {
     spells = record {
@@ -228,7 +228,7 @@ pub format-body : (body : List ℕ) (head : Head) → IsBody body head → forma
 format-body body head is = format-spells body head is.spells
 
 pub stands-under : (limit : ℕ) (body : List ℕ) (head : Head) → IsBody body head → head.format ≤ limit → MayStandUnder limit body
-stands-under limit body head is under = omega (arith, format-body body head is, under)
+stands-under limit body head is under = inl (omega (arith, format-body body head is, under))
 
 -- One body more.
 pub formats-push : (limit : ℕ) (bodies : List (List ℕ)) (body : List ℕ) → AllByRecursion (MayStandUnder limit) bodies → MayStandUnder limit body → AllByRecursion (MayStandUnder limit) (bodies ++ body ∷ [])
@@ -241,9 +241,14 @@ formats-rest limit [] others all = all
 formats-rest limit (body ∷ first) others all = formats-rest limit first others all.1
 
 -- A greater limit.
+stands-more : (limit other : ℕ) (body : List ℕ) → limit ≤ other → MayStandUnder limit body → MayStandUnder other body
+stands-more limit other body more may =
+    ⊎_elim (λ under. inl (omega (arith, under, more))) (λ sealed. inr sealed) may
+
 pub formats-under : (limit other : ℕ) (bodies : List (List ℕ)) → limit ≤ other → AllByRecursion (MayStandUnder limit) bodies → AllByRecursion (MayStandUnder other) bodies
 formats-under limit other [] more all = tt
-formats-under limit other (body ∷ bodies) more all = (omega (arith, all.0, more), formats-under limit other bodies more all.1)
+formats-under limit other (body ∷ bodies) more all =
+    (stands-more limit other body more all.0, formats-under limit other bodies more all.1)
 
 -- ---- bodies that lead from one prefix to another
 
@@ -316,14 +321,15 @@ module _ (Rule : RootRule) where
         omega (arith, LeadTo-gate (with_checkpoint before body) bodies after x.1, least-IsCheckpointOf before body x.0)
   ]
 
-  -- If no body has a greater format than `limit`, no entry has.
+  -- If no body has a greater format than `limit` but that of a seal, no entry has: that is no entry's.
   pub LeadTo-needed : (limit : ℕ) (before : Prefix) (bodies : List (List ℕ)) (after : Prefix) → LeadTo Rule before bodies after → AllByRecursion (MayStandUnder limit) bodies → needed_format before.entries ≤ limit → needed_format after.entries ≤ limit
   LeadTo-needed limit before [] after leads formats least =
       subst (λ (p : Prefix). needed_format p.entries ≤ limit) leads least
   LeadTo-needed limit before (body ∷ bodies) after leads formats least = elim leads [
     | inl x ↦
         let format : format_in body ≡ format_of x.0 = ap format_in x.3.bytes ∙ format-body_of (length before.entries + 1) x.0 x.1 x.2 in
-        LeadTo-needed limit (with_extent before x.0 x.1 x.2 body) bodies after x.5 formats.1 (omega (arith, formats.0, format, least, needed-push before.entries x.0))
+        let under : format_of x.0 ≤ limit = ⊎_elim (λ le. omega (arith, le, format)) (λ sealed. absurd (omega (arith, sealed, format, format-to x.0))) formats.0 in
+        LeadTo-needed limit (with_extent before x.0 x.1 x.2 body) bodies after x.5 formats.1 (omega (arith, under, least, needed-push before.entries x.0))
     | inr x ↦ LeadTo-needed limit (with_checkpoint before body) bodies after x.1 formats.1 least
   ]
 

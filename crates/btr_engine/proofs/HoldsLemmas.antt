@@ -1,6 +1,5 @@
 -- Which history is held: by images that agree, and after one entry more.
-use Rattle.std.specs.Prelude.{◌≡◌, ℕ, ◌+◌, ◌-◌, ◌*◌, ◌<◌, ◌≤◌, List, [], ◌∷◌, ◌++◌, length, None}
-use Rattle.std.specs.List.{AllByRecursion}
+use Rattle.std.specs.Prelude.{◌≡◌, ℕ, ◌+◌, ◌-◌, ◌*◌, ◌<◌, ◌≤◌, true, false, List, [], ◌∷◌, ◌++◌, length, None}
 use Rattle.std.proofs.Common.{refl, sym, ◌∙◌, ap, subst, inl, inr, ⊎_elim, arith, append_assoc}
 use Rattle.btr_disk.specs.Bytes.{Image, Same}
 use Rattle.btr_disk.specs.Gate.{IsClosed}
@@ -9,7 +8,7 @@ use Rattle.btr_log.specs.Extents.{need, Extents, IsLog, first_gate}
 use Rattle.btr_log.proofs.ExtentLemmas.{IsOpen-along, IsClosed-along, Extents-along, Extents-le, IsLog-Same}
 use Rattle.btr_log.specs.Append.{IsMoment}
 use Rattle.btr_super.specs.declared.superblock.Super.{Super}
-use Rattle.btr_super.specs.Super.{super_bytes}
+use Rattle.btr_super.specs.Super.{super_bytes, has_seal}
 use Rattle.btr_super.proofs.SuperLemmas.{length-super_bytes}
 use Rattle.btr_super.specs.Choose.{HasSuper, IsChosen}
 use Rattle.btr_hist.specs.declared.entry.Entry.{Entry}
@@ -34,6 +33,10 @@ HoldsTrees size image blocks tail h s streams =
     × HaveRoots holds.leads.roots streams
 
 -- ---- the superblocks, in the first four blocks
+
+-- A superblock without a seal has none.
+pub no-seal : {P : Type 0} (s : Super) → has_seal s ≡ false → has_seal s ≡ true → P
+no-seal s unsealed sealed = absurd (cc)
 
 -- Two images agree on the first four blocks.
 abbrev pub AgreeInPrefix : Image → Image → Type 0
@@ -139,6 +142,7 @@ module _ (size : ℕ) (old : Image) (blocks tail : ℕ) (h : List Entry) (at : H
         leads = at.leads;
         formats = at.formats;
         starts = at.starts;
+        sealed = at.sealed;
         closed = subst (IsClosed new) same log.2;
         inside = at.inside;
         follows = at.follows;
@@ -149,9 +153,10 @@ module _ (size : ℕ) (old : Image) (blocks tail : ℕ) (h : List Entry) (at : H
   holds_still new same =
       holds_as_before new (λ k lt. same k) (IsLog-Same old new first_gate at.bodies same (tail, at.extents, at.closed))
 
-  -- If all below the tail is the same, and the log has one extent more, with which its bodies lead to a history, the image holds that one.
-  abbrev pub holds_longer : (body : List ℕ) (end : ℕ) (longer : List Entry) → LeadToHistory IsRootOf (at.bodies ++ body ∷ []) end longer → MayStandUnder at.super.format body → Follows longer → tail + need body ≡ end → end < blocks → (new : Image) → ((k : ℕ) → k < 4096 * tail → new k ≡ old k) → IsLog new first_gate (at.bodies ++ body ∷ []) → HoldsHistoryTo size new blocks end longer
-  holds_longer body end longer leads may follows ends fits new below log =
+  -- If the store is not sealed, all below the tail is the same, and the log has one extent more, with which its bodies lead to a history,
+  -- the image holds that one.
+  abbrev pub holds_longer : (body : List ℕ) (end : ℕ) (longer : List Entry) → LeadToHistory IsRootOf (at.bodies ++ body ∷ []) end longer → MayStandUnder at.super.format body → has_seal at.super ≡ false → Follows longer → tail + need body ≡ end → end < blocks → (new : Image) → ((k : ℕ) → k < 4096 * tail → new k ≡ old k) → IsLog new first_gate (at.bodies ++ body ∷ []) → HoldsHistoryTo size new blocks end longer
+  holds_longer body end longer leads may unsealed follows ends fits new below log =
       let same : log.0 ≡ end = tails-push old new first_gate at.bodies body tail log.0 at.extents log.1 ∙ ends in
       let prefix : 4 ≤ tail = behind_prefix in
       record {
@@ -163,19 +168,20 @@ module _ (size : ℕ) (old : Image) (blocks tail : ℕ) (h : List Entry) (at : H
         leads = leads;
         formats = formats-push at.super.format at.bodies body at.formats may;
         starts = starts-push IsRootOf at.bodies body at.super.checkpoint at.super.tail at.starts;
+        sealed = no-seal at.super unsealed;
         closed = subst (IsClosed new) same log.2;
         inside = fits;
         follows = follows;
       }
 
-  module _ (e : Entry) (root : ℕ) (pages : List NodePage) (body : List ℕ) (is : IsBodyOf held e root pages body) (keeps : IsRootOf (pages_after held e pages) h e root pages) (allowed : rejection h e ≡ None) (needed : need body ≡ need_of h e) (fits : tail + need_of h e < blocks) (may : format_of e ≤ at.super.format) where
+  module _ (e : Entry) (root : ℕ) (pages : List NodePage) (body : List ℕ) (is : IsBodyOf held e root pages body) (keeps : IsRootOf (pages_after held e pages) h e root pages) (allowed : rejection h e ≡ None) (needed : need body ≡ need_of h e) (fits : tail + need_of h e < blocks) (may : format_of e ≤ at.super.format) (unsealed : has_seal at.super ≡ false) where
     end_of : tail + need body ≡ tail + need_of h e
     end_of = ap (λ n. tail + n) needed
 
     may_stand : MayStandUnder at.super.format body
     may_stand =
         let format : format_in body ≡ format_of e = ap format_in is.bytes ∙ format-body_of (length h + 1) e root pages in
-        omega (arith, format, may)
+        inl (omega (arith, format, may))
 
     -- If all below the tail is the same and the log has this entry too, the image holds the history with it.
     pub holds_with : (new : Image) → ((k : ℕ) → k < 4096 * tail → new k ≡ old k) → IsLog new first_gate (at.bodies ++ body ∷ []) → HoldsHistoryTo size new blocks (tail + need_of h e) (h ++ e ∷ [])
@@ -187,7 +193,7 @@ module _ (size : ℕ) (old : Image) (blocks tail : ℕ) (h : List Entry) (at : H
           lead = subst (λ g. LeadTo IsRootOf no_extents (at.bodies ++ body ∷ []) (prefix_to g (h ++ e ∷ []) (at.leads.roots ++ root ∷ []) (pages_after held e pages))) end_of
               (LeadTo-push IsRootOf no_extents at.bodies held e root pages body at.leads.lead is keeps);
         })
-        may_stand (follows-push h e at.follows allowed) end_of fits
+        may_stand unsealed (follows-push h e at.follows allowed) end_of fits
 
     -- So it is with trees that are stored in the pages of the history and those of the entry, and have the roots of both.
     pub holds_trees : (new : Image) → ((k : ℕ) → k < 4096 * tail → new k ≡ old k) → IsLog new first_gate (at.bodies ++ body ∷ []) → (s : Super) → at.super ≡ s → (streams : List Versions) → AreStored (pages_after held e pages) (tail + need_of h e) streams → HaveRoots (at.leads.roots ++ root ∷ []) streams → HoldsTrees size new blocks (tail + need_of h e) (h ++ e ∷ []) s streams
@@ -207,9 +213,10 @@ module _ (size : ℕ) (old : Image) (blocks tail : ℕ) (h : List Entry) (at : H
         moment.log
 
   -- If all from the first gate on is the same, and another superblock of as many blocks and no lesser format is chosen, which says that the
-  -- log is read from its beginning or from the gate after one of its checkpoints, the image holds the same history.
-  abbrev pub holds_under : (new : Image) (s : Super) → ((k : ℕ) → 16384 ≤ k → new k ≡ old k) → IsChosen size new s → s.blocks ≡ blocks → at.super.format ≤ s.format → StartsAt IsRootOf at.bodies s.checkpoint s.tail → HoldsHistoryTo size new blocks tail h
-  holds_under new s agree chosen same more starts =
+  -- log is read from its beginning or from the gate after one of its checkpoints, the image holds the same history. If that superblock is of
+  -- a sealed store, it says the tail.
+  abbrev pub holds_under : (new : Image) (s : Super) → ((k : ℕ) → 16384 ≤ k → new k ≡ old k) → IsChosen size new s → s.blocks ≡ blocks → at.super.format ≤ s.format → StartsAt IsRootOf at.bodies s.checkpoint s.tail → (has_seal s ≡ true → s.tail ≡ tail) → HoldsHistoryTo size new blocks tail h
+  holds_under new s agree chosen same more starts sealed =
       let prefix : 4 ≤ tail = behind_prefix in
       record {
         super = s;
@@ -220,19 +227,20 @@ module _ (size : ℕ) (old : Image) (blocks tail : ℕ) (h : List Entry) (at : H
         leads = at.leads;
         formats = formats-under at.super.format s.format at.bodies more at.formats;
         starts = starts;
+        sealed = sealed;
         closed = IsClosed-along old new tail (λ k low high. agree k (omega (arith, low))) at.closed;
         inside = at.inside;
         follows = at.follows;
       }
 
-  -- If all below the tail is the same and the log has a checkpoint too, whose format is no greater than that of the superblock, the image
-  -- holds the same history.
-  abbrev pub holds_marked : (body : List ℕ) → IsCheckpointOf held body → MayStandUnder at.super.format body → tail + need body < blocks → (new : Image) → ((k : ℕ) → k < 4096 * tail → new k ≡ old k) → IsLog new first_gate (at.bodies ++ body ∷ []) → HoldsHistoryTo size new blocks (tail + need body) h
-  holds_marked body is may fits =
+  -- If the store is not sealed, all below the tail is the same and the log has a checkpoint too, whose format may stand under that of the
+  -- superblock, the image holds the same history.
+  abbrev pub holds_marked : (body : List ℕ) → IsCheckpointOf held body → MayStandUnder at.super.format body → has_seal at.super ≡ false → tail + need body < blocks → (new : Image) → ((k : ℕ) → k < 4096 * tail → new k ≡ old k) → IsLog new first_gate (at.bodies ++ body ∷ []) → HoldsHistoryTo size new blocks (tail + need body) h
+  holds_marked body is may unsealed fits =
       holds_longer body (tail + need body) h
       (record {
         roots = at.leads.roots;
         pages = at.leads.pages;
         lead = LeadTo-mark IsRootOf no_extents at.bodies held body at.leads.lead is;
       })
-      may at.follows refl fits
+      may unsealed at.follows refl fits

@@ -23,13 +23,14 @@ use Rattle.btr_log.proofs.ExtentLemmas.{AtRest-IsLog}
 use Rattle.btr_tree.specs.PageNodes.{Pages, nodes_in}
 use Rattle.btr_pages.proofs.ReportedLemmas.{below-more}
 use Rattle.btr_super.specs.declared.superblock.Super.{Super}
+use Rattle.btr_super.specs.Super.{has_seal}
 use Rattle.btr_super.specs.Choose.{IsChosen}
 use Rattle.btr_super.specs.Replace.{IsFollowed, HasOnePrefix, IsReplacing}
 use Rattle.btr_hist.specs.declared.entry.Entry.{Entry}
 use Rattle.btr_roll.specs.Roll.{roll_bytes}
 use Rattle.btr_engine.specs.declared.engine.Engine.{Engine}
 use Rattle.btr_engine.specs.declared.step.StepFault.{StepFault}
-use Rattle.btr_engine.specs.declared.step.StepFault.TheVariants.{DeviceFull, DeviceFault}
+use Rattle.btr_engine.specs.declared.step.StepFault.TheVariants.{Stopped, Sealed, DeviceFull, DeviceFault}
 use Rattle.btr_streams.specs.Board.{Versions, Kept, IsBoardOf}
 use Rattle.btr_streams.specs.Rolling.{roll_of, rolled}
 use Rattle.btr_engine.specs.Body.{MayStandUnder, prefix_to, no_extents, needed_format, IsCheckpointOf, LeadTo}
@@ -38,13 +39,14 @@ use Rattle.btr_engine.specs.Holds.{HoldsHistoryTo, HoldsHistory}
 use Rattle.btr_engine.specs.Stored.{AreStored}
 use Rattle.btr_streams.specs.Board.{tree_at}
 use Rattle.btr_streams.specs.Rolling.{HaveRoots}
-use Rattle.btr_engine.specs.Engine.{log_of, device, board_of, is_home, blocks_of, entries_of, tail_of, room_of, super_of, is_stopped, synced_of, entries_at_open, IsAtRest, IsDurable, EngineLeaves, KeepsOpening}
-use Rattle.btr_engine.specs.Mark.{body_of_roll, run_of_board, need_of_board, next_super, IsNamed, CountsMark, StopsByMark, CheckpointCause, Marks}
+use Rattle.btr_engine.specs.Engine.{log_of, device, board_of, is_home, blocks_of, entries_of, tail_of, room_of, super_of, is_stopped, is_sealed, synced_of, entries_at_open, IsAtRest, IsDurable, EngineLeaves, KeepsOpening}
+use Rattle.btr_engine.specs.Mark.{body_of_roll, run_of_board, need_of_board, next_super, IsNamed, MayMark, CountsMark, StopsByMark, CheckpointCause, Marks}
 use Rattle.btr_engine.proofs.RollBody.{need-body_of_roll, brings-roll, body-of-history}
 use Rattle.btr_engine.proofs.EngineLemmas.{holds_in, take_whole}
 use Rattle.btr_engine.proofs.BodyLemmas.{format-IsCheckpointOf}
-use Rattle.btr_engine.proofs.HoldsLemmas.{HoldsTrees, IsChosen-along, held, may_mark, starts-last, holds_as_before, holds_under, holds_marked}
+use Rattle.btr_engine.proofs.HoldsLemmas.{HoldsTrees, no-seal, IsChosen-along, held, may_mark, starts-last, holds_as_before, holds_under, holds_marked}
 use Rattle.btr_engine.proofs.Stepping.{same_at_home}
+use Rattle.btr_engine.proofs.Settling.{marks_between}
 use Rattle.btr_streams.proofs.RollingLemmas.{rolled-is}
 use Rattle.btr_streams.proofs.StreamsLemmas.{has-streams}
 
@@ -98,9 +100,11 @@ pub record Names (blocks gate end format : ℕ) (next : Super) : Type 0 where
 abbrev pub AgreeBehind : Image → Image → Type 0
 AgreeBehind old new = (k : ℕ) → 16384 ≤ k → new k ≡ old k
 
-module _ (size : ℕ) (old : Image) (blocks tail : ℕ) (h : List Entry) (at : HoldsHistoryTo size old blocks tail h) (body : List ℕ) (is : IsCheckpointOf (held size old blocks tail h at) body) (same_format : is.format ≡ at.super.format) (fits : tail + need body < blocks) where
+module _ (size : ℕ) (old : Image) (blocks tail : ℕ) (h : List Entry) (at : HoldsHistoryTo size old blocks tail h) (body : List ℕ) (is : IsCheckpointOf (held size old blocks tail h at) body) (format : ℕ) (same_format : is.format ≡ format) (may : MayMark at.super format) (unsealed : has_seal at.super ≡ false) (fits : tail + need body < blocks) where
   may_stand : MayStandUnder at.super.format body
-  may_stand = omega (arith, format-IsCheckpointOf (held size old blocks tail h at) body is, same_format)
+  may_stand =
+      let in_body = format-IsCheckpointOf (held size old blocks tail h at) body is ∙ same_format in
+      ⊎_elim (λ same. inl (omega (arith, in_body, same))) (λ sealed. inr (in_body ∙ sealed)) may
 
   -- An image at a moment of the append holds the history.
   while_appending : (c : Image) → append.IsMoment old tail at.bodies body c → HoldsHistory size c h
@@ -114,14 +118,14 @@ module _ (size : ℕ) (old : Image) (blocks tail : ℕ) (h : List Entry) (at : H
       (λ log. record {
         blocks = blocks;
         tail = tail + need body;
-        holds = holds_marked size old blocks tail h at body is may_stand fits c moment.below log;
+        holds = holds_marked size old blocks tail h at body is may_stand unsealed fits c moment.below log;
       })
       moment.log
 
-  module _ (mid : Image) (below : (k : ℕ) → k < 4096 * tail → mid k ≡ old k) (log : IsLog mid first_gate (at.bodies ++ body ∷ [])) (next : Super) (names : Names blocks tail (tail + need body) at.super.format next) where
+  module _ (mid : Image) (below : (k : ℕ) → k < 4096 * tail → mid k ≡ old k) (log : IsLog mid first_gate (at.bodies ++ body ∷ [])) (next : Super) (names : Names blocks tail (tail + need body) format next) where
     -- The history after the append.
     abbrev middle : HoldsHistoryTo size mid blocks (tail + need body) h
-    middle = holds_marked size old blocks tail h at body is may_stand fits mid below log
+    middle = holds_marked size old blocks tail h at body is may_stand unsealed fits mid below log
 
     -- The old superblock is still chosen.
     middle_chosen : IsChosen size mid at.super
@@ -130,8 +134,10 @@ module _ (size : ℕ) (old : Image) (blocks tail : ℕ) (h : List Entry) (at : H
     -- The history under the next superblock.
     abbrev under : (c : Image) → AgreeBehind mid c → IsChosen size c next → HoldsHistoryTo size c blocks (tail + need body) h
     under c agree chosen =
-        holds_under size mid blocks (tail + need body) h middle c next agree chosen names.same_blocks (omega (arith, names.same_format))
+        holds_under size mid blocks (tail + need body) h middle c next agree chosen names.same_blocks
+        (omega (arith, names.same_format, (marks_between at.super format at.chosen.stored.spelled.keeps.known_format.1 may).0))
         (starts-last IsRootOf at.bodies (held size old blocks tail h at) body next.checkpoint next.tail at.leads.lead is names.gate_is names.end_is)
+        (λ _. names.end_is)
 
     -- An image at a moment of the replacement holds the history.
     while_replacing : (images : Image → Type 0) → Only mid images → (c : Image) → IsReplacing size images at.super next c → HoldsHistory size c h
@@ -143,7 +149,7 @@ module _ (size : ℕ) (old : Image) (blocks tail : ℕ) (h : List Entry) (at : H
         (λ chosen. record {
           blocks = blocks;
           tail = tail + need body;
-          holds = holds_under size mid blocks (tail + need body) h middle c at.super agree chosen at.same_blocks (omega arith) middle.starts;
+          holds = holds_under size mid blocks (tail + need body) h middle c at.super agree chosen at.same_blocks (omega arith) middle.starts (no-seal at.super unsealed);
         })
         (λ chosen. record {
           blocks = blocks;
@@ -158,25 +164,26 @@ module _ (size : ℕ) (old : Image) (blocks tail : ℕ) (h : List Entry) (at : H
         (under new agree chosen, refl, stored-later at.leads.pages tail (tail + need body) streams (omega arith) stored, have)
 
     -- The next superblock names a checkpoint of the whole history.
-    named : (new : Image) → AgreeBehind mid new → IsChosen size new next → IsNamed size new blocks (tail + need body) h
+    named : (new : Image) → AgreeBehind mid new → IsChosen size new next → IsNamed size new blocks (tail + need body) h format
     named new agree chosen = record {
       holds = under new agree chosen;
+      in_format = names.same_format;
       before = at.bodies;
       body = body;
       last = refl;
       leads = subst (λ n. LeadTo IsRootOf no_extents at.bodies (prefix_to n h at.leads.roots at.leads.pages)) (sym names.gate_is) at.leads.lead;
       is = record { format = is.format; least = is.least; most = is.most; room = is.room; bytes = is.bytes };
-      same_format = same_format ∙ sym names.same_format;
+      same_format = same_format;
       from_tail = names.end_is;
     }
 
 -- ---- an engine
 
-module _ {D : Type 0} {disk : Ghosts D} (old : Engine D disk) (run : List ℕ) (bytes : run ≡ run_of_board (super_of old).format (board_of old)) where
+module _ {D : Type 0} {disk : Ghosts D} (old : Engine D disk) (format : ℕ) (run : List ℕ) (bytes : run ≡ run_of_board format (board_of old)) where
   -- The blocks that the run needs are those of the board.
-  pub needed : need (append.body_in_run run) ≡ need_of_board (super_of old).format (board_of old)
+  pub needed : need (append.body_in_run run) ≡ need_of_board format (board_of old)
   needed =
-      ap need (brings-roll (super_of old).format (entries_of old) (rolled (board_of old)) run bytes) ∙ need-body_of_roll (super_of old).format (entries_of old) (rolled (board_of old))
+      ap need (brings-roll format (entries_of old) (rolled (board_of old)) run bytes) ∙ need-body_of_roll format (entries_of old) (rolled (board_of old))
 
   -- They are two or more: the content has a head.
   pub two_blocks : 2 ≤ need (append.body_in_run run)
@@ -190,19 +197,19 @@ module _ {D : Type 0} {disk : Ghosts D} (old : Engine D disk) (run : List ℕ) (
   AnswersFull answer = IsFalse (is_stopped old) → append.IsTooLong (log_of old) run → answer ≡ full
 
   -- An append with another result had room.
-  pub fits_unless_full : (answer : Result (Unit {0}) AppendFault) → IsFalse (is_stopped old) → AnswersFull answer → (answer ≡ full → ⊥) → need_of_board (super_of old).format (board_of old) ≤ room_of old
+  pub fits_unless_full : (answer : Result (Unit {0}) AppendFault) → IsFalse (is_stopped old) → AnswersFull answer → (answer ≡ full → ⊥) → need_of_board format (board_of old) ≤ room_of old
   fits_unless_full answer runs answers_full other =
-      let size : need (append.body_in_run run) ≡ need_of_board (super_of old).format (board_of old) = needed in
-      ⊎_elim (λ short. absurd (other (answers_full runs (omega (arith, short, size))))) (λ le. le) (cases_lt (room_of old) (need_of_board (super_of old).format (board_of old)))
+      let size : need (append.body_in_run run) ≡ need_of_board format (board_of old) = needed in
+      ⊎_elim (λ short. absurd (other (answers_full runs (omega (arith, short, size))))) (λ le. le) (cases_lt (room_of old) (need_of_board format (board_of old)))
 
   -- Why an append that fails makes no checkpoint.
-  pub refused : (new : Engine D disk) (fault : AppendFault) (answer : StepFault) → is_home old ≡ true → is_home new ≡ true → IsFalse (is_stopped old) → AnswersFull (Err fault) → append.AppendCause (log_of old) (log_of new) run fault → board_of new ≡ board_of old → new.opened_with ≡ old.opened_with → new.chosen ≡ old.chosen → new.synced ≡ old.synced → ((n left : ℕ) → fault ≡ Full n left → answer ≡ DeviceFull n left) → (fault ≡ Fault → answer ≡ DeviceFault) → CheckpointCause old new answer
+  pub refused : (new : Engine D disk) (fault : AppendFault) (answer : StepFault) → is_home old ≡ true → is_home new ≡ true → IsFalse (is_stopped old) → AnswersFull (Err fault) → append.AppendCause (log_of old) (log_of new) run fault → board_of new ≡ board_of old → new.opened_with ≡ old.opened_with → new.chosen ≡ old.chosen → new.synced ≡ old.synced → ((n left : ℕ) → fault ≡ Full n left → answer ≡ DeviceFull n left) → (fault ≡ Fault → answer ≡ DeviceFault) → CheckpointCause format old new answer
   refused new (Full n room) answer before_home after_home runs answers_full cause same began chosen synced is_full is_fault =
       let short : room < n = omega (arith, cause.1, cause.2, cause.3) in
-      subst (CheckpointCause old new) (sym (is_full n room refl)) (runs, cause.2 ∙ needed, cause.3, short, same_at_home new old after_home before_home (record { log = cause.4; board = same; entries = began; chosen = chosen; synced = synced }))
+      subst (CheckpointCause format old new) (sym (is_full n room refl)) (runs, cause.2 ∙ needed, cause.3, short, same_at_home new old after_home before_home (record { log = cause.4; board = same; entries = began; chosen = chosen; synced = synced }))
   refused new Fault answer before_home after_home runs answers_full cause same began chosen synced is_full is_fault =
       let fits = fits_unless_full (Err Fault) runs answers_full (λ no. absurd (cc)) in
-      subst (CheckpointCause old new) (sym (is_fault refl)) (
+      subst (CheckpointCause format old new) (sym (is_fault refl)) (
         runs,
         fits,
         record { called = cause.1.called; at_most = omega (arith, cause.1.at_most); rose = cause.1.rose; stopped = cause.1.stopped; board = same; chosen = chosen },
@@ -210,14 +217,14 @@ module _ {D : Type 0} {disk : Ghosts D} (old : Engine D disk) (run : List ℕ) (
   refused new (AlreadyStopped n) answer before_home after_home runs answers_full cause same began chosen synced is_full is_fault =
       let stopped = cause.0 in absurd (cc)
 
-  module _ (fits : need_of_board (super_of old).format (board_of old) ≤ room_of old) where
+  module _ (fits : need_of_board format (board_of old) ≤ room_of old) where
     -- A block is left after it for the next gate.
     inside : tail_of old + need (append.body_in_run run) < blocks_of old
     inside =
         let below : tail_of old < blocks_of old = (log_of old).tail_inside in
         omega (arith, fits, needed, below)
 
-    module _ (h : List Entry) (rest : IsAtRest h old) where
+    module _ (may : MayMark (super_of old) format) (unsealed : is_sealed old ≡ false) (h : List Entry) (rest : IsAtRest h old) where
       abbrev size : ℕ
       size = disk.size (device old)
 
@@ -229,28 +236,35 @@ module _ {D : Type 0} {disk : Ghosts D} (old : Engine D disk) (run : List ℕ) (
       is-checkpoint =
           let roots = rest.holds.leads.roots in
           let same : rolled (board_of old) ≡ roll_of h roots = rolled-is h roots (board_of old) (has-streams h (board_of old) rest.of) rest.roots in
-          let low : content_blocks (length (roll_bytes (super_of old).format (rolled (board_of old)))) < 2 ^ 64 = omega (arith, fits, (log_of old).addressable) in
-          let format = (super_of old).format in
+          let low : content_blocks (length (roll_bytes format (rolled (board_of old)))) < 2 ^ 64 = omega (arith, fits, (log_of old).addressable) in
+          let between = marks_between (super_of old) format old.followable.format_to may in
+          let least : needed_format h ≤ (super_of old).format = subst (λ (s : Super). needed_format h ≤ s.format) rest.under (may_mark size contents (blocks_of old) (tail_of old) h rest.holds) in
           record {
             format = format;
-            least = subst (λ (s : Super). needed_format h ≤ s.format) rest.under (may_mark size contents (blocks_of old) (tail_of old) h rest.holds);
-            most = old.followable.format_to;
+            least = omega (arith, least, between.0);
+            most = between.1;
             room = subst (λ r. content_blocks (length (roll_bytes format r)) < 2 ^ 64) same low;
             bytes = brings-roll format (entries_of old) (rolled (board_of old)) run bytes ∙ ap (λ n. body_of_roll format n (rolled (board_of old))) rest.of.entries ∙ ap (body_of_roll format (length h)) same ∙ body-of-history format h roots;
           }
 
-      -- Its format is that of the superblock.
-      its-format : is-checkpoint.format ≡ rest.holds.super.format
+      its-format : is-checkpoint.format ≡ format
       unfolding is-checkpoint
-      its-format = ap (λ (s : Super). s.format) (sym rest.under)
+      its-format = refl
+
+      -- So it is of the superblock that is chosen.
+      its-may : MayMark rest.holds.super format
+      its-may = subst (λ s. MayMark s format) (sym rest.under) may
+
+      its-unsealed : has_seal rest.holds.super ≡ false
+      its-unsealed = ap has_seal rest.under ∙ unsealed
 
       -- Each moment of the append leaves the history.
       pub appending : (after : Log D disk) → log.LogLeaves (log_of old) after (append.IsMoment contents (tail_of old) rest.holds.bodies (append.body_in_run run)) → log.LogLeaves (log_of old) after (λ c. HoldsHistory size c h)
       appending after leaves =
           weakens disk.calls disk.images_since (device old) (log.log_device after) (append.IsMoment contents (tail_of old) rest.holds.bodies (append.body_in_run run)) (λ c. HoldsHistory size c h)
-          (while_appending size contents (blocks_of old) (tail_of old) h rest.holds (append.body_in_run run) is-checkpoint its-format inside) leaves
+          (while_appending size contents (blocks_of old) (tail_of old) h rest.holds (append.body_in_run run) is-checkpoint format its-format its-may its-unsealed inside) leaves
 
-      module _ (after : Log D disk) (kept : log.KeepsBounds (log_of old) after) (tail : log.log_tail after ≡ tail_of old + need (append.body_in_run run)) (written : Published contents (4096 * (tail_of old + 1)) run (4096 * tail_of old) gate_block (disk.contents (log.log_device after))) (rests : log.IsLogAtRest after (rest.holds.bodies ++ append.body_in_run run ∷ [])) (next : Super) (is_next : next ≡ next_super (super_of old) (tail_of old) (log.log_tail after) (super_of old).format) where
+      module _ (after : Log D disk) (kept : log.KeepsBounds (log_of old) after) (tail : log.log_tail after ≡ tail_of old + need (append.body_in_run run)) (written : Published contents (4096 * (tail_of old + 1)) run (4096 * tail_of old) gate_block (disk.contents (log.log_device after))) (rests : log.IsLogAtRest after (rest.holds.bodies ++ append.body_in_run run ∷ [])) (next : Super) (is_next : next ≡ next_super (super_of old) (tail_of old) (log.log_tail after) format) where
         abbrev mid : Image
         mid = disk.contents (log.log_device after)
 
@@ -260,9 +274,9 @@ module _ {D : Type 0} {disk : Ghosts D} (old : Engine D disk) (run : List ℕ) (
         its_log : IsLog mid first_gate (rest.holds.bodies ++ append.body_in_run run ∷ [])
         its_log = AtRest-IsLog mid (disk.images_now (log.log_device after)) (log.log_tail after) (rest.holds.bodies ++ append.body_in_run run ∷ []) rests
 
-        names : Names (blocks_of old) (tail_of old) (tail_of old + need (append.body_in_run run)) rest.holds.super.format next
+        names : Names (blocks_of old) (tail_of old) (tail_of old + need (append.body_in_run run)) format next
         names = record {
-          same_format = ap (λ (s : Super). s.format) is_next ∙ ap (λ (s : Super). s.format) (sym rest.under);
+          same_format = ap (λ (s : Super). s.format) is_next;
           same_blocks = ap (λ (s : Super). s.blocks) is_next ∙ old.same_blocks;
           side = omega (arith, ap (λ (s : Super). s.side) is_next);
           gate_is = ap (λ (s : Super). s.checkpoint) is_next;
@@ -275,7 +289,7 @@ module _ {D : Type 0} {disk : Ghosts D} (old : Engine D disk) (run : List ℕ) (
         -- The superblock that is chosen before the replacement is on the other side, and has a lesser number.
         pub followed : IsFollowed (disk.size (log.log_device after)) mid (super_of old) next
         followed =
-            let chosen : IsChosen size mid rest.holds.super = middle_chosen size contents (blocks_of old) (tail_of old) h rest.holds (append.body_in_run run) is-checkpoint its-format inside mid below its_log next names in
+            let chosen : IsChosen size mid rest.holds.super = middle_chosen size contents (blocks_of old) (tail_of old) h rest.holds (append.body_in_run run) is-checkpoint format its-format its-may its-unsealed inside mid below its_log next names in
             record {
               chosen = subst (λ s. IsChosen (disk.size (log.log_device after)) mid s) rest.under (subst (λ n. IsChosen n mid rest.holds.super) (sym same_size) chosen);
               other = ap (λ (s : Super). s.side) is_next;
@@ -290,7 +304,7 @@ module _ {D : Type 0} {disk : Ghosts D} (old : Engine D disk) (run : List ℕ) (
         pub replacing : (new : D) → Leaves disk.calls disk.images_since (log.log_device after) new (IsReplacing (disk.size (log.log_device after)) (disk.images_now (log.log_device after)) (super_of old) next) → Leaves disk.calls disk.images_since (log.log_device after) new (λ c. HoldsHistory size c h)
         replacing new leaves =
             weakens disk.calls disk.images_since (log.log_device after) new (IsReplacing (disk.size (log.log_device after)) (disk.images_now (log.log_device after)) (super_of old) next) (λ c. HoldsHistory size c h)
-            (λ c moment. while_replacing size contents (blocks_of old) (tail_of old) h rest.holds (append.body_in_run run) is-checkpoint its-format inside mid below its_log next names (disk.images_now (log.log_device after)) rests.only c
+            (λ c moment. while_replacing size contents (blocks_of old) (tail_of old) h rest.holds (append.body_in_run run) is-checkpoint format its-format its-may its-unsealed inside mid below its_log next names (disk.images_now (log.log_device after)) rests.only c
             (subst (λ s. IsReplacing size (disk.images_now (log.log_device after)) s next c) (sym rest.under) (subst (λ n. IsReplacing n (disk.images_now (log.log_device after)) (super_of old) next c) same_size moment)))
             leaves
 
@@ -317,7 +331,7 @@ module _ {D : Type 0} {disk : Ghosts D} (old : Engine D disk) (run : List ℕ) (
               let back : (board_of old).streams ≡ streams = ap (λ (b : Kept). b.streams) (sym same) in
               let stored = subst (AreStored rest.holds.leads.pages (tail_of old)) back rest.stored in
               let have = subst (HaveRoots rest.holds.leads.roots) back rest.roots in
-              let first : HoldsTrees size now (blocks_of old) end h next streams = under_next size contents (blocks_of old) (tail_of old) h rest.holds (append.body_in_run run) is-checkpoint its-format inside mid below its_log next names now agree chosen_now streams stored have in
+              let first : HoldsTrees size now (blocks_of old) end h next streams = under_next size contents (blocks_of old) (tail_of old) h rest.holds (append.body_in_run run) is-checkpoint format its-format its-may its-unsealed inside mid below its_log next names now agree chosen_now streams stored have in
               let second : HoldsTrees (disk.size d) now (blocks_of old) end h next streams = subst (λ n. HoldsTrees n now (blocks_of old) end h next streams) same_size_now first in
               let third = subst (λ x. HoldsTrees (disk.size x) (disk.contents x) (blocks_of old) end h next streams) (sym at) second in
               let fourth = subst (λ n. HoldsTrees (disk.size (device new)) (disk.contents (device new)) n end h next streams) (sym blocked) third in
@@ -332,13 +346,13 @@ module _ {D : Type 0} {disk : Ghosts D} (old : Engine D disk) (run : List ℕ) (
               }
 
           -- Each image then names the checkpoint.
-          pub named_in : (blocks end : ℕ) → blocks ≡ blocks_of old → end ≡ log.log_tail after → Only now (disk.images_now d) → (c : Image) → disk.images_now d c → IsNamed (disk.size d) c blocks end h
+          pub named_in : (blocks end : ℕ) → blocks ≡ blocks_of old → end ≡ log.log_tail after → Only now (disk.images_now d) → (c : Image) → disk.images_now d c → IsNamed (disk.size d) c blocks end h format
           named_in blocks end blocked tailed only c left =
               let same = only.each c left in
-              let first : IsNamed size c (blocks_of old) (tail_of old + need (append.body_in_run run)) h = named size contents (blocks_of old) (tail_of old) h rest.holds (append.body_in_run run) is-checkpoint its-format inside mid below its_log next names c (λ k low. same k ∙ agree k low) (IsChosen-along size now c next (λ k low. same k) chosen_now) in
-              let second = subst (λ n. IsNamed n c (blocks_of old) (tail_of old + need (append.body_in_run run)) h) same_size_now first in
-              let third = subst (λ n. IsNamed (disk.size d) c n (tail_of old + need (append.body_in_run run)) h) (sym blocked) second in
-              subst (λ n. IsNamed (disk.size d) c blocks n h) (sym tail ∙ sym tailed) third
+              let first : IsNamed size c (blocks_of old) (tail_of old + need (append.body_in_run run)) h format = named size contents (blocks_of old) (tail_of old) h rest.holds (append.body_in_run run) is-checkpoint format its-format its-may its-unsealed inside mid below its_log next names c (λ k low. same k ∙ agree k low) (IsChosen-along size now c next (λ k low. same k) chosen_now) in
+              let second = subst (λ n. IsNamed n c (blocks_of old) (tail_of old + need (append.body_in_run run)) h format) same_size_now first in
+              let third = subst (λ n. IsNamed (disk.size d) c n (tail_of old + need (append.body_in_run run)) h format) (sym blocked) second in
+              subst (λ n. IsNamed (disk.size d) c blocks n h format) (sym tail ∙ sym tailed) third
 
 -- ---- what is durable
 
@@ -347,11 +361,12 @@ pub nothing_leaves : {D : Type 0} {disk : Ghosts D} (h : List Entry) (engine : E
 nothing_leaves {D} {disk} h engine only_now rest =
     begins disk.calls disk.images_since (device engine) (λ c. HoldsHistory (disk.size (device engine)) c h) (λ c now. holds_in h engine rest c (rest.only.each c (only_now c now)))
 
--- An append that fails made no call of the device, or the device failed.
--- a checkpoint that changed nothing
-pub marks_nothing : {D : Type 0} {disk : Ghosts D} (engine : Engine D disk) (fault : StepFault) → is_home engine ≡ true → CheckpointCause engine engine fault → (disk.is_observable → (c : Image) → disk.images_since (device engine) (disk.calls (device engine)) c → disk.images_now (device engine) c) → Marks engine engine (Err fault)
-marks_nothing engine fault home cause only_now = record {
+-- A checkpoint that changed nothing.
+pub marks_nothing : {D : Type 0} {disk : Ghosts D} (format : ℕ) (engine : Engine D disk) (fault : StepFault) → is_home engine ≡ true → CheckpointCause format engine engine fault → (is_stopped engine ≡ true → fault ≡ Stopped (entries_of engine)) → (is_stopped engine ≡ false → is_sealed engine ≡ true → fault ≡ Sealed) → (disk.is_observable → (c : Image) → disk.images_since (device engine) (disk.calls (device engine)) c → disk.images_now (device engine) c) → Marks format engine engine (Err fault)
+marks_nothing format engine fault home cause stopped sealed only_now = record {
   home = home;
+  stopped = λ is. record { returned = ap Err (stopped is); same = refl };
+  sealed = λ runs is. record { returned = ap Err (sealed runs is); same = refl };
   cause = cause;
   marked = tt;
   kept = record {
@@ -366,12 +381,13 @@ marks_nothing engine fault home cause only_now = record {
   durable = λ seen h more calls entries rests so_far. so_far;
 }
 
-pub fault_leaves : {D : Type 0} {disk : Ghosts D} (h : List Entry) (old : Engine D disk) (run : List ℕ) (bytes : run ≡ run_of_board (super_of old).format (board_of old)) (after : Log D disk) (fault : AppendFault) → IsFalse (is_stopped old) → AnswersFull old run bytes (Err fault) → append.AppendCause (log_of old) after run fault → ((c : Image) → disk.images_since (device old) (disk.calls (device old)) c → disk.images_now (device old) c) → (rest : IsAtRest h old) → log.LogLeaves (log_of old) after (append.IsMoment (disk.contents (device old)) (tail_of old) rest.holds.bodies (append.body_in_run run)) → log.LogLeaves (log_of old) after (λ c. HoldsHistory (disk.size (device old)) c h)
-fault_leaves {D} {disk} h old run bytes after (Full n room) runs answers_full cause only_now rest leaves =
+-- An append that fails made no call of the device, or the device failed.
+pub fault_leaves : {D : Type 0} {disk : Ghosts D} (h : List Entry) (old : Engine D disk) (format : ℕ) (may : MayMark (super_of old) format) (unsealed : is_sealed old ≡ false) (run : List ℕ) (bytes : run ≡ run_of_board format (board_of old)) (after : Log D disk) (fault : AppendFault) → IsFalse (is_stopped old) → AnswersFull old format run bytes (Err fault) → append.AppendCause (log_of old) after run fault → ((c : Image) → disk.images_since (device old) (disk.calls (device old)) c → disk.images_now (device old) c) → (rest : IsAtRest h old) → log.LogLeaves (log_of old) after (append.IsMoment (disk.contents (device old)) (tail_of old) rest.holds.bodies (append.body_in_run run)) → log.LogLeaves (log_of old) after (λ c. HoldsHistory (disk.size (device old)) c h)
+fault_leaves {D} {disk} h old format may unsealed run bytes after (Full n room) runs answers_full cause only_now rest leaves =
     subst (λ l. log.LogLeaves (log_of old) l (λ c. HoldsHistory (disk.size (device old)) c h)) (sym cause.4) (nothing_leaves h old only_now rest)
-fault_leaves h old run bytes after Fault runs answers_full cause only_now rest leaves =
-    appending old run bytes (fits_unless_full old run bytes (Err Fault) runs answers_full (λ no. absurd (cc))) h rest after leaves
-fault_leaves h old run bytes after (AlreadyStopped n) runs answers_full cause only_now rest leaves =
+fault_leaves h old format may unsealed run bytes after Fault runs answers_full cause only_now rest leaves =
+    appending old format run bytes (fits_unless_full old format run bytes (Err Fault) runs answers_full (λ no. absurd (cc))) may unsealed h rest after leaves
+fault_leaves h old format may unsealed run bytes after (AlreadyStopped n) runs answers_full cause only_now rest leaves =
     let stopped = cause.0 in absurd (cc)
 
 module _ {D : Type 0} {disk : Ghosts D} (h : List Entry) (old new : Engine D disk) where

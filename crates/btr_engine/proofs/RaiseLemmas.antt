@@ -1,7 +1,7 @@
 -- Lemmas on the raise: when there is one, what its superblock keeps, and what it leaves of the images of a log.
-use Rattle.std.specs.Prelude.{◌≡◌, ℕ, ◌+◌, ◌*◌, ◌^◌, ◌<◌, ◌≤◌, nat_lt, List, Option, Some, None, IfSome, if◌then◌else◌}
+use Rattle.std.specs.Prelude.{◌≡◌, ℕ, ◌+◌, ◌*◌, ◌^◌, ◌<◌, ◌≤◌, nat_lt, false, List, Option, Some, None, IfSome, if◌then◌else◌}
 use Rattle.std.proofs.Common.{refl, sym, ◌∙◌, ap, subst, inl, inr, ⊎_elim, arith}
-use Rattle.std.proofs.lemmas.Bool.{cases_Bool, ltb-true, ltb-false, lt-ltb}
+use Rattle.std.proofs.lemmas.Bool.{cases_Bool, ltb-true, ltb-false, lt-ltb, ne_eqb}
 use Rattle.btr_disk.specs.declared.disk.Disk.{Ghosts}
 use Rattle.btr_disk.specs.Bytes.{Image, SameBut}
 use Rattle.btr_disk.specs.Causes.{CountedTimes}
@@ -11,7 +11,7 @@ use Rattle.btr_disk.proofs.MomentLemmas.{begins, weakens, composes}
 use Rattle.btr_log.specs.declared.log.Log.{Log}
 use Rattle.btr_log.specs.Log as log
 use Rattle.btr_super.specs.declared.superblock.Super.{Super}
-use Rattle.btr_super.specs.Super.{IsSuper}
+use Rattle.btr_super.specs.Super.{IsSuper, has_seal}
 use Rattle.btr_super.specs.Choose.{IsChosen}
 use Rattle.btr_super.specs.Replace.{IsFollowed, HasOnePrefix, IsReplacing}
 use Rattle.btr_super.proofs.SuperLemmas.{is_log_start-is, IsLogStart-from}
@@ -24,7 +24,7 @@ use Rattle.btr_streams.specs.Board.{Kept}
 use Rattle.btr_engine.specs.Raise.{IsFollowable, raised, raise_for, super_after, Raises, MayRaise, CountsRaise, CountsWrite, most_calls, CountsEntry, most_calls_of}
 use Rattle.btr_engine.specs.Step.{IsBeforeOrAfter}
 use Rattle.btr_engine.specs.Travel.{HoldsNow}
-use Rattle.btr_engine.proofs.HoldsLemmas.{HoldsTrees, holds_still, holds_under}
+use Rattle.btr_engine.proofs.HoldsLemmas.{HoldsTrees, no-seal, holds_still, holds_under}
 
 -- ---- superblocks
 
@@ -47,11 +47,19 @@ each_raise P s e none some =
     (λ not. subst (λ b. P (if b then Some (raised s (format_of e)) else None)) (sym not) none)
     (cases_Bool (nat_lt s.format (format_of e)))
 
+-- The superblock of a raise is not that of a sealed store: no entry has its format.
+raised_unsealed : (s : Super) (e : Entry) → has_seal (raised s (format_of e)) ≡ false
+raised_unsealed s e = ne_eqb (format_of e) 4 (λ is. absurd (omega (arith, is, format-to e)))
+
+pub raise_unsealed : (s : Super) (e : Entry) → has_seal s ≡ false → has_seal (super_after s (raise_for s e)) ≡ false
+raise_unsealed s e unsealed =
+    each_raise (λ r. has_seal (super_after s r) ≡ false) s e unsealed (λ higher. raised_unsealed s e)
+
 -- It may replace the superblock.
 pub may_raise : (s : Super) (e : Entry) → MayRaise s (raise_for s e)
 may_raise s e =
     each_raise (MayRaise s) s e tt
-    (λ higher. record { other = refl; later = refl; same_blocks = refl; same_tail = refl; same_checkpoint = refl; higher = higher })
+    (λ higher. record { other = refl; later = refl; same_blocks = refl; same_tail = refl; same_checkpoint = refl; higher = higher; unsealed = raised_unsealed s e })
 
 -- It can be followed.
 pub raise_followable : (s : Super) (e : Entry) → IsFollowable s → IsFollowable (super_after s (raise_for s e))
@@ -61,7 +69,7 @@ raise_followable s e is =
       side = omega arith;
       seq = omega (arith, is.seq, higher);
       format_from = format-from e;
-      format_to = format-to e;
+      format_to = omega (arith, (format-to e));
       tail = is.tail;
       start = is.start;
     })
@@ -86,7 +94,7 @@ pub raise_keeps : (size : ℕ) (s : Super) (e : Entry) → IsFollowable s → 8 
 raise_keeps size s e is large few inside tail =
     each_raise (λ r. IfSome r (IsSuper size)) s e tt
     (λ higher. record {
-      known_format = (format-from e, format-to e);
+      known_format = (format-from e, omega (arith, (format-to e)));
       has_side = omega arith;
       seq_from = omega arith;
       seq_to = omega (arith, is.seq, is.tail, higher);
@@ -161,6 +169,7 @@ module _ {D : Type 0} {disk : Ghosts D} (h : List Entry) (b : Kept) (s next : Su
       (omega (arith, raises.higher, ap (λ (x : Super). x.format) now.under))
       (subst (λ n. StartsAt IsRootOf now.holds.bodies n next.tail) (sym (raises.same_checkpoint ∙ ap (λ (x : Super). x.checkpoint) (sym now.under)))
       (subst (StartsAt IsRootOf now.holds.bodies now.holds.super.checkpoint) (sym (raises.same_tail ∙ ap (λ (x : Super). x.tail) (sym now.under))) now.holds.starts))
+      (no-seal next raises.unsealed)
 
   -- An image at a moment of the replacement holds the history.
   while_raising : (c : Image) → IsReplacing size (disk.images_now (log.log_device l)) s next c → HoldsHistory size c h
@@ -171,7 +180,7 @@ module _ {D : Type 0} {disk : Ghosts D} (h : List Entry) (b : Kept) (s next : Su
       (λ chosen. record {
         blocks = log.log_blocks l;
         tail = log.log_tail l;
-        holds = holds_under size contents (log.log_blocks l) (log.log_tail l) h now.holds c now.holds.super agree (subst (IsChosen size c) (sym now.under) chosen) now.holds.same_blocks (omega arith) now.holds.starts;
+        holds = holds_under size contents (log.log_blocks l) (log.log_tail l) h now.holds c now.holds.super agree (subst (IsChosen size c) (sym now.under) chosen) now.holds.same_blocks (omega arith) now.holds.starts now.holds.sealed;
       })
       (λ chosen. record { blocks = log.log_blocks l; tail = log.log_tail l; holds = raised_holds c agree chosen })
       moment.either

@@ -18,7 +18,7 @@ use Rattle.btr_engine.specs.Mark.{body_of_roll}
 use Rattle.btr_engine.proofs.ExtentBytes.{zero_block}
 
 -- The head of a checkpoint keeps the grammar, if its numbers fit.
-pub IsHead-checkpoint_head : (format number length : ℕ) → 1 ≤ format → format ≤ 3 → number < 2 ^ 64 → length < 2 ^ 64 → IsHead (checkpoint_head format number length)
+pub IsHead-checkpoint_head : (format number length : ℕ) → 1 ≤ format → format ≤ 4 → number < 2 ^ 64 → length < 2 ^ 64 → IsHead (checkpoint_head format number length)
 IsHead-checkpoint_head format number length some known few short = record {
   kind = inr (refl, refl, refl);
   format = (some, known);
@@ -45,7 +45,7 @@ module _ (format number : ℕ) (streams : List RollStreamValue) where
   pub need-body_of_roll : need (body_of_roll format number streams) ≡ content_blocks (length content) + 1
   need-body_of_roll = omega (arith, length-body_of_roll)
 
-  IsBody-body_of_roll : 1 ≤ format → format ≤ 3 → number < 2 ^ 64 → length content < 2 ^ 64 → IsBody (body_of_roll format number streams) head
+  IsBody-body_of_roll : 1 ≤ format → format ≤ 4 → number < 2 ^ 64 → length content < 2 ^ 64 → IsBody (body_of_roll format number streams) head
   unfolding body_of_roll
   IsBody-body_of_roll some known few short = record {
     spells = record {
@@ -56,7 +56,7 @@ module _ (format number : ℕ) (streams : List RollStreamValue) where
   }
 
   -- The body and one block of zeros can be appended.
-  pub run-body_of_roll : (run : List ℕ) → run ≡ body_of_roll format number streams ++ zeros 4096 → 1 ≤ format → format ≤ 3 → number < 2 ^ 64 → length content < 2 ^ 64 → IsAppendRun run
+  pub run-body_of_roll : (run : List ℕ) → run ≡ body_of_roll format number streams ++ zeros 4096 → 1 ≤ format → format ≤ 4 → number < 2 ^ 64 → length content < 2 ^ 64 → IsAppendRun run
   run-body_of_roll run is some known few short =
       subst IsAppendRun (sym is) (IsAppendRun-from (body_of_roll format number streams) head (IsBody-body_of_roll some known few short))
 

@@ -1,6 +1,6 @@
 -- What stays true of the numbers of an engine that gets its log back.
 use Rattle.std.specs.Prelude.{◌≡◌, ℕ, ◌+◌, ◌*◌, ◌≤◌, Bool, true, false, List}
-use Rattle.std.proofs.Common.{sym, ◌∙◌, ap, subst, inr, arith}
+use Rattle.std.proofs.Common.{sym, ◌∙◌, ap, subst, inr, ⊎_elim, arith}
 use Rattle.btr_disk.specs.declared.disk.Disk.{Ghosts}
 use Rattle.btr_log.specs.declared.log.Log.{Log}
 use Rattle.btr_log.specs.Append as append
@@ -13,7 +13,7 @@ use Rattle.btr_engine.specs.declared.engine.Engine.{Engine}
 use Rattle.btr_engine.specs.declared.travel.Return.{Return}
 use Rattle.btr_engine.specs.declared.travel.Return.TheVariants.{Untouched, Written, Failed}
 use Rattle.btr_engine.specs.Engine.{log_of, board_of, super_of, synced_of, entries_at_open}
-use Rattle.btr_engine.specs.Mark.{next_super}
+use Rattle.btr_engine.specs.Mark.{next_super, MayMark}
 use Rattle.btr_engine.specs.Raise.{IsFollowable, raise_for, super_after}
 use Rattle.btr_engine.specs.Travel.{run_of, Settles, settled_board, settled_super, written_in, written_pages}
 use Rattle.btr_engine.proofs.RaiseLemmas.{raise_followable, raise_tail, raise_blocks}
@@ -113,13 +113,17 @@ module _ {D : Type 0} {disk : Ghosts D} where
         same_blocks = old.same_blocks ∙ sym kept.blocks;
       }
 
+-- A checkpoint has at least the format of the superblock, and at most that of a sealed store.
+pub marks_between : (s : Super) (format : ℕ) → s.format ≤ 4 → MayMark s format → (s.format ≤ format) × (format ≤ 4)
+marks_between s format most may = ⊎_elim (λ same. (omega (arith, same), omega (arith, same, most))) (λ sealed. (omega (arith, sealed, most), omega (arith, sealed))) may
+
 -- The superblock that names a checkpoint can be followed: its tail is two blocks further at least.
-pub next_followable : (s : Super) (gate tail : ℕ) → IsFollowable s → 4 ≤ gate → s.tail ≤ gate → gate + 2 ≤ tail → IsFollowable (next_super s gate tail s.format)
-next_followable s gate tail is low behind further = record {
+pub next_followable : (s : Super) (gate tail format : ℕ) → IsFollowable s → s.format ≤ format → format ≤ 4 → 4 ≤ gate → s.tail ≤ gate → gate + 2 ≤ tail → IsFollowable (next_super s gate tail format)
+next_followable s gate tail format is least most low behind further = record {
   side = omega arith;
-  seq = omega (arith, is.seq, behind, further);
-  format_from = is.format_from;
-  format_to = is.format_to;
+  seq = omega (arith, is.seq, behind, further, least);
+  format_from = omega (arith, is.format_from, least);
+  format_to = most;
   tail = omega (arith, low, further);
   start = is_log_start-is gate tail (inr (low, omega (arith, further)));
 }

@@ -77,7 +77,7 @@ module _ {D : Type 0} {disk : Ghosts D} where
       side = is_prop→PathP (λ j. (chosen j).side ≤ 1) (λ j. le_prop) a.followable.side b.followable.side i;
       seq = is_prop→PathP (λ j. (chosen j).seq + 4 ≤ (chosen j).tail + (chosen j).format) (λ j. le_prop) a.followable.seq b.followable.seq i;
       format_from = is_prop→PathP (λ j. 1 ≤ (chosen j).format) (λ j. le_prop) a.followable.format_from b.followable.format_from i;
-      format_to = is_prop→PathP (λ j. (chosen j).format ≤ 3) (λ j. le_prop) a.followable.format_to b.followable.format_to i;
+      format_to = is_prop→PathP (λ j. (chosen j).format ≤ 4) (λ j. le_prop) a.followable.format_to b.followable.format_to i;
       tail = is_prop→PathP (λ j. 4 ≤ (chosen j).tail) (λ j. le_prop) a.followable.tail b.followable.tail i;
       start = is_prop→PathP (λ j. is_log_start (chosen j).checkpoint (chosen j).tail ≡ true) (λ j. Bool-set (is_log_start (chosen j).checkpoint (chosen j).tail) true) a.followable.start b.followable.start i;
     };

@@ -46,9 +46,10 @@ extent_bytes head content pages =
 abbrev pub format_in : List ℕ → ℕ
 format_in body = u32_at 12 body
 
--- Under a superblock of the format `limit` this body may be in the log: its format is no greater.
+-- Under a superblock of the format `limit` this body may be in the log: its format is no greater, or it is 4, which is that of the
+-- checkpoint of a seal. A crash before the superblock of the seal leaves that checkpoint under a superblock of a lower format.
 abbrev pub MayStandUnder : ℕ → List ℕ → Type 0
-MayStandUnder limit body = format_in body ≤ limit
+MayStandUnder limit body = (format_in body ≤ limit) ⊎ (format_in body ≡ 4)
 
 -- ---- the part of a log before a gate
 
@@ -109,12 +110,12 @@ checkpoint_body format h roots =
     let content = roll_bytes format (roll_of h roots) in
     head_bytes (checkpoint_head format (length h) (length content)) ++ (content ++ zeros (padding (length content)))
 
--- The body is that of a checkpoint after the prefix: it has the streams of the prefix with all their versions. Its format is 1 to 3, and
+-- The body is that of a checkpoint after the prefix: it has the streams of the prefix with all their versions. Its format is 1 to 4, and
 -- no less than that of an entry of the prefix.
 pub record IsCheckpointOf (before : Prefix) (body : List ℕ) : Type 0 where
   pub format : ℕ
   pub least : needed_format before.entries ≤ format
-  pub most : format ≤ 3
+  pub most : format ≤ 4
   pub room : content_blocks (length (roll_bytes format (roll_of before.entries before.roots))) < 2 ^ 64
   pub bytes : body ≡ checkpoint_body format before.entries before.roots
 

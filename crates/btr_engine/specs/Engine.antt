@@ -10,6 +10,7 @@ use Rattle.btr_log.specs.Extents.{left}
 use Rattle.btr_log.specs.Log as log
 use Rattle.btr_log.specs.declared.log.Log.{Log}
 use Rattle.btr_super.specs.declared.superblock.Super.{Super}
+use Rattle.btr_super.specs.Super.{has_seal}
 use Rattle.btr_hist.specs.declared.entry.Entry.{Entry}
 use Rattle.btr_engine.specs.declared.engine.Engine.{Engine}
 use Rattle.btr_streams.specs.Board.{Kept, IsBoardOf}
@@ -58,6 +59,10 @@ module _ {D : Type 0} {disk : Ghosts D} where
   -- The superblock that is chosen on the device.
   abbrev pub super_of : Engine D disk → Super
   super_of e = e.chosen
+
+  -- Whether the store is sealed.
+  abbrev pub is_sealed : Engine D disk → Bool
+  is_sealed e = has_seal (super_of e)
 
   -- Whether the device failed in a step or in a checkpoint.
   abbrev pub is_stopped : Engine D disk → Bool

@@ -1,10 +1,11 @@
 -- Which history a device holds: what its bytes have to be.
-use Rattle.std.specs.Prelude.{◌≡◌, ◌⊎◌, ℕ, ◌+◌, ◌<◌, List, ◌∷◌, ◌++◌}
+use Rattle.std.specs.Prelude.{◌≡◌, ◌⊎◌, ℕ, ◌+◌, ◌<◌, true, List, ◌∷◌, ◌++◌}
 use Rattle.std.specs.List.{AllByRecursion}
 use Rattle.btr_disk.specs.Bytes.{Image}
 use Rattle.btr_disk.specs.Gate.{IsClosed}
 use Rattle.btr_log.specs.Extents.{need, Extents, first_gate}
 use Rattle.btr_super.specs.declared.superblock.Super.{Super}
+use Rattle.btr_super.specs.Super.{has_seal}
 use Rattle.btr_super.specs.Choose.{IsChosen}
 use Rattle.btr_hist.specs.declared.entry.Entry.{Entry}
 use Rattle.btr_hist.specs.Legal.{Follows}
@@ -31,7 +32,7 @@ StartsAt Rule bodies checkpoint tail = ((checkpoint ≡ 0) × (tail ≡ first_ga
 -- gives this number of blocks. From block 4 on extents with these bodies follow open gates, and the bodies lead to the history: each
 -- is that of the next entry, and the root of a commit leads to the tree of its version. No body has a greater format than the superblock.
 -- The gate after the last extent, at the tail, is closed. Each entry is accepted after those before it. The superblock says that the log is
--- read from its beginning, or from the gate after one of its checkpoints.
+-- read from its beginning, or from the gate after one of its checkpoints; that of a sealed store says the tail, and no extent follows.
 -- Whether a distillate has the cut and the points that the definition gives is not tested by an opening, and not said here.
 pub record HoldsHistoryTo (size : ℕ) (image : Image) (blocks tail : ℕ) (h : List Entry) : Type 0 where
   pub super : Super
@@ -42,6 +43,7 @@ pub record HoldsHistoryTo (size : ℕ) (image : Image) (blocks tail : ℕ) (h : 
   pub leads : LeadToHistory IsRootOf bodies tail h
   pub formats : AllByRecursion (MayStandUnder super.format) bodies
   pub starts : StartsAt IsRootOf bodies super.checkpoint super.tail
+  pub sealed : has_seal super ≡ true → super.tail ≡ tail
   pub closed : IsClosed image tail
   pub inside : tail < blocks
   pub follows : Follows h

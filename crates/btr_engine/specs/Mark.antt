@@ -11,13 +11,13 @@ use Rattle.btr_hist.specs.declared.entry.Entry.{Entry}
 use Rattle.btr_roll.specs.Roll.{RollStreamValue, roll_bytes}
 use Rattle.btr_engine.specs.declared.engine.Engine.{Engine}
 use Rattle.btr_engine.specs.declared.step.StepFault.{StepFault}
-use Rattle.btr_engine.specs.declared.step.StepFault.TheVariants.{Stopped, Rejected, Want, DeviceFull, DeviceFault}
+use Rattle.btr_engine.specs.declared.step.StepFault.TheVariants.{Stopped, Sealed, Rejected, Want, DeviceFull, DeviceFault}
 use Rattle.btr_streams.specs.Board.{Kept}
 use Rattle.btr_streams.specs.Rolling.{rolled}
 use Rattle.btr_engine.specs.Body.{padding, prefix_to, no_extents, IsCheckpointOf, LeadTo}
 use Rattle.btr_engine.specs.Roots.{IsRootOf}
 use Rattle.btr_engine.specs.Holds.{HoldsHistoryTo, HoldsHistory}
-use Rattle.btr_engine.specs.Engine.{device, board_of, entries_of, tail_of, blocks_of, room_of, super_of, is_stopped, is_home}
+use Rattle.btr_engine.specs.Engine.{device, board_of, entries_of, tail_of, blocks_of, room_of, super_of, is_stopped, is_sealed, is_home}
 use Rattle.btr_engine.specs.Engine.{IsAtRest, IsDurable, EngineLeaves, KeepsOpening}
 
 -- ---- the extent
@@ -45,18 +45,23 @@ abbrev pub next_super : Super → ℕ → ℕ → ℕ → Super
 next_super s checkpoint tail format =
     record { seq = s.seq + 1; side = 1 - s.side; blocks = s.blocks; tail = tail; checkpoint = checkpoint; format = format }
 
--- A device of `size` blocks with these bytes holds a store with this history, and the superblock that is chosen names a checkpoint of the
--- whole history: the last extent is that of the checkpoint, in the format of the superblock, and the log is read from the gate after it,
--- which is the tail.
-pub record IsNamed (size : ℕ) (image : Image) (blocks tail : ℕ) (h : List Entry) : Type 0 where
+-- A device of `size` blocks with these bytes holds a store with this history, and the superblock that is chosen has this format and names a
+-- checkpoint of the whole history: the last extent is that of the checkpoint, in the same format, and the log is read from the gate after
+-- it, which is the tail. In format 4 the store is sealed.
+pub record IsNamed (size : ℕ) (image : Image) (blocks tail : ℕ) (h : List Entry) (format : ℕ) : Type 0 where
   pub holds : HoldsHistoryTo size image blocks tail h
+  pub in_format : holds.super.format ≡ format
   pub before : List (List ℕ)
   pub body : List ℕ
   pub last : holds.bodies ≡ before ++ body ∷ []
   pub leads : LeadTo IsRootOf no_extents before (prefix_to holds.super.checkpoint h holds.leads.roots holds.leads.pages)
   pub is : IsCheckpointOf (prefix_to holds.super.checkpoint h holds.leads.roots holds.leads.pages) body
-  pub same_format : is.format ≡ holds.super.format
+  pub same_format : is.format ≡ format
   pub from_tail : holds.super.tail ≡ tail
+
+-- The format of a checkpoint under a superblock: that of the superblock, or that of a sealed store.
+abbrev pub MayMark : Super → ℕ → Type 0
+MayMark s format = (format ≡ s.format) ⊎ (format ≡ 4)
 
 -- ---- the engine
 
@@ -70,17 +75,23 @@ module _ {D : Type 0} {disk : Ghosts D} where
     pub returned : result ≡ Err (Stopped (entries_of old))
     pub same : new ≡ old
 
-  -- The engine, which ran, had room for a checkpoint of its board, and has one more. It has the same board, it still runs, and the next
-  -- superblock, which names the checkpoint, is chosen. It has the format of the one before. The device counted the calls of a checkpoint.
-  -- The number is that of the entries.
-  pub record IsCheckpointed (old new : Engine D disk) (number : ℕ) : Type 0 where
+  -- A sealed engine that is not stopped says that it is sealed, and stays as it is.
+  pub record MarksNoMore (old new : Engine D disk) (result : Result ℕ StepFault) : Type 0 where
+    pub returned : result ≡ Err Sealed
+    pub same : new ≡ old
+
+  -- The engine, which ran and was not sealed, had room for a checkpoint of its board, and has one more, in this format. It has the same
+  -- board, it still runs, and the next superblock, of this format, which names the checkpoint, is chosen. The device counted the calls of a
+  -- checkpoint. The number is that of the entries.
+  pub record IsCheckpointed (format : ℕ) (old new : Engine D disk) (number : ℕ) : Type 0 where
     pub entries : number ≡ entries_of old
     pub ran : is_stopped old ≡ false
+    pub unsealed : is_sealed old ≡ false
     pub runs : is_stopped new ≡ false
     pub board : board_of new ≡ board_of old
-    pub fits : need_of_board (super_of old).format (board_of old) ≤ room_of old
-    pub tail : tail_of new ≡ tail_of old + need_of_board (super_of old).format (board_of old)
-    pub chosen : super_of new ≡ next_super (super_of old) (tail_of old) (tail_of new) (super_of old).format
+    pub fits : need_of_board format (board_of old) ≤ room_of old
+    pub tail : tail_of new ≡ tail_of old + need_of_board format (board_of old)
+    pub chosen : super_of new ≡ next_super (super_of old) (tail_of old) (tail_of new) format
     pub called : CountsMark (disk.calls (device old)) (disk.calls (device new))
 
   -- The device has failed, within the calls of a checkpoint, and the engine is stopped. Its board is as before, and so is its superblock.
@@ -92,30 +103,33 @@ module _ {D : Type 0} {disk : Ghosts D} where
     pub board : board_of new ≡ board_of old
     pub chosen : super_of new ≡ super_of old
 
-  -- Why a checkpoint is not made, and what the engine is then.
-  abbrev pub CheckpointCause : Engine D disk → Engine D disk → StepFault → Type 0
-  CheckpointCause old new (Stopped entries) = (is_stopped old ≡ true) × (entries ≡ entries_of old) × (new ≡ old)
-  CheckpointCause old new (Rejected why) = ⊥
-  CheckpointCause old new Want = (is_stopped old ≡ false) × (new ≡ old)
-  CheckpointCause old new (DeviceFull need left) =
+  -- Why a checkpoint is not made in this format, and what the engine is then.
+  abbrev pub CheckpointCause : ℕ → Engine D disk → Engine D disk → StepFault → Type 0
+  CheckpointCause format old new (Stopped entries) = (is_stopped old ≡ true) × (entries ≡ entries_of old) × (new ≡ old)
+  CheckpointCause format old new Sealed = (is_stopped old ≡ false) × (is_sealed old ≡ true) × (new ≡ old)
+  CheckpointCause format old new (Rejected why) = ⊥
+  CheckpointCause format old new Want = (is_stopped old ≡ false) × (new ≡ old)
+  CheckpointCause format old new (DeviceFull need left) =
       (is_stopped old ≡ false)
-      × (need ≡ need_of_board (super_of old).format (board_of old))
+      × (need ≡ need_of_board format (board_of old))
       × (left ≡ room_of old)
       × (left < need)
       × (new ≡ old)
-  CheckpointCause old new DeviceFault =
-      (is_stopped old ≡ false) × (need_of_board (super_of old).format (board_of old) ≤ room_of old) × StopsByMark old new
+  CheckpointCause format old new DeviceFault =
+      (is_stopped old ≡ false) × (need_of_board format (board_of old) ≤ room_of old) × StopsByMark old new
 
-  -- What a checkpoint did to the engine, which returned this. Its log is at home. Of an engine at rest of a history the device holds that
-  -- history at each moment, and after `Ok` the superblock names a checkpoint of the whole of it.
-  pub record Marks (old new : Engine D disk) (result : Result ℕ StepFault) : Type 0 where
+  -- What a checkpoint in this format did to the engine, which returned this. Its log is at home. Of an engine at rest of a history the
+  -- device holds that history at each moment, and after `Ok` the superblock names a checkpoint of the whole of it.
+  pub record Marks (format : ℕ) (old new : Engine D disk) (result : Result ℕ StepFault) : Type 0 where
     pub home : is_home new ≡ true
-    pub cause : IfErr result (CheckpointCause old new)
-    pub marked : IfOk result (IsCheckpointed old new)
+    pub stopped : is_stopped old ≡ true → MarksNothing old new result
+    pub sealed : is_stopped old ≡ false → is_sealed old ≡ true → MarksNoMore old new result
+    pub cause : IfErr result (CheckpointCause format old new)
+    pub marked : IfOk result (IsCheckpointed format old new)
     pub kept : KeepsOpening old new
     pub at_rest : disk.is_observable → (h : List Entry) → IsAtRest h old → OnOk result (IsAtRest h new)
     pub named : disk.is_observable → (h : List Entry) → IsAtRest h old → OnOk result ((c : Image) → disk.images_now (device new) c
-        → IsNamed (disk.size (device new)) c (blocks_of new) (tail_of new) h)
+        → IsNamed (disk.size (device new)) c (blocks_of new) (tail_of new) h format)
     pub moments : disk.is_observable → (h : List Entry) → IsAtRest h old
         → EngineLeaves old new (λ c. HoldsHistory (disk.size (device old)) c h)
     pub durable : disk.is_observable → (h more : List Entry) (calls entries : ℕ)

@@ -1,10 +1,10 @@
 -- The raise: the superblock of a higher format that replaces the chosen one before the extent of an entry that needs it, and the calls of
 -- the device.
-use Rattle.std.specs.Prelude.{◌≡◌, ◌⊎◌, ℕ, ◌+◌, ◌-◌, ◌*◌, ◌<◌, ◌≤◌, nat_lt, true, Option, Some, None, if◌then◌else◌}
+use Rattle.std.specs.Prelude.{◌≡◌, ◌⊎◌, ℕ, ◌+◌, ◌-◌, ◌*◌, ◌<◌, ◌≤◌, nat_lt, true, false, Option, Some, None, if◌then◌else◌}
 use Rattle.btr_disk.specs.Bytes.{Image, Same, SameBut}
 use Rattle.btr_disk.specs.Causes.{CountedTimes}
 use Rattle.btr_super.specs.declared.superblock.Super.{Super}
-use Rattle.btr_super.specs.Super.{is_log_start}
+use Rattle.btr_super.specs.Super.{is_log_start, has_seal}
 use Rattle.btr_hist.specs.declared.entry.Entry.{Entry}
 use Rattle.btr_entry.specs.Format.{format_of}
 
@@ -15,7 +15,7 @@ pub record IsFollowable (s : Super) : Type 0 where
   pub side : s.side ≤ 1
   pub seq : s.seq + 4 ≤ s.tail + s.format
   pub format_from : 1 ≤ s.format
-  pub format_to : s.format ≤ 3
+  pub format_to : s.format ≤ 4
   pub tail : 4 ≤ s.tail
   pub start : is_log_start s.checkpoint s.tail ≡ true
 
@@ -34,7 +34,7 @@ abbrev pub super_after : Super → Option Super → Super
 super_after s None = s
 super_after s (Some next) = next
 
--- The superblock follows the other one, and says the same of the log. It has a higher format.
+-- The superblock follows the other one, and says the same of the log. It has a higher format, and is not that of a sealed store.
 pub record Raises (s next : Super) : Type 0 where
   pub other : next.side ≡ 1 - s.side
   pub later : next.seq ≡ s.seq + 1
@@ -42,6 +42,7 @@ pub record Raises (s next : Super) : Type 0 where
   pub same_tail : next.tail ≡ s.tail
   pub same_checkpoint : next.checkpoint ≡ s.checkpoint
   pub higher : s.format < next.format
+  pub unsealed : has_seal next ≡ false
 
 -- The superblock, if there is one, may replace the chosen one before an extent is written.
 abbrev pub MayRaise : Super → Option Super → Type 0

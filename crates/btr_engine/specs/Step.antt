@@ -9,12 +9,12 @@ use Rattle.btr_hist.specs.Legal.{rejection}
 use Rattle.btr_engine.specs.declared.engine.Engine.{Engine}
 use Rattle.btr_streams.specs.declared.board.Receipt.{Receipt}
 use Rattle.btr_engine.specs.declared.step.StepFault.{StepFault}
-use Rattle.btr_engine.specs.declared.step.StepFault.TheVariants.{Stopped, Rejected, Want, DeviceFull, DeviceFault}
+use Rattle.btr_engine.specs.declared.step.StepFault.TheVariants.{Stopped, Sealed, Rejected, Want, DeviceFull, DeviceFault}
 use Rattle.btr_streams.specs.Stage.{MayLackMemory, IsReceipt}
 use Rattle.btr_engine.specs.Body.{need_of}
 use Rattle.btr_engine.specs.Holds.{HoldsHistory}
 use Rattle.btr_engine.specs.Raise.{raise_for, super_after, CountsWrite, most_calls}
-use Rattle.btr_engine.specs.Engine.{device, board_of, entries_of, tail_of, room_of, super_of, is_stopped, is_home}
+use Rattle.btr_engine.specs.Engine.{device, board_of, entries_of, tail_of, room_of, super_of, is_stopped, is_sealed, is_home}
 use Rattle.btr_engine.specs.Engine.{IsEngineOf, IsAtRest, IsDurable, EngineLeaves, KeepsOpening}
 
 -- An image at a moment of a step holds the history, or the history with this entry.
@@ -32,9 +32,10 @@ in_flight_after (Err DeviceFault) more e = e ∷ []
 in_flight_after result more e = more
 
 module _ {D : Type 0} {disk : Ghosts D} where
-  -- The engine is not stopped, the entry may follow this history, and there is room for it.
+  -- The engine is not stopped nor sealed, the entry may follow this history, and there is room for it.
   pub record CanStep (h : List Entry) (engine : Engine D disk) (e : Entry) : Type 0 where
     pub runs : is_stopped engine ≡ false
+    pub unsealed : is_sealed engine ≡ false
     pub allowed : rejection h e ≡ None
     pub fits : need_of h e ≤ room_of engine
 
@@ -65,10 +66,16 @@ module _ {D : Type 0} {disk : Ghosts D} where
     pub returned : result ≡ Err (Stopped (entries_of old))
     pub same : new ≡ old
 
-  -- An engine that ran has one entry more, this one, whose number the receipt says. It still runs, the superblock is that of the raise, if
-  -- the entry needed one, and the device counted the calls of a step with it.
+  -- A sealed engine that is not stopped says that it is sealed, and stays as it is.
+  pub record StaysSealed (old new : Engine D disk) (result : Result Receipt StepFault) : Type 0 where
+    pub returned : result ≡ Err Sealed
+    pub same : new ≡ old
+
+  -- An engine that ran and was not sealed has one entry more, this one, whose number the receipt says. It still runs, the superblock is
+  -- that of the raise, if the entry needed one, and the device counted the calls of a step with it.
   pub record AddsOne (old new : Engine D disk) (e : Entry) (receipt : Receipt) : Type 0 where
     pub ran : is_stopped old ≡ false
+    pub unsealed : is_sealed old ≡ false
     pub runs : is_stopped new ≡ false
     pub entries : entries_of new ≡ entries_of old + 1
     pub number : receipt.number ≡ entries_of new
@@ -79,20 +86,24 @@ module _ {D : Type 0} {disk : Ghosts D} where
   abbrev pub HasResult : Engine D disk → Engine D disk → Entry → Result Receipt StepFault → Type 0
   HasResult old new e (Ok receipt) = AddsOne old new e receipt
   HasResult old new e (Err (Stopped entries)) = (is_stopped old ≡ true) × (entries ≡ entries_of old) × (new ≡ old)
+  HasResult old new e (Err Sealed) = (is_stopped old ≡ false) × (is_sealed old ≡ true) × (new ≡ old)
   HasResult old new e (Err (Rejected why)) = (is_stopped old ≡ false) × (new ≡ old)
   HasResult old new e (Err Want) = (is_stopped old ≡ false) × (new ≡ old)
   HasResult old new e (Err (DeviceFull need left)) = (is_stopped old ≡ false) × (left ≡ room_of old) × (left < need) × (new ≡ old)
   HasResult old new e (Err DeviceFault) = (is_stopped old ≡ false) × StopsByFault old new e
 
-  -- What a step with this entry did to the engine, also if the engine is of no history: a stopped one only says that it is stopped.
+  -- What a step with this entry did to the engine, also if the engine is of no history: a stopped one only says that it is stopped,
+  -- and a sealed one that it is sealed.
   pub record HasEffect (old new : Engine D disk) (e : Entry) (result : Result Receipt StepFault) : Type 0 where
     pub stopped : IsTrue (is_stopped old) → StaysStopped old new result
+    pub sealed : IsFalse (is_stopped old) → IsTrue (is_sealed old) → StaysSealed old new result
     pub has_result : HasResult old new e result
 
   -- Why a step refuses an entry if the engine is of this history, and what the engine is then.
   abbrev pub StepCause : List Entry → Engine D disk → Engine D disk → Entry → StepFault → Type 0
   StepCause h old new e (Stopped entries) =
       IsTrue (is_stopped old) × (entries ≡ length h) × (new ≡ old)
+  StepCause h old new e Sealed = IsFalse (is_stopped old) × IsTrue (is_sealed old) × (new ≡ old)
   StepCause h old new e (Rejected why) =
       IsFalse (is_stopped old) × (rejection h e ≡ Some why) × (new ≡ old)
   StepCause h old new e Want =

@@ -13,7 +13,7 @@ use Rattle.btr_log.specs.Head.{content_blocks}
 use Rattle.btr_log.specs.Log.{log_device, log_tail, log_blocks, log_room, extents_of, is_log_stopped, KeepsBounds, KeepsLog, LogLeaves}
 use Rattle.btr_log.specs.Append.{body_in_run, IsAppended}
 use Rattle.btr_super.specs.declared.superblock.Super.{Super}
-use Rattle.btr_super.specs.Super.{IsSuper}
+use Rattle.btr_super.specs.Super.{IsSuper, has_seal}
 use Rattle.btr_hist.specs.declared.entry.Entry.{Entry}
 use Rattle.btr_hist.specs.declared.entry.Entry.TheVariants.{Create, Define, Commit, Distillate, Retire}
 use Rattle.btr_hist.specs.Legal.{rejection}
@@ -37,7 +37,7 @@ use Rattle.btr_engine.specs.Raise.{raise_for, super_after, MayRaise, KeepsButRai
 use Rattle.btr_streams.specs.Stage.{IsReceipt, WritesEntry}
 use Rattle.btr_engine.specs.Place.{log_here}
 use Rattle.btr_engine.specs.Step.{IsBeforeOrAfter}
-use Rattle.btr_engine.specs.Engine.{log_of, board_of, entries_of, super_of, entries_at_open, is_home}
+use Rattle.btr_engine.specs.Engine.{log_of, board_of, entries_of, super_of, entries_at_open, is_home, is_sealed}
 
 -- ---- what is made ready
 
@@ -164,17 +164,17 @@ module _ {D : Type 0} {disk : Ghosts D} where
     pub appended : IsAppended old new (run_of r)
 
   -- A crash at any moment of the append leaves the history that the log held, or that with the entry. The superblock has the format that
-  -- the entry needs.
+  -- the entry needs, and the store is not sealed.
   abbrev pub LeavesExtent : Log D disk → Log D disk → Entry → Ready → Type 0
   LeavesExtent l after e r =
       disk.is_observable → (h : List Entry) (b : Kept) (s : Super) → IsStaged h b (log_tail l) e r → format_of e ≤ s.format
-      → HoldsNow h b s l → LogLeaves l after (IsBeforeOrAfter (disk.size (log_device l)) h e)
+      → has_seal s ≡ false → HoldsNow h b s l → LogLeaves l after (IsBeforeOrAfter (disk.size (log_device l)) h e)
 
   -- The log holds the history that it held, with the entry, and the board that was staged.
   abbrev pub HoldsAppended : Log D disk → Log D disk → Entry → Ready → Type 0
   HoldsAppended l after e r =
       disk.is_observable → (h : List Entry) (b : Kept) (s : Super) → IsStaged h b (log_tail l) e r → format_of e ≤ s.format
-      → HoldsNow h b s l → HoldsNow (h ++ e ∷ []) r.staged.next s after
+      → has_seal s ≡ false → HoldsNow h b s l → HoldsNow (h ++ e ∷ []) r.staged.next s after
 
   -- ---- the write: the raise, and then the append
 
@@ -200,17 +200,18 @@ module _ {D : Type 0} {disk : Ghosts D} where
     pub stops : StopsWithin (most_calls raise) old new
 
   -- A crash at any moment of the write of what was made ready leaves the history that the log held, or that with the entry. It is said of
-  -- each history, with the board and the superblock, that the log held. The raise is the one that the entry needs under this superblock.
+  -- each history, with the board and the superblock, that the log held. The raise is the one that the entry needs under this superblock,
+  -- which is not that of a sealed store.
   abbrev pub LeavesEntry : Log D disk → Log D disk → Entry → Ready → Type 0
   LeavesEntry l after e r =
       disk.is_observable → (h : List Entry) (b : Kept) (s : Super) → IsStaged h b (log_tail l) e r → r.raise ≡ raise_for s e
-      → HoldsNow h b s l → LogLeaves l after (IsBeforeOrAfter (disk.size (log_device l)) h e)
+      → has_seal s ≡ false → HoldsNow h b s l → LogLeaves l after (IsBeforeOrAfter (disk.size (log_device l)) h e)
 
   -- The log holds the history that it held, with the entry, and the board that was staged, under the superblock after the raise.
   abbrev pub HoldsEntry : Log D disk → Log D disk → Entry → Ready → Type 0
   HoldsEntry l after e r =
       disk.is_observable → (h : List Entry) (b : Kept) (s : Super) → IsStaged h b (log_tail l) e r → r.raise ≡ raise_for s e
-      → HoldsNow h b s l → HoldsNow (h ++ e ∷ []) r.staged.next (super_after s r.raise) after
+      → has_seal s ≡ false → HoldsNow h b s l → HoldsNow (h ++ e ∷ []) r.staged.next (super_after s r.raise) after
 
   -- ---- an engine
 
@@ -222,17 +223,20 @@ module _ {D : Type 0} {disk : Ghosts D} where
     pub chosen : super_of a ≡ super_of b
     pub synced : a.synced ≡ b.synced
 
-  -- What was made ready for this entry is of the entry after those of the engine, and raises its superblock if the entry needs it.
+  -- What was made ready for this entry is of the entry after those of the engine, which is not sealed, and raises its superblock if the
+  -- entry needs it.
   pub record IsNextOn (engine : Engine D disk) (e : Entry) (r : Ready) : Type 0 where
     pub next : r.staged.next.entries ≡ entries_of engine + 1
     pub raise : r.raise ≡ raise_for (super_of engine) e
+    pub unsealed : is_sealed engine ≡ false
 
-  -- What was made ready for this entry is for the log of the engine, and is of the entry after those of the engine. It raises the
-  -- superblock if the entry needs it.
+  -- What was made ready for this entry is for the log of the engine, which is not sealed, and is of the entry after those of the engine. It
+  -- raises the superblock if the entry needs it.
   pub record IsReadyOn (engine : Engine D disk) (e : Entry) (r : Ready) : Type 0 where
     pub ready_for : IsReadyFor (log_of engine) e r
     pub next : r.staged.next.entries ≡ entries_of engine + 1
     pub raise : r.raise ≡ raise_for (super_of engine) e
+    pub unsealed : is_sealed engine ≡ false
 
   -- The log was taken if it was at home, and is out then. Nothing else has changed.
   pub record IsTaken (old new : Engine D disk) (result : Option (Log D disk)) : Type 0 where

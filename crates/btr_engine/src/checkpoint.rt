@@ -1,20 +1,20 @@
-//! The checkpoint: an extent with all streams and their versions, from which on the log is read.
-ghost use Rattle.std.specs.Prelude.{◌≡◌, ◌+◌, ◌<◌, ◌≤◌, ◌^◌, false, true, IfOk, IsTrue};
+//! The checkpoint: an extent with all streams and their versions, from which on the log is read. The seal: a last one.
+ghost use Rattle.std.specs.Prelude.{◌≡◌, ◌+◌, ◌<◌, ◌≤◌, ◌^◌, false, true, IfOk};
 ghost use Rattle.btr_log.specs.Append.{IsAppendRun};
-ghost use Rattle.btr_engine.specs.Engine.{board_of, super_of, is_stopped, is_home};
-ghost use Rattle.btr_engine.specs.Mark.{run_of_board, next_super, MarksNothing, Marks};
+ghost use Rattle.btr_engine.specs.Engine.{board_of, super_of, is_stopped, is_sealed, is_home};
+ghost use Rattle.btr_engine.specs.Mark.{run_of_board, next_super, MayMark, Marks};
 
 use crate::engine::Engine;
 use crate::extent::encode_checkpoint;
 use crate::step::{StepFault, step_fault};
 use btr_disk::{Disk, NoBlocks, Parts};
 use btr_streams::Board;
-use btr_super::{Super, replace};
+use btr_super::{SEALED_FORMAT, Super, replace};
 use std::alloc::{AllocError, Global};
 
 /// Returns the body, in this format, of a checkpoint of this board, followed by one block of zeros. An `Err` means out of memory.
 fn checkpoint_run(alloc: Global, format: u32, board: &Board) -> Result<Parts, AllocError>
-    requires { (1 ≤ format) × (format ≤ 3) }
+    requires { (1 ≤ format) × (format ≤ 4) }
     ensures bytes { IfOk result (λ p. p ≡ run_of_board format board.now) }
     ensures run { IfOk result (λ p. IsAppendRun p) }
 {
@@ -29,7 +29,7 @@ impl<D: Disk> Engine<D> {
     ///
     /// The checkpoint has the format of the superblock. The history stays as it is, and a crash at any moment of the call leaves it. After
     /// an `Err` the engine is as before, except after a `DeviceFault`, which stops it: from then on it returns `Stopped`. Of several
-    /// causes `Stopped` is returned before `Want`, and `Want` before `DeviceFull`.
+    /// causes the one that stands first in [`StepFault`] is returned. `Rejected` is none of them.
     ///
     /// After `Ok` it made nine calls of the device or eleven: a write and a sync for the checkpoint, a write and a sync for the gate
     /// before it, and five or seven to replace the superblock. It takes all memory before the first of them. It costs time and memory
@@ -38,26 +38,54 @@ impl<D: Disk> Engine<D> {
     /// The caller passes an engine whose log is at home, and gets it so.
     pub fn checkpoint(&mut self, alloc: Global) -> Result<u64, StepFault>
         requires home { is_home self.old ≡ true }
-        ensures stopped { IsTrue (is_stopped self.old) → MarksNothing self.old self.new result }
-        ensures marks { Marks self.old self.new result }
+        ensures { Marks (super_of self.old).format self.old self.new result }
+    {
+        self.mark(alloc, self.chosen.format)
+    }
+
+    /// Seals the store: adds a checkpoint, as [`Engine::checkpoint`] does, and replaces the superblock by one that names it and has the
+    /// format of a sealed store. From then on the store takes no entry, no checkpoint and no seal: each returns `Sealed`, also after the
+    /// next opening. Returns the number of entries.
+    ///
+    /// The checkpoint has the format of a sealed store. The history stays as it is. A crash at any moment of the call leaves it, sealed or
+    /// not, and after `Ok` sealed. The causes of an `Err`, the calls of the device and the cost are those of a checkpoint.
+    ///
+    /// The caller passes an engine whose log is at home, and gets it so.
+    pub fn seal(&mut self, alloc: Global) -> Result<u64, StepFault>
+        requires home { is_home self.old ≡ true }
+        ensures { Marks 4 self.old self.new result }
+    {
+        self.mark(alloc, SEALED_FORMAT)
+    }
+
+    /// Adds a checkpoint in this format, and replaces the superblock by one of this format that names it. Returns the number of entries.
+    fn mark(&mut self, alloc: Global, format: u32) -> Result<u64, StepFault>
+        requires home { is_home self.old ≡ true }
+        requires format { MayMark (super_of self.old) format }
+        ensures { Marks format self.old self.new result }
     {
         if self.stopped {
             return Err(StepFault::Stopped {
                 entries: self.board.entries(),
             });
         }
-        let extent = checkpoint_run(alloc, self.chosen.format, &self.board)?;
-        self.mark(&extent)
+        if self.chosen.is_sealed() {
+            return Err(StepFault::Sealed);
+        }
+        let extent = checkpoint_run(alloc, format, &self.board)?;
+        self.append_mark(&extent, format)
     }
 
-    /// Appends the extent of a checkpoint of the board, and replaces the superblock by one that names the checkpoint. Returns the number
-    /// of entries.
-    pub(crate) fn mark(&mut self, extent: &Parts) -> Result<u64, StepFault>
+    /// Appends the extent of a checkpoint of the board, and replaces the superblock by one of this format that names the checkpoint.
+    /// Returns the number of entries.
+    fn append_mark(&mut self, extent: &Parts, format: u32) -> Result<u64, StepFault>
         requires home { is_home self.old ≡ true }
         requires runs { is_stopped self.old ≡ false }
-        requires bytes { extent.now ≡ run_of_board (super_of self.old).format (board_of self.old) }
+        requires unsealed { is_sealed self.old ≡ false }
+        requires format { MayMark (super_of self.old) format }
+        requires bytes { extent.now ≡ run_of_board format (board_of self.old) }
         requires run { IsAppendRun extent.now }
-        ensures { Marks self.old self.new result }
+        ensures { Marks format self.old self.new result }
     {
         let Some(mut log) = self.place.take() else {
             unreachable!()
@@ -68,7 +96,7 @@ impl<D: Disk> Engine<D> {
             self.place.put_back(log);
             return Err(step_fault(fault));
         }
-        let next = next_super(&self.chosen, gate, log.tail(), self.chosen.format);
+        let next = next_super(&self.chosen, gate, log.tail(), format);
         if replace(&mut log.disk, &next).is_err() {
             log.stop();
             self.stopped = true;

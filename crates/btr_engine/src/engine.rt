@@ -55,7 +55,8 @@ impl<D: Disk> Engine<D> {
     ghost use Rattle.btr_streams.specs.Board.{latest_of};
     ghost use Rattle.btr_streams.specs.Snapshot.{IsSnapshotOf};
     ghost use Rattle.btr_engine.specs.Raise.{IsFollowable};
-    ghost use Rattle.btr_engine.specs.Engine.{device, board_of, entries_of, is_stopped, faults_at_open, IsEngineOf, IsMadeOf, is_home};
+    ghost use Rattle.btr_engine.specs.Engine.{device, board_of, entries_of, is_stopped, is_sealed, faults_at_open, IsEngineOf, IsMadeOf};
+    ghost use Rattle.btr_engine.specs.Engine.{is_home};
 
     /// Returns the engine of a log, of a board with the log's entries, of the superblock that is chosen on the device, and of the
     /// device as the first sync of an opening left it. It is for openings: it does not call the device, nor compare the board or the
@@ -136,6 +137,13 @@ impl<D: Disk> Engine<D> {
         ensures failed { IsTrue result → Rose (faults_at_open self.now) (D.faults (device self.now)) }
     {
         self.stopped
+    }
+
+    /// Returns whether the store is sealed: it was when it was opened, or a seal has returned `Ok`. It takes constant time.
+    pub fn sealed(&self) -> bool
+        ensures { result ≡ is_sealed self.now }
+    {
+        self.chosen.is_sealed()
     }
 
     /// Returns the device, as the engine's calls left it. The caller passes an engine whose log is at home. The history in memory is

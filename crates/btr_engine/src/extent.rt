@@ -145,7 +145,7 @@ pub(crate) fn encode_checkpoint(
     roll: &Roll,
     entries: u64,
 ) -> Result<Parts, AllocError>
-    requires known { (1 ≤ format) × (format ≤ 3) }
+    requires known { (1 ≤ format) × (format ≤ 4) }
     requires bounds { IsRollWithinBounds roll.now }
     ensures bytes { IfOk result (λ p. p ≡ body_of_roll format entries roll.now ++ zeros 4096) }
     ensures run { IfOk result (λ p. IsAppendRun p) }

@@ -4,7 +4,8 @@
 //! It is four calls ([`Engine::take_log`], [`Engine::stage`], [`Ready::write`], [`Engine::settle`]), between which the log is out of the
 //! engine, and the engine can be asked. An entry that needs a higher format than the superblock has is written after a raise, which
 //! replaces the superblock by one of that format.
-//! A checkpoint ([`Engine::checkpoint`]) leaves the history as it is, and adds what an opening needs of the entries before it.
+//! A checkpoint ([`Engine::checkpoint`]) leaves the history as it is, and adds what an opening needs of the entries before it. A seal
+//! ([`Engine::seal`]) is a last one: after it the store takes no more.
 //! `specs/Holds.antt` says which history a device holds, byte by byte. The history in memory is that of the crate btr_streams. The crate
 //! btr_open makes the engine of a device.
 #![tactic(auto)]

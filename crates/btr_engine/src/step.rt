@@ -20,6 +20,9 @@ pub enum StepFault {
     /// The engine was stopped, with this number of entries.
     Stopped { entries: u64 },
 
+    /// The store is sealed.
+    Sealed,
+
     /// The entry may not follow the history.
     Rejected(Rejection),
 

@@ -1,8 +1,8 @@
 //! The travel of the log: it is taken out of the engine, written beside it, and brought back.
-ghost use Rattle.std.specs.Prelude.{◌≡◌, ◌+◌, ◌/◌, ◌^◌, ◌<◌, List, true, false, not, IfErr, IfOk, IsTrue, OnOk, Err, None, length};
+ghost use Rattle.std.specs.Prelude.{◌≡◌, ◌+◌, ◌/◌, ◌^◌, ◌<◌, List, true, false, not, IfErr, IfOk, IsTrue, IsFalse, OnOk, Err, None, length};
 ghost use Rattle.btr_hist.specs.declared.entry.Entry.{Entry as EntrySpec};
-ghost use Rattle.btr_engine.specs.declared.step.StepFault.TheVariants.{Stopped};
-ghost use Rattle.btr_engine.specs.Engine.{log_of, board_of, entries_of, tail_of, is_stopped, is_home, IsEngineOf};
+ghost use Rattle.btr_engine.specs.declared.step.StepFault.TheVariants.{Stopped, Sealed};
+ghost use Rattle.btr_engine.specs.Engine.{log_of, board_of, entries_of, tail_of, is_stopped, is_sealed, is_home, IsEngineOf};
 ghost use Rattle.btr_engine.specs.Step.{HasResult, StepCause};
 ghost use Rattle.btr_engine.specs.Travel.{run_of, IsMade, IsStaged, IsReadyFor, IsNextOn, IsReadyOn, IsWritten, HasFailed};
 ghost use Rattle.btr_engine.specs.Travel.{HasExtent, HoldsAppended, LeavesExtent, HoldsEntry, LeavesEntry};
@@ -142,6 +142,7 @@ impl<D: Disk> Engine<D> {
         requires able { M.can_make }
         requires log { log.now ≡ log_of self.now }
         ensures stopped { IsTrue (is_stopped self.now) → result ≡ Err (Stopped (entries_of self.now)) }
+        ensures sealed { IsFalse (is_stopped self.now) → IsTrue (is_sealed self.now) → result ≡ Err Sealed }
         ensures ready { IfOk result (IsReadyOn self.now entry.now) }
         ensures staged { (h : List EntrySpec) → IsEngineOf h self.now
             → IfOk result (IsStaged h (board_of self.now) (tail_of self.now) entry.now) }
@@ -152,6 +153,9 @@ impl<D: Disk> Engine<D> {
             return Err(StepFault::Stopped {
                 entries: self.board.entries(),
             });
+        }
+        if self.chosen.is_sealed() {
+            return Err(StepFault::Sealed);
         }
         let ready = self.make_ready(maker, alloc, log.tail(), entry)?;
         let need = ready.blocks();
@@ -172,7 +176,7 @@ impl<D: Disk> Engine<D> {
         entry: &Entry,
     ) -> Result<Ready, StepFault>
         requires able { M.can_make }
-        requires runs { is_stopped self.now ≡ false }
+        requires takes { (is_stopped self.now ≡ false) × (is_sealed self.now ≡ false) }
         requires tail { tail ≡ tail_of self.now }
         ensures made { IfOk result (IsMade entry.now) }
         ensures next { IfOk result (IsNextOn self.now entry.now) }

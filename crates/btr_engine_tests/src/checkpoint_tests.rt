@@ -378,3 +378,115 @@ fn first_unsafe(alloc: Global) -> Result<Option<usize>, Fail> {
 fn each_call_of_a_checkpoint_may_fail(rt: HostRuntime) -> Result<(), Fail> {
     no_wrong(first_unsafe(rt.alloc())?)
 }
+
+// ---- seals
+
+/// The superblock after a seal that follows this checkpoint or none.
+const fn sealed_superblock(seq: u64, side: u8, checkpoint: u64, tail: u64) -> Super {
+    Super {
+        format: 4,
+        ..superblock(seq, side, checkpoint, tail)
+    }
+}
+
+/// What is chosen after this many checkpoints and a seal, and the number of calls before.
+fn chosen_sealed(alloc: Global, count: u32) -> Result<(Result<Super, ChooseFault>, u64), Fail> {
+    let mut engine = marked(alloc, 64, &[], count)?;
+    if engine.seal(alloc) != Ok(2) {
+        return Err("a seal was refused, or is of other entries".into());
+    }
+    Ok(chosen_on(engine.into_disk()))
+}
+
+#[test]
+fn a_seal_is_in_the_superblock_that_names_its_checkpoint(rt: HostRuntime) -> Result<(), Fail> {
+    let alloc = rt.alloc();
+    assert!(rt; chosen_sealed(alloc, 0)? == (Ok(sealed_superblock(2, 1, 9, 11)), 28));
+    assert!(rt; chosen_sealed(alloc, 1)? == (Ok(sealed_superblock(3, 0, 11, 13)), 39));
+    Ok(())
+}
+
+/// Whether an engine says that it is sealed, and what a commit, a checkpoint and a seal return.
+type Tries = (bool, Result<Receipt, StepFault>, Marked, Marked);
+
+/// What a sealed engine says.
+const SEALED: Tries = (
+    true,
+    Err(StepFault::Sealed),
+    Err(StepFault::Sealed),
+    Err(StepFault::Sealed),
+);
+
+fn tries(alloc: Global, engine: &mut MemEngine) -> Result<Tries, AllocError> {
+    let is_sealed = engine.sealed();
+    let stepped = step_one(alloc, engine)?;
+    let checkpoint = engine.checkpoint(alloc);
+    Ok((is_sealed, stepped, checkpoint, engine.seal(alloc)))
+}
+
+/// Whether an engine is not sealed, and then sealed, what it then says, and what it says when it is opened again.
+fn sealed_twice(alloc: Global) -> Result<(bool, Tries, Tries, bool), Fail> {
+    let mut engine = two_entries(alloc, 16, &[])?;
+    let was_open = !engine.sealed() && engine.seal(alloc) == Ok(2);
+    let first = tries(alloc, &mut engine)?;
+    let mut again = opened(alloc, engine.into_disk())?;
+    let second = tries(alloc, &mut again)?;
+    Ok((was_open, first, second, seen(alloc, &again)? == SEEN))
+}
+
+#[test]
+fn a_sealed_engine_takes_nothing_more(rt: HostRuntime) -> Result<(), Fail> {
+    assert!(rt; sealed_twice(rt.alloc())? == (true, SEALED, SEALED, true));
+    Ok(())
+}
+
+/// Whether an image of a device has the two entries, and is sealed then: by another seal, or already.
+fn is_sealed_at_last(alloc: Global, image: MemDisk) -> Result<bool, Fail> {
+    let mut engine = opened(alloc, image)?;
+    let before = seen(alloc, &engine)?;
+    let was_sealed = engine.sealed();
+    let again = engine.seal(alloc);
+    let is_told = (was_sealed && again == Err(StepFault::Sealed))
+        || (!was_sealed && again == Ok(2));
+    Ok(before == SEEN && is_told && engine.sealed())
+}
+
+/// Whether each image of a device has the two entries, and is sealed then.
+fn each_is_sealed_at_last(alloc: Global, disk: &MemDisk) -> Result<bool, Fail> {
+    for fill in FILLS {
+        if !is_sealed_at_last(alloc, disk.image(alloc, *fill)?)? {
+            return Ok(false);
+        }
+    }
+    Ok(true)
+}
+
+/// What an engine returns for a seal and a commit, if the device fails in the seal.
+const FAILED_SEAL: (Marked, Result<Receipt, StepFault>) = (
+    Err(StepFault::DeviceFault),
+    Err(StepFault::Stopped { entries: 2 }),
+);
+
+/// Whether an engine whose device fails at a call of a seal stops, and loses no entry.
+fn stops_seal_at(alloc: Global, before: u32, call: u64) -> Result<bool, Fail> {
+    let mut engine = marked(alloc, 16, &[call], before)?;
+    let sealed = engine.seal(alloc);
+    let told = (sealed, step_one(alloc, &mut engine)?);
+    let is_open = engine.stopped() && !engine.sealed();
+    let disk = engine.into_disk();
+    Ok(told == FAILED_SEAL && is_open && each_is_sealed_at_last(alloc, &disk)?)
+}
+
+fn first_unsafe_seal(alloc: Global) -> Result<Option<usize>, Fail> {
+    for (row, (before, call)) in FAILING.iter().enumerate() {
+        if !stops_seal_at(alloc, *before, *call)? {
+            return Ok(Some(row));
+        }
+    }
+    Ok(None)
+}
+
+#[test]
+fn each_call_of_a_seal_may_fail(rt: HostRuntime) -> Result<(), Fail> {
+    no_wrong(first_unsafe_seal(rt.alloc())?)
+}

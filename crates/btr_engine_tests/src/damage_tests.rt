@@ -145,7 +145,7 @@ const ROOTS: &[Row] = &[
 
 /// Heads: n at offset 31 and m at offset 47. One node block too few, one too many, which is the gate after them, and n or m alone; and
 /// a commit without node blocks and root, as devices of an earlier format have it. Then the format at offset 15, above that of the
-/// superblock and not, which is not that of the entry.
+/// superblock, that of a seal, and not above, which is not that of the entry.
 const HEADS: &[Row] = &[
     (&[(12, 31, 3), (12, 47, 2)], Some(12)),
     (&[(12, 31, 5), (12, 47, 4)], Some(16)),
@@ -153,6 +153,7 @@ const HEADS: &[Row] = &[
     (&[(12, 31, 3)], Some(12)),
     (&[(9, 31, 1), (9, 47, 0), (9, 55, 0)], Some(9)),
     (&[(12, 15, 2)], Some(12)),
+    (&[(12, 15, 4)], Some(12)),
     (&[(1, 11, 2)], None),
     (&[(1, 11, 2), (12, 15, 2)], Some(12)),
 ];

@@ -44,7 +44,7 @@ const CAPACITY: Capacity = Capacity {
     blocks: 160,
 };
 
-/// What a checkpoint returns.
+/// What a checkpoint or a seal returns.
 pub(crate) type Marked = Result<u64, StepFault>;
 
 /// An engine over a device in memory, whose log is at home. Its calls have no clauses, so the proofs of the tests do not go through those
@@ -64,6 +64,16 @@ impl MemEngine {
     /// Adds a checkpoint.
     pub(crate) fn checkpoint(&mut self, alloc: Global) -> Marked {
         self.engine.checkpoint(alloc)
+    }
+
+    /// Seals the store.
+    pub(crate) fn seal(&mut self, alloc: Global) -> Marked {
+        self.engine.seal(alloc)
+    }
+
+    /// Returns whether the store is sealed.
+    pub(crate) fn sealed(&self) -> bool {
+        self.engine.sealed()
     }
 
     /// Returns a snapshot.

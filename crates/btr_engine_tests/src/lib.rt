@@ -24,6 +24,8 @@ mod plan_tests;
 #[cfg(test)]
 mod replace_tests;
 #[cfg(test)]
+mod shelf_tests;
+#[cfg(test)]
 mod start_tests;
 #[cfg(test)]
 mod super_tests;

@@ -427,7 +427,7 @@ const BYTES: &[(usize, u8, Seen)] = &[
     (11, 0, Seen::Damaged(5)),
     (11, 3, Seen::Damaged(5)),
     (15, 0, Seen::Damaged(5)),
-    (15, 4, Seen::Damaged(5)),
+    (15, 5, Seen::Damaged(5)),
     (23, 0, Seen::Damaged(5)),
     (31, 0, Seen::Damaged(5)),
     (31, 2, Seen::Damaged(5)),
@@ -436,9 +436,10 @@ const BYTES: &[(usize, u8, Seen)] = &[
     (47, 1, Seen::Damaged(5)),
     (56, 1, Seen::Damaged(5)),
     (63, 1, Seen::Damaged(5)),
-    // formats 2 and 3, another length in one block, and another root
+    // formats 2 to 4, another length in one block, and another root
     (15, 2, Seen::Extent(6)),
     (15, 3, Seen::Extent(6)),
+    (15, 4, Seen::Extent(6)),
     (38, 15, Seen::Extent(6)),
     (39, 0, Seen::Extent(6)),
     (55, 9, Seen::Extent(6)),

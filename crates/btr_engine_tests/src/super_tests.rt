@@ -154,7 +154,7 @@ fn the_bytes_of_a_new_store(rt: HostRuntime) -> Result<(), Fail> {
 }
 
 /// A byte of the body, and a value with which the body breaks the table.
-const BREAKS: [(u16, u8); 21] = [
+const BREAKS: [(u16, u8); 23] = [
     (0, b'X'),
     (7, b'X'),
     (8, 1),
@@ -175,6 +175,8 @@ const BREAKS: [(u16, u8); 21] = [
     (47, 1),
     (47, 4),
     (48, 1),
+    (55, 1),
+    (55, 2),
     (4095, 1),
 ];
 
@@ -254,22 +256,30 @@ fn a_superblock_says_where_the_reading_starts(rt: HostRuntime) -> Result<(), Fai
     no_wrong(first_wrong_start(rt.alloc())?)
 }
 
-/// The format and the number of a superblock of eight blocks with tail 4, and whether it keeps the table: the number is at most the format.
-const FORMATS: [(u8, u8, bool); 9] = [
-    (1, 2, false),
-    (2, 1, true),
-    (2, 2, true),
-    (2, 3, false),
-    (3, 1, true),
-    (3, 3, true),
-    (3, 4, false),
-    (4, 1, false),
-    (4, 4, false),
+/// The format of a superblock of eight blocks with tail 4, its number, and that at offset 48; and whether it keeps the table: the number
+/// is at most the format, and that at offset 48 is 1 in format 4, which is that of a sealed store, and else 0.
+const FORMATS: [(u8, u8, u8, bool); 15] = [
+    (1, 2, 0, false),
+    (2, 1, 0, true),
+    (2, 2, 0, true),
+    (2, 3, 0, false),
+    (2, 1, 1, false),
+    (3, 1, 0, true),
+    (3, 3, 0, true),
+    (3, 4, 0, false),
+    (3, 3, 1, false),
+    (4, 1, 1, true),
+    (4, 4, 1, true),
+    (4, 5, 1, false),
+    (4, 4, 0, false),
+    (4, 4, 2, false),
+    (5, 1, 1, false),
 ];
 
-/// What is chosen if the superblock has this format and number.
-fn chosen_format(alloc: Global, format: u8, seq: u8) -> Result<Chosen, AllocError> {
+/// What is chosen if the superblock has this format, this number, and this one at offset 48.
+fn chosen_format(alloc: Global, format: u8, seq: u8, seal: u8) -> Result<Chosen, AllocError> {
     let bytes = with_piece(formatted(alloc)?, 4096 + 11, &[format]);
+    let bytes = with_piece(bytes, 4096 + 55, &[seal]);
     chosen(alloc, with_piece(bytes, 4096 + 23, &[seq]))
 }
 
@@ -289,8 +299,8 @@ fn wanted_format(format: u8, seq: u8, keeps: bool) -> Chosen {
 }
 
 fn first_wrong_format(alloc: Global) -> Result<Option<usize>, AllocError> {
-    for (row, (format, seq, keeps)) in FORMATS.iter().enumerate() {
-        if chosen_format(alloc, *format, *seq)? != wanted_format(*format, *seq, *keeps) {
+    for (row, (format, seq, seal, keeps)) in FORMATS.iter().enumerate() {
+        if chosen_format(alloc, *format, *seq, *seal)? != wanted_format(*format, *seq, *keeps) {
             return Ok(Some(row));
         }
     }
@@ -298,7 +308,7 @@ fn first_wrong_format(alloc: Global) -> Result<Option<usize>, AllocError> {
 }
 
 #[test]
-fn superblocks_of_three_formats_keep_the_table(rt: HostRuntime) -> Result<(), Fail> {
+fn superblocks_of_four_formats_keep_the_table(rt: HostRuntime) -> Result<(), Fail> {
     no_wrong(first_wrong_format(rt.alloc())?)
 }
 

@@ -1,10 +1,12 @@
 -- What taking an entry makes of an engine: it is refused, added, or the device fails; and what a crash leaves.
-use Rattle.std.specs.Prelude.{◌≡◌, ℕ, ◌+◌, true, false, List, [], ◌∷◌, ◌++◌, length, Result, Ok, Err, IfOk, OnOk}
+use Rattle.std.specs.Prelude.{◌≡◌, ℕ, ◌+◌, true, false, List, [], ◌∷◌, ◌++◌, length, Result, Ok, Err, IfOk, IfErr, OnOk, IsTrue, IsFalse}
 use Rattle.std.proofs.Common.{refl, sym, ◌∙◌, ap, subst, inl, inr, arith}
+use Rattle.std.proofs.lemmas.Bool.{false_from_ne_true}
 use Rattle.btr_disk.specs.declared.disk.Disk.{Ghosts}
 use Rattle.btr_disk.specs.Bytes.{Image}
 use Rattle.btr_disk.proofs.MomentLemmas.{begins, weakens}
 use Rattle.btr_log.specs.Log as log
+use Rattle.btr_super.specs.Super.{has_seal}
 use Rattle.btr_hist.specs.declared.entry.Entry.{Entry}
 use Rattle.btr_hist.specs.declared.entry.Entry.TheVariants as entries
 use Rattle.btr_hist.specs.Legal.{Allowed, IsComputed}
@@ -12,10 +14,10 @@ use Rattle.btr_hist.specs.Machine as machine
 use Rattle.btr_streams.specs.declared.board.Receipt.{Receipt}
 use Rattle.btr_engine.specs.declared.engine.Engine.{Engine}
 use Rattle.btr_engine.specs.declared.step.StepFault.{StepFault}
-use Rattle.btr_engine.specs.declared.step.StepFault.TheVariants.{Stopped, Rejected, Want, DeviceFull, DeviceFault}
+use Rattle.btr_engine.specs.declared.step.StepFault.TheVariants.{Stopped, Sealed, Rejected, Want, DeviceFull, DeviceFault}
 use Rattle.btr_engine.specs.Holds.{HoldsHistory}
-use Rattle.btr_engine.specs.Engine.{device, is_stopped, is_home, IsEngineOf, IsAtRest, EngineLeaves}
-use Rattle.btr_engine.specs.Step.{IsBeforeOrAfter, IsStep}
+use Rattle.btr_engine.specs.Engine.{device, is_stopped, is_sealed, is_home, IsEngineOf, IsAtRest, EngineLeaves}
+use Rattle.btr_engine.specs.Step.{IsBeforeOrAfter, IsStep, HasResult}
 use Rattle.btr_engine.specs.Travel.{IsLike}
 use Rattle.btr_engine.proofs.EngineLemmas.{holds_in, durable_as}
 use Rattle.btr_engine.proofs.TravelLemmas.{HasMoments, of_like}
@@ -29,9 +31,9 @@ use Rattle.btr_follow.specs.Hears.{Brings}
 use Rattle.btr_follow.specs.declared.event.FollowEvent.{FollowEvent}
 use Rattle.btr_follow.specs.World.{world_after}
 use Rattle.btr_follow.specs.Followed.{DeliversAreHeard}
-use Rattle.btr_follow.specs.Follower.{engine_of, IsFollowerOf, acked_of, HasAcknowledged, IsTornBy, LeavesTorn, IsFullFor, TakeCause, HasHeard}
+use Rattle.btr_follow.specs.Follower.{engine_of, IsFollowerOf, acked_of, HasAcknowledged, IsTornBy, LeavesTorn, IsFullFor, TakeCause, HasHeard, HearCause}
 use Rattle.btr_follow.specs.Delivery.{HoldsDelivery, IsDeliveredTo, AnswersDelivery, LeavesDelivery}
-use Rattle.btr_follow.specs.Taking.{outcome_of, IsQuiet, IsRefusal, RefusalCause, TakeStep, IsTaking}
+use Rattle.btr_follow.specs.Taking.{outcome_of, TellsSeal, IsQuiet, IsRefusal, RefusalCause, TakeStep, IsTaking}
 
 -- The number of an entry is the one after those before it.
 receipt-number : (h : List Entry) (e : Entry) → (machine.receipt h e).number ≡ length h + 1
@@ -44,13 +46,33 @@ receipt-number h (entries.Retire stream first) = refl
 module _ {D : Type 0} {disk : Ghosts D} where
   -- ---- an entry that is refused
 
+  -- What is staged for an engine that runs tells whether the engine is sealed.
+  module _ {R : Type 0} (engine : Engine D disk) (e : Entry) (fault : StepFault) (result : Result R StepFault) (is : result ≡ Err fault) (says : IsFalse (is_stopped engine) → IsTrue (is_sealed engine) → result ≡ Err Sealed) where
+    same_fault : IsFalse (is_stopped engine) → IsTrue (is_sealed engine) → fault ≡ Sealed
+    same_fault runs sealed = let both : ◌≡◌ {A = Result R StepFault} (Err fault) (Err Sealed) = sym is ∙ says runs sealed in cc
+
+    unsealed_by : IsFalse (is_stopped engine) → (fault ≡ Sealed → ⊥) → is_sealed engine ≡ false
+    unsealed_by runs other = false_from_ne_true (is_sealed engine) (λ sealed. other (same_fault runs sealed))
+
+  pub tells_seal : {R : Type 0} (engine : Engine D disk) (e : Entry) (fault : StepFault) (result : Result R StepFault) → result ≡ Err fault → (IsFalse (is_stopped engine) → IsTrue (is_sealed engine) → result ≡ Err Sealed) → HasResult engine engine e (Err fault) → TellsSeal engine fault
+  tells_seal engine e (Stopped n) result is says has = tt
+  tells_seal engine e Sealed result is says has = tt
+  tells_seal engine e (Rejected why) result is says has = unsealed_by engine e (Rejected why) result is says has.0 (λ no. cc)
+  tells_seal engine e Want result is says has = unsealed_by engine e Want result is says has.0 (λ no. cc)
+  tells_seal engine e (DeviceFull need left) result is says has = unsealed_by engine e (DeviceFull need left) result is says has.0 (λ no. cc)
+  tells_seal engine e DeviceFault result is says has = unsealed_by engine e DeviceFault result is says has.0 (λ no. cc)
+
   module _ (out old new : Engine D disk) (like : IsLike out old) (same : new ≡ old) (home : is_home old ≡ true) (e : Entry) where
     stopped_is : is_stopped old ≡ is_stopped out
     stopped_is = ap log.is_log_stopped (sym like.log)
 
+    sealed_is : is_sealed old ≡ is_sealed out
+    sealed_is = ap has_seal (sym like.chosen)
+
     full_like : (h : List Entry) (need left : ℕ) → IsFullFor h out e need left → IsFullFor h old e need left
     full_like h need left full = record {
       runs = stopped_is ∙ full.runs;
+      unsealed = sealed_is ∙ full.unsealed;
       needs = full.needs;
       leaves = full.leaves ∙ ap log.log_room like.log;
       less = full.less;
@@ -58,6 +80,7 @@ module _ {D : Type 0} {disk : Ghosts D} where
 
     cause_of : (h : List Entry) (fault : StepFault) → IsQuiet out e fault → TakeCause h out out e fault → TakeCause h old new e fault
     cause_of h (Stopped n) quiet cause = (stopped_is ∙ cause.0, cause.1)
+    cause_of h Sealed quiet cause = (stopped_is ∙ cause.0, sealed_is ∙ cause.1)
     cause_of h (Rejected why) quiet cause = absurd quiet
     cause_of h Want quiet cause = tt
     cause_of h (DeviceFull n left) quiet cause = (cause.0, full_like h n left cause.1)
@@ -65,6 +88,7 @@ module _ {D : Type 0} {disk : Ghosts D} where
 
     step_of : (fault : StepFault) → IsQuiet out e fault → TakeStep old new e (Err fault)
     step_of (Stopped n) quiet = same
+    step_of Sealed quiet = same
     step_of (Rejected why) quiet = absurd quiet
     step_of Want quiet = same
     step_of (DeviceFull n left) quiet = same
@@ -73,7 +97,7 @@ module _ {D : Type 0} {disk : Ghosts D} where
     refused_as : (r : Refused) → IsRefusal out e r → ((h : List Entry) → IsEngineOf h out → RefusalCause h out e r) → IsTaking old new e (outcome_of r)
     refused_as Foreign refusal cause = record {
       home = ap is_home same ∙ home;
-      answer = λ h of. (stopped_is ∙ refusal, cause h (of_like out old like h of));
+      answer = λ h of. (stopped_is ∙ refusal.0, sealed_is ∙ refusal.1, cause h (of_like out old like h of));
       cause = λ h of. tt;
       step = same;
     }
@@ -95,7 +119,7 @@ module _ {D : Type 0} {disk : Ghosts D} where
       home = step.home;
       answer = λ h of.
           let stepped = step.stepped h of in
-          (stepped.could.runs, record { accepted = stepped.could.allowed; computed = computed h of }, stepped.is_receipt.number ∙ receipt-number h e);
+          (stepped.could.runs, stepped.could.unsealed, record { accepted = stepped.could.allowed; computed = computed h of }, stepped.is_receipt.number ∙ receipt-number h e);
       cause = λ h of. tt;
       step = record { receipt = receipt; numbered = refl; step = step };
     }
@@ -120,19 +144,28 @@ module _ {D : Type 0} {disk : Ghosts D} where
       let answer = taking.answer h of in
       record {
         after = h;
-        hears = (record { entry = e; brings = brings; foreign = answer.1 }, refl);
+        hears = (record { entry = e; brings = brings; foreign = answer.2 }, refl);
         of = subst (IsEngineOf h) (sym taking.step) of;
-        runs = answer.0;
+        runs = (answer.0, answer.1);
       }
   taking_heard h old new f e (Ok (heard.Taken n)) of brings taking =
       let answer = taking.answer h of in
       record {
         after = h ++ e ∷ [];
-        hears = (answer.2 ∙ sym brings.next, record { entry = e; brings = brings; allowed = answer.1; grown = refl });
+        hears = (answer.3 ∙ sym brings.next, record { entry = e; brings = brings; allowed = answer.2; grown = refl });
         of = (taking.step.step.stepped h of).of;
-        runs = answer.0;
+        runs = (answer.0, answer.1);
       }
   taking_heard h old new f e (Err fault) of brings taking = tt
+
+  pub taking_cause : (h : List Entry) (old new : Follower D disk) (f : Frame) (e : Entry) (result : Result Heard StepFault) → IsFollowerOf h old → Brings h f e → IsTaking (engine_of old) (engine_of new) e result → IfErr result (HearCause h old new f)
+  taking_cause h old new f e (Ok answer) of brings taking = tt
+  taking_cause h old new f e (Err (Stopped n)) of brings taking = (e, brings, taking.cause h of)
+  taking_cause h old new f e (Err Sealed) of brings taking = (e, brings, taking.cause h of)
+  taking_cause h old new f e (Err (Rejected why)) of brings taking = (e, brings, taking.cause h of)
+  taking_cause h old new f e (Err Want) of brings taking = brings.next
+  taking_cause h old new f e (Err (DeviceFull n left)) of brings taking = (e, brings, taking.cause h of)
+  taking_cause h old new f e (Err DeviceFault) of brings taking = (e, brings, taking.cause h of)
 
   -- ---- what a crash leaves
 
@@ -163,8 +196,9 @@ module _ {D : Type 0} {disk : Ghosts D} where
     leaves_taking e (Ok heard.Garbled) brings taking = leaves_same taking.step
     leaves_taking e (Ok heard.Foreign) brings taking = leaves_same taking.step
     leaves_taking e (Ok (heard.Taken n)) brings taking =
-        leaves_step e (Ok taking.step.receipt) taking.step.step brings (taking.answer h rest.of).1
+        leaves_step e (Ok taking.step.receipt) taking.step.step brings (taking.answer h rest.of).2
     leaves_taking e (Err (Stopped n)) brings taking = leaves_same taking.step
+    leaves_taking e (Err Sealed) brings taking = leaves_same taking.step
     leaves_taking e (Err (Rejected why)) brings taking = absurd taking.step
     leaves_taking e (Err Want) brings taking = leaves_same taking.step
     leaves_taking e (Err (DeviceFull n left)) brings taking = leaves_same taking.step

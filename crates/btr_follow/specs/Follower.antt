@@ -8,10 +8,10 @@ use Rattle.btr_entry.specs.Grammar.{IsEntry}
 use Rattle.btr_streams.specs.declared.board.Receipt.{Receipt}
 use Rattle.btr_engine.specs.declared.engine.Engine.{Engine}
 use Rattle.btr_engine.specs.declared.step.StepFault.{StepFault}
-use Rattle.btr_engine.specs.declared.step.StepFault.TheVariants.{Stopped, Rejected, Want, DeviceFull, DeviceFault}
+use Rattle.btr_engine.specs.declared.step.StepFault.TheVariants.{Stopped, Sealed, Rejected, Want, DeviceFull, DeviceFault}
 use Rattle.btr_engine.specs.Body.{need_of}
 use Rattle.btr_engine.specs.Holds.{HoldsHistory}
-use Rattle.btr_engine.specs.Engine.{device, entries_of, room_of, is_stopped, IsEngineOf, IsAtRest, IsDurable, EngineLeaves}
+use Rattle.btr_engine.specs.Engine.{device, entries_of, room_of, is_stopped, is_sealed, IsEngineOf, IsAtRest, IsDurable, EngineLeaves}
 use Rattle.btr_engine.specs.Step.{CanStep, StopsByFault, IsStep}
 use Rattle.btr_follow.specs.declared.follower.Follower.{Follower}
 use Rattle.btr_follow.specs.declared.frame.Frame.{Frame}
@@ -19,13 +19,13 @@ use Rattle.btr_follow.specs.declared.heard.Heard.{Heard}
 use Rattle.btr_follow.specs.declared.heard.Heard.TheVariants.{Stale, Early, Garbled, Foreign, Taken}
 use Rattle.btr_follow.specs.Hears.{IsNextFrame, Brings, BringsAllowed, Hears}
 
--- These answers are returned only if the engine is not stopped.
-abbrev pub RunsFor : Heard → Bool → Type 0
-RunsFor (Stale entries) stopped = Unit {0}
-RunsFor (Early entries) stopped = Unit {0}
-RunsFor Garbled stopped = Unit {0}
-RunsFor Foreign stopped = IsFalse stopped
-RunsFor (Taken number) stopped = IsFalse stopped
+-- These answers are returned only if the engine is not stopped and the store is not sealed.
+abbrev pub RunsFor : Heard → Bool → Bool → Type 0
+RunsFor (Stale entries) stopped sealed = Unit {0}
+RunsFor (Early entries) stopped sealed = Unit {0}
+RunsFor Garbled stopped sealed = Unit {0}
+RunsFor Foreign stopped sealed = IsFalse stopped × IsFalse sealed
+RunsFor (Taken number) stopped sealed = IsFalse stopped × IsFalse sealed
 
 -- The image holds the history with the entry of the frame, which is allowed.
 pub record HoldsTaken (size : ℕ) (h : List Entry) (f : Frame) (image : Image) : Type 0 where
@@ -60,9 +60,10 @@ module _ {D : Type 0} {disk : Ghosts D} where
 
   -- ---- what an entry does to its engine
 
-  -- There is less room than the entry needs, and the engine is not stopped.
+  -- There is less room than the entry needs, and the engine is not stopped nor the store sealed.
   pub record IsFullFor (h : List Entry) (engine : Engine D disk) (e : Entry) (need left : ℕ) : Type 0 where
     pub runs : is_stopped engine ≡ false
+    pub unsealed : is_sealed engine ≡ false
     pub needs : need ≡ need_of h e
     pub leaves : left ≡ room_of engine
     pub less : left < need
@@ -70,6 +71,7 @@ module _ {D : Type 0} {disk : Ghosts D} where
   -- Why an entry is not answered if the engine is of this history.
   abbrev pub TakeCause : List Entry → Engine D disk → Engine D disk → Entry → StepFault → Type 0
   TakeCause h old new e (Stopped entries) = IsTrue (is_stopped old) × (entries ≡ length h)
+  TakeCause h old new e Sealed = IsFalse (is_stopped old) × IsTrue (is_sealed old)
   TakeCause h old new e (Rejected why) = ⊥
   TakeCause h old new e Want = Unit {0}
   TakeCause h old new e (DeviceFull need left) = Allowed h e × IsFullFor h old e need left
@@ -88,7 +90,7 @@ module _ {D : Type 0} {disk : Ghosts D} where
     pub after : List Entry
     pub hears : Hears h f answer after
     pub of : IsFollowerOf after new
-    pub runs : RunsFor answer (is_stopped (engine_of old))
+    pub runs : RunsFor answer (is_stopped (engine_of old)) (is_sealed (engine_of old))
 
   -- Why a frame is not answered if the follower follows this history. It has the number of the next entry, and there was not enough memory,
   -- or its bytes spell an entry that is not answered.

@@ -5,8 +5,8 @@ use Rattle.btr_hist.specs.declared.entry.Entry.{Entry}
 use Rattle.btr_hist.specs.Legal.{Allowed}
 use Rattle.btr_engine.specs.declared.engine.Engine.{Engine}
 use Rattle.btr_engine.specs.declared.step.StepFault.{StepFault}
-use Rattle.btr_engine.specs.declared.step.StepFault.TheVariants.{Rejected, DeviceFault}
-use Rattle.btr_engine.specs.Engine.{is_stopped, is_home, IsEngineOf}
+use Rattle.btr_engine.specs.declared.step.StepFault.TheVariants.{Stopped, Sealed, Rejected, DeviceFault}
+use Rattle.btr_engine.specs.Engine.{is_stopped, is_sealed, is_home, IsEngineOf}
 use Rattle.btr_engine.specs.Step.{HasResult, IsStep}
 use Rattle.btr_follow.specs.declared.heard.Heard.{Heard}
 use Rattle.btr_follow.specs.declared.heard.Heard.TheVariants as heard
@@ -26,9 +26,15 @@ module _ {D : Type 0} {disk : Ghosts D} where
   IsQuiet engine e DeviceFault = ⊥
   IsQuiet engine e fault = HasResult engine engine e (Err fault)
 
+  -- The engine is not sealed, unless this says that it is, or that it is stopped.
+  abbrev pub TellsSeal : Engine D disk → StepFault → Type 0
+  TellsSeal engine (Stopped entries) = Unit {0}
+  TellsSeal engine Sealed = Unit {0}
+  TellsSeal engine fault = is_sealed engine ≡ false
+
   -- An entry is not taken for this cause, also if the engine is of no history.
   abbrev pub IsRefusal : Engine D disk → Entry → Refused → Type 0
-  IsRefusal engine e Foreign = is_stopped engine ≡ false
+  IsRefusal engine e Foreign = (is_stopped engine ≡ false) × (is_sealed engine ≡ false)
   IsRefusal engine e (Fault fault) = IsQuiet engine e fault
 
   -- Why it is not taken if the engine is of this history.
@@ -41,8 +47,9 @@ module _ {D : Type 0} {disk : Ghosts D} where
   TakeAnswer h engine e (heard.Stale entries) = ⊥
   TakeAnswer h engine e (heard.Early entries) = ⊥
   TakeAnswer h engine e heard.Garbled = ⊥
-  TakeAnswer h engine e heard.Foreign = IsFalse (is_stopped engine) × (Allowed h e → ⊥)
-  TakeAnswer h engine e (heard.Taken number) = IsFalse (is_stopped engine) × Allowed h e × (number ≡ length h + 1)
+  TakeAnswer h engine e heard.Foreign = IsFalse (is_stopped engine) × IsFalse (is_sealed engine) × (Allowed h e → ⊥)
+  TakeAnswer h engine e (heard.Taken number) =
+      IsFalse (is_stopped engine) × IsFalse (is_sealed engine) × Allowed h e × (number ≡ length h + 1)
 
   -- What was done with the engine.
   abbrev pub TakeStep : Engine D disk → Engine D disk → Entry → Result Heard StepFault → Type 0

@@ -48,7 +48,8 @@ impl<D: Disk> Follower<D> {
     /// answer, and after an `Err`, the follower is as before, except after a `DeviceFault`, which stops its engine: then only the next
     /// opening shows if the entry is durable, and it is not acknowledged.
     ///
-    /// An `Err` is never a rejection. `Stopped` is returned in place of `Foreign` and `Taken`, and `DeviceFull` in place of `Taken`.
+    /// An `Err` is never a rejection. `Stopped` and `Sealed` are returned in place of `Foreign` and `Taken`, and `DeviceFull` in place of
+    /// `Taken`.
     ///
     /// It costs what [`decode`] costs for the bytes of the entry, what [`Engine::step`] costs for the entry, and for a distillate what
     /// [`is_computed`](btr_plan::is_computed) costs. An entry that is stale or early costs constant time.

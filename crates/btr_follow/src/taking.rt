@@ -5,7 +5,7 @@ ghost use Rattle.btr_hist.specs.Legal.{rejection, IsComputed};
 ghost use Rattle.btr_engine.specs.Engine.{log_of, board_of, tail_of, is_home, IsEngineOf};
 ghost use Rattle.btr_engine.specs.Step.{HasResult, StepCause};
 ghost use Rattle.btr_engine.specs.Travel.{IsStaged, IsReadyOn};
-ghost use Rattle.btr_follow.specs.Taking.{outcome_of, RefusalCause, IsRefusal, IsTaking};
+ghost use Rattle.btr_follow.specs.Taking.{outcome_of, TellsSeal, RefusalCause, IsRefusal, IsTaking};
 
 use crate::heard::Heard;
 use btr_disk::Disk;
@@ -96,6 +96,7 @@ fn decide<D: Disk>(
 /// Why an entry is not taken that the engine refuses for this cause. An entry for which there is no room may be one that is not allowed.
 fn refuse<D: Disk>(alloc: Global, engine: &Engine<D>, entry: &Entry, fault: StepFault) -> Refused
     requires refused { HasResult engine.now engine.now entry.now (Err fault) }
+    requires seal { TellsSeal engine.now fault }
     ensures refused { IsRefusal engine.now entry.now result }
     ensures cause { (h : List EntrySpec) → IsEngineOf h engine.now → StepCause h engine.now engine.now entry.now fault
         → RefusalCause h engine.now entry.now result }
@@ -107,9 +108,8 @@ fn refuse<D: Disk>(alloc: Global, engine: &Engine<D>, entry: &Entry, fault: Step
             Ok(false) => Refused::Foreign,
             Err(AllocError) => Refused::Fault(StepFault::Want),
         },
-        StepFault::Stopped { .. } | StepFault::Want | StepFault::DeviceFault => {
-            Refused::Fault(fault)
-        }
+        StepFault::Stopped { .. } | StepFault::Sealed | StepFault::Want | StepFault::DeviceFault =>
+            Refused::Fault(fault),
     }
 }
 

@@ -1,5 +1,5 @@
 -- Lemmas on the session of a group: one more commit, its hall, and the entries that its commits made.
-use Rattle.std.specs.Prelude.{◌≡◌, ℕ, ◌+◌, ◌≤◌, true, List, [], ◌∷◌, ◌++◌, length, Some, option_to_list, Result, Err}
+use Rattle.std.specs.Prelude.{◌≡◌, ℕ, ◌+◌, ◌≤◌, true, false, List, [], ◌∷◌, ◌++◌, length, Some, option_to_list, Result, Err}
 use Rattle.std.proofs.Common.{refl, sym, ap, ◌∙◌, subst, arith, length-append, append_assoc}
 use Rattle.std.proofs.lemmas.List.{append-nil}
 use Rattle.btr_disk.specs.declared.disk.Disk.{Ghosts}
@@ -10,9 +10,9 @@ use Rattle.btr_hist.specs.declared.entry.Entry.{Entry}
 use Rattle.btr_hist.specs.declared.entry.Entry.TheVariants.{Commit}
 use Rattle.btr_streams.specs.declared.board.Receipt.{Receipt}
 use Rattle.btr_engine.specs.declared.step.StepFault.{StepFault}
-use Rattle.btr_engine.specs.declared.step.StepFault.TheVariants.{Stopped, Rejected, Want, DeviceFull, DeviceFault}
+use Rattle.btr_engine.specs.declared.step.StepFault.TheVariants.{Stopped, Sealed, Rejected, Want, DeviceFull, DeviceFault}
 use Rattle.btr_engine.specs.declared.engine.Engine.{Engine}
-use Rattle.btr_engine.specs.Engine.{IsEngineOf}
+use Rattle.btr_engine.specs.Engine.{is_sealed, IsEngineOf}
 use Rattle.btr_engine.specs.Step.{IsStep}
 use Rattle.btr_gate.specs.Prefixes.{StartsWith}
 use Rattle.btr_gate.specs.Numbers.{Climbs}
@@ -91,6 +91,7 @@ module _ {D : Type 0} {disk : Ghosts D} where
     seen = subst (λ (x : Engine D disk). seen_of u ≡ commits.before ++ option_to_list (item_by result e (engine_after x (seen_of u)))) is commits.seen;
     mine = commits.mine;
     stopped = subst (λ (x : Engine D disk). stopped_in x commits.before ≡ true → (h : List Entry) → IsEngineOf h x → result ≡ Err (Stopped (length (history_of h commits.before)))) is commits.stopped;
+    sealed = subst (λ (x : Engine D disk). stopped_in x commits.before ≡ false → is_sealed x ≡ true → result ≡ Err Sealed) is commits.sealed;
     replies = subst (λ (x : Engine D disk). (h : List Entry) → IsEngineOf h x → CommitReplies x h commits.before (history_of h commits.before) e result) is commits.replies;
   }
 
@@ -180,6 +181,7 @@ module _ {D : Type 0} {disk : Ghosts D} where
         added_one (Refused DeviceFault) commits.before (Halted (shown e) (shown y)) commits.grows commits.seen commits.mine
         (λ stands. (length (seen_of u), rest.own, y, refl, stands, rest.made))
     one_more (Refused (Stopped n)) writes = added_none (Refused (Stopped n)) writes.commits.before writes.commits.grows writes.commits.seen writes.commits.mine rest.made
+    one_more (Refused Sealed) writes = added_none (Refused Sealed) writes.commits.before writes.commits.grows writes.commits.seen writes.commits.mine rest.made
     one_more (Refused (Rejected why)) writes = added_none (Refused (Rejected why)) writes.commits.before writes.commits.grows writes.commits.seen writes.commits.mine rest.made
     one_more (Refused Want) writes = added_none (Refused Want) writes.commits.before writes.commits.grows writes.commits.seen writes.commits.mine rest.made
     one_more (Refused (DeviceFull need left)) writes = added_none (Refused (DeviceFull need left)) writes.commits.before writes.commits.grows writes.commits.seen writes.commits.mine rest.made

@@ -11,9 +11,9 @@ use Rattle.btr_hist.specs.Machine as machine
 use Rattle.btr_engine.specs.declared.engine.Engine.{Engine}
 use Rattle.btr_streams.specs.declared.board.Receipt.{Receipt}
 use Rattle.btr_engine.specs.declared.step.StepFault.{StepFault}
-use Rattle.btr_engine.specs.declared.step.StepFault.TheVariants.{Stopped, Rejected, Want, DeviceFull, DeviceFault}
+use Rattle.btr_engine.specs.declared.step.StepFault.TheVariants.{Stopped, Sealed, Rejected, Want, DeviceFull, DeviceFault}
 use Rattle.btr_engine.specs.Body.{needs_after}
-use Rattle.btr_engine.specs.Engine.{is_stopped, is_home, room_of, IsEngineOf}
+use Rattle.btr_engine.specs.Engine.{is_stopped, is_sealed, is_home, room_of, IsEngineOf}
 use Rattle.btr_engine.specs.Step.{IsStep, IsStepped}
 use Rattle.btr_gate.specs.Numbers.{one}
 use Rattle.btr_gate.specs.Prefixes.{StartsWith}
@@ -27,7 +27,7 @@ use Rattle.btr_hall.specs.Trace.{IsTraceOf, engine_after, entries_in, has_halt, 
 use Rattle.btr_hall.specs.Store.{IsStoreOf}
 use Rattle.btr_hall.specs.Session.{IsAlone, HasTurns, opening_of, seen_of, mine_of, engine_of}
 use Rattle.btr_hall.specs.Commit.{shown, has_failed, number_by, item_by, Adds, CommitReplies, Commits}
-use Rattle.btr_hall.proofs.TraceLemmas.{like_same, engine_at, engine_append, halt_append, engine_of_list, stopped_of_list, length_of_list, room_of_list, item_engine, item_halt, list_push}
+use Rattle.btr_hall.proofs.TraceLemmas.{like_same, engine_at, engine_append, halt_append, engine_of_list, stopped_of_list, sealed_of_list, length_of_list, room_of_list, item_engine, item_halt, list_push}
 
 -- A snapshot that shows a value.
 pub shown_is : {A : Type 0} (s : Snapshot A) (x : A) → s.value ≡ x → s ≡ shown x
@@ -107,6 +107,9 @@ module _ {D : Type 0} {disk : Ghosts D} where
   replies_of h x y l e (Err (Stopped n)) of trace step =
       let cause = step.cause (history_of h l) (engine_of_list h x l of trace) in
       (sym (stopped_of_list x l trace) ∙ cause.0, cause.1)
+  replies_of h x y l e (Err Sealed) of trace step =
+      let has = step.effect.has_result in
+      (sym (stopped_of_list x l trace) ∙ has.0, sym (sealed_of_list x l trace) ∙ has.1)
   replies_of h x y l e (Err (Rejected why)) of trace step = (step.cause (history_of h l) (engine_of_list h x l of trace)).1
   replies_of h x y l e (Err Want) of trace step = (step.cause (history_of h l) (engine_of_list h x l of trace)).1
   replies_of h x y l e (Err (DeviceFull need room)) of trace step =
@@ -124,12 +127,18 @@ module _ {D : Type 0} {disk : Ghosts D} where
       let entries = (engine_of_list h x l of trace).entries in
       (step.effect.stopped here).returned ∙ ap (λ n. Err (Stopped n)) entries
 
+  -- A sealed engine that runs says so.
+  pub says_sealed : (x y : Engine D disk) (l : List (Item D disk)) (e : Entry) (result : Result Receipt StepFault) → IsTraceOf x l → IsStep (engine_after x l) y e result → stopped_in x l ≡ false → is_sealed x ≡ true → result ≡ Err Sealed
+  says_sealed x y l e result trace step runs sealed =
+      (step.effect.sealed (stopped_of_list x l trace ∙ runs) (sealed_of_list x l trace ∙ sealed)).returned
+
   -- ---- the turn
 
   number_is : (l : List (Item D disk)) (mine : List ℕ) (e : Entry) (y : Engine D disk) (result : Result Receipt StepFault) → with_number mine l (item_by result e y) ≡ mine ++ option_to_list (number_by result (length (l ++ option_to_list (item_by result e y))))
   number_is l mine e y (Ok receipt) = number_push mine l (Added (shown e) (shown y))
   number_is l mine e y (Err DeviceFault) = number_push mine l (Halted (shown e) (shown y))
   number_is l mine e y (Err (Stopped n)) = sym (append-nil mine)
+  number_is l mine e y (Err Sealed) = sym (append-nil mine)
   number_is l mine e y (Err (Rejected why)) = sym (append-nil mine)
   number_is l mine e y (Err Want) = sym (append-nil mine)
   number_is l mine e y (Err (DeviceFull need room)) = sym (append-nil mine)
@@ -170,6 +179,7 @@ module _ {D : Type 0} {disk : Ghosts D} where
       seen = new_seen;
       mine = new_mine mine;
       stopped = λ stopped h with_h. says_stopped h (opening_of hall) (engine_of hall new) before e result with_h of.trace new_step stopped;
+      sealed = says_sealed (opening_of hall) (engine_of hall new) before e result of.trace new_step;
       replies = λ h with_h. replies_of h (opening_of hall) (engine_of hall new) before e result with_h of.trace new_step;
     }
 

@@ -3,7 +3,7 @@ use Rattle.std.specs.Prelude.{◌≡◌, ◌⊎◌, ℕ, ◌<◌, Bool, true, fa
 use Rattle.std.specs.Prelude.{Option, Some, None, option_to_list, Result, Ok, Err, nat_le, if◌then◌else◌}
 use Rattle.std.proofs.Common.{refl, sym, ap, ◌∙◌, subst, inl, inr, ⊎_elim}
 use Rattle.std.specs.Option.{unwrap_or}
-use Rattle.std.proofs.lemmas.Bool.{leb-true}
+use Rattle.std.proofs.lemmas.Bool.{leb-true, false_from_ne_true}
 use Rattle.std.proofs.lemmas.List.{append-nil, append_assoc}
 use Rattle.btr_disk.specs.declared.disk.Disk.{Ghosts}
 use Rattle.btr_hist.specs.declared.entry.Entry.{Entry}
@@ -22,7 +22,7 @@ use Rattle.btr_streams.specs.declared.board.Receipt.{Receipt}
 use Rattle.btr_engine.specs.declared.step.StepFault.{StepFault}
 use Rattle.btr_engine.specs.declared.step.StepFault.TheVariants as steps
 use Rattle.btr_streams.specs.Board.{latest_of}
-use Rattle.btr_engine.specs.Engine.{is_stopped, is_home, IsEngineOf}
+use Rattle.btr_engine.specs.Engine.{is_stopped, is_sealed, is_home, IsEngineOf}
 use Rattle.btr_engine.specs.Step.{IsStep, IsStepped, HasResult}
 use Rattle.btr_gate.specs.Prefixes.{StartsWith}
 use Rattle.btr_gate.specs.Views.{with_entry, with_number}
@@ -39,8 +39,8 @@ use Rattle.btr_hall.specs.Commit.{Adds, item_by}
 use Rattle.btr_hall.specs.Commit as commit
 use Rattle.btr_hall.specs.Landing.{step_fault, step_result, LandingReplies, Lands}
 use Rattle.btr_hall.specs.Superseded.{IsNotSuperseded, IsSupersededBy, StoreLands, said_rejection, said_result}
-use Rattle.btr_hall.proofs.TraceLemmas.{engine_at, entries_append, engine_of_list, stopped_of_list, list_push}
-use Rattle.btr_hall.proofs.CommitLemmas.{replies_of, says_stopped, new_step, new_seen, new_mine}
+use Rattle.btr_hall.proofs.TraceLemmas.{engine_at, entries_append, engine_of_list, stopped_of_list, sealed_of_list, list_push}
+use Rattle.btr_hall.proofs.CommitLemmas.{replies_of, says_stopped, says_sealed, new_step, new_seen, new_mine}
 
 -- A rejection is named, or it is said that memory ran out.
 named_or_want : (why : Rejection) → (step_fault (said_rejection why) ≡ steps.Rejected why) ⊎ (said_rejection why ≡ faults.Want)
@@ -62,6 +62,7 @@ named_or_want (rejections.TooMany count) = inr refl
 said_number : (result : Result Receipt StepFault) (n : ℕ) → commit.number_by (step_result (said_result result)) n ≡ commit.number_by result n
 said_number (Ok receipt) n = refl
 said_number (Err (steps.Stopped entries)) n = refl
+said_number (Err steps.Sealed) n = refl
 said_number (Err (steps.Rejected why)) n =
     ⊎_elim (λ named. ap (λ f. commit.number_by (Err f) n) named) (λ want. ap (λ f. commit.number_by (Err (step_fault f)) n) want) (named_or_want why)
 said_number (Err steps.Want) n = refl
@@ -118,6 +119,7 @@ module _ {D : Type 0} {disk : Ghosts D} where
       inl (record { version = version; is = refl; same = lands.0; none = lands.1; by = lands.2 })
   two_ways s t p added (Ok receipt) lands = inr (record { step = lands.0; adds = lands.1; current = lands.2; is = lands.3 })
   two_ways s t p added (Err (faults.Stopped entries)) lands = inr (record { step = lands.0; adds = lands.1; current = lands.2; is = lands.3 })
+  two_ways s t p added (Err faults.Sealed) lands = inr (record { step = lands.0; adds = lands.1; current = lands.2; is = lands.3 })
   two_ways s t p added (Err faults.VersionLimit) lands = inr (record { step = lands.0; adds = lands.1; current = lands.2; is = lands.3 })
   two_ways s t p added (Err (faults.Crowded start)) lands = inr (record { step = lands.0; adds = lands.1; current = lands.2; is = lands.3 })
   two_ways s t p added (Err (faults.TooManyPoints count)) lands = inr (record { step = lands.0; adds = lands.1; current = lands.2; is = lands.3 })
@@ -144,6 +146,7 @@ module _ {D : Type 0} {disk : Ghosts D} where
   pub step_lands : (s t : Store D disk) (p : PlanValue) (added : Option (Item D disk)) (step : Result Receipt StepFault) → Adds s t (entry_of p) step added → IsNotSuperseded s p → StoreLands s t p added (said_result step)
   step_lands s t p added (Ok receipt) adds current = (Ok receipt, adds, current, refl)
   step_lands s t p added (Err (steps.Stopped entries)) adds current = (Err (steps.Stopped entries), adds, current, refl)
+  step_lands s t p added (Err steps.Sealed) adds current = (Err steps.Sealed, adds, current, refl)
   step_lands s t p added (Err (steps.Rejected why)) adds current = lands_rejected s t p added why adds current
   step_lands s t p added (Err steps.Want) adds current = (Err steps.Want, adds, current, refl)
   step_lands s t p added (Err (steps.DeviceFull need left)) adds current = (Err (steps.DeviceFull need left), adds, current, refl)
@@ -151,9 +154,14 @@ module _ {D : Type 0} {disk : Ghosts D} where
 
   -- ---- what the result says
 
-  -- The plan is current if the engine runs.
-  is_current : (h : List Entry) (s : Store D disk) (p : PlanValue) → IsEngineOf h s.engine → IsPlanOf h p → IsNotSuperseded s p → is_stopped s.engine ≡ false → IsCurrent h p
-  is_current h s p of is current runs = plan-current h p is (current runs h of)
+  -- The plan is current if the engine runs and is not sealed.
+  is_current : (h : List Entry) (s : Store D disk) (p : PlanValue) → IsEngineOf h s.engine → IsPlanOf h p → IsNotSuperseded s p → is_stopped s.engine ≡ false → is_sealed s.engine ≡ false → IsCurrent h p
+  is_current h s p of is current runs unsealed = plan-current h p is (current runs unsealed h of)
+
+  -- A step of an engine that runs, which does not say that it is sealed, is of one that is not.
+  unsealed_by : (x y : Engine D disk) (e : Entry) (result : Result Receipt StepFault) → IsStep x y e result → (result ≡ Err steps.Sealed → ⊥) → is_stopped x ≡ false → is_sealed x ≡ false
+  unsealed_by x y e result step not runs =
+      false_from_ne_true (is_sealed x) (λ sealed. not (step.effect.sealed runs sealed).returned)
 
   module _ (x y : Engine D disk) (first : List Entry) (s : Store D disk) (before : List (Item D disk)) (h : List Entry) (p : PlanValue) (of : IsEngineOf h s.engine) (is : IsPlanOf h p) (current : IsNotSuperseded s p) where
     rejected_replies : (why : Rejection) → IsCurrent h p → MayReject why → rejection h (entry_of p) ≡ Some why → LandingReplies x first before h p (Err (said_rejection why))
@@ -174,23 +182,31 @@ module _ {D : Type 0} {disk : Ghosts D} where
     step_replies : (result : Result Receipt StepFault) → IsStep s.engine y (entry_of p) result → commit.CommitReplies x first before h (entry_of p) result → LandingReplies x first before h p (said_result result)
     step_replies (Ok receipt) step says =
         let stepped : IsStepped h s.engine y (entry_of p) receipt = step.stepped h of in
-        let reply = reply-accepted h p of.follows is (is_current h s p of is current stepped.could.runs) says.0 in
+        let reply = reply-accepted h p of.follows is (is_current h s p of is current stepped.could.runs stepped.could.unsealed) says.0 in
         (reply.0, reply.1, says.1, says.2)
     step_replies (Err (steps.Stopped entries)) step says = says
+    step_replies (Err steps.Sealed) step says = says
     step_replies (Err (steps.Rejected why)) step says =
-        let now = is_current h s p of is current (step.cause h of).0 in
+        let runs = (step.cause h of).0 in
+        let now = is_current h s p of is current runs (unsealed_by s.engine y (entry_of p) (Err (steps.Rejected why)) step (λ no. cc) runs) in
         rejected_replies why now (plan-may_reject h p why of.follows is now says) says
-    step_replies (Err steps.Want) step says = (is_current h s p of is current (step.cause h of).0, says)
+    step_replies (Err steps.Want) step says =
+        let runs = (step.cause h of).0 in
+        (is_current h s p of is current runs (unsealed_by s.engine y (entry_of p) (Err steps.Want) step (λ no. cc) runs), says)
     step_replies (Err (steps.DeviceFull need left)) step says =
-        (is_current h s p of is current (step.cause h of).0, says.0, says.1, says.2, says.3)
+        let runs = (step.cause h of).0 in
+        let unsealed = unsealed_by s.engine y (entry_of p) (Err (steps.DeviceFull need left)) step (λ no. cc) runs in
+        (is_current h s p of is current runs unsealed, says.0, says.1, says.2, says.3)
     step_replies (Err steps.DeviceFault) step says =
-        (is_current h s p of is current (step.cause h of).0.runs, says)
+        let could = (step.cause h of).0 in
+        (is_current h s p of is current could.runs could.unsealed, says)
 
   -- ---- what is said of a result adds and does the same
 
   said_item : (result : Result Receipt StepFault) (e : Entry) (y : Engine D disk) → item_by (step_result (said_result result)) e y ≡ item_by result e y
   said_item (Ok receipt) e y = refl
   said_item (Err (steps.Stopped entries)) e y = refl
+  said_item (Err steps.Sealed) e y = refl
   said_item (Err (steps.Rejected why)) e y =
       ⊎_elim (λ named. ap (λ f. item_by (Err f) e y) named) (λ want. ap (λ f. item_by (Err (step_fault f)) e y) want) (named_or_want why)
   said_item (Err steps.Want) e y = refl
@@ -200,6 +216,7 @@ module _ {D : Type 0} {disk : Ghosts D} where
   said_effect : (a b : Engine D disk) (e : Entry) (result : Result Receipt StepFault) → HasResult a b e result → HasResult a b e (step_result (said_result result))
   said_effect a b e (Ok receipt) has = has
   said_effect a b e (Err (steps.Stopped entries)) has = has
+  said_effect a b e (Err steps.Sealed) has = has
   said_effect a b e (Err (steps.Rejected why)) has =
       ⊎_elim (λ named. subst (λ f. HasResult a b e (Err f)) (sym named) has) (λ want. subst (λ f. HasResult a b e (Err (step_fault f))) (sym want) has) (named_or_want why)
   said_effect a b e (Err steps.Want) has = has
@@ -229,13 +246,16 @@ module _ {D : Type 0} {disk : Ghosts D} where
           stopped = λ stopped h with_h.
               let here = ap (λ e. is_stopped e) (engine_at s before x of home) ∙ stopped_of_list x before of.trace ∙ stopped in
               absurd (not_both (is_stopped s.engine) here passed.by.0);
+          sealed = λ runs sealed.
+              let here = ap (λ e. is_sealed e) (engine_at s before x of home) ∙ sealed_of_list x before of.trace ∙ sealed in
+              absurd (not_both (is_sealed s.engine) here passed.by.1);
           replies = λ h with_h.
               let all = history_of h before in
               let at : IsEngineOf all s.engine = subst (IsEngineOf all) (sym (engine_at s before x of home)) (engine_of_list h x before with_h of.trace) in
-              let version : latest all p.stream ≡ passed.version = passed.by.2 all at in
-              let above : p.base < latest all p.stream = subst (λ n. p.base < n) (sym version) passed.by.1 in
+              let version : latest all p.stream ≡ passed.version = passed.by.3 all at in
+              let above : p.base < latest all p.stream = subst (λ n. p.base < n) (sym version) passed.by.2 in
               let reply = reply-superseded all p (plans h with_h) above in
-              subst (LandingReplies x h before all p) (sym passed.is) (reply.0 ∙ ap Superseded version, passed.by.1, sym version);
+              subst (LandingReplies x h before all p) (sym passed.is) (reply.0 ∙ ap Superseded version, passed.by.2, sym version);
         }
 
     lands_stepped : Stepped s t p added result → Lands hall old new p result
@@ -261,6 +281,7 @@ module _ {D : Type 0} {disk : Ghosts D} where
           effect = subst (λ r. HasResult (engine_after x before) y e (step_result r)) (sym stepped.is) (said_effect (engine_after x before) y e did step.effect.has_result);
           stopped = λ stopped h with_h.
               stepped.is ∙ ap said_result (says_stopped h x y before e did with_h of.trace step stopped);
+          sealed = λ runs sealed. stepped.is ∙ ap said_result (says_sealed x y before e did of.trace step runs sealed);
           replies = λ h with_h.
               let all = history_of h before in
               let at : IsEngineOf all s.engine = subst (IsEngineOf all) (sym (engine_at s before x of home)) (engine_of_list h x before with_h of.trace) in

@@ -6,15 +6,17 @@ use Rattle.std.proofs.lemmas.List.{append-nil, length-replicate}
 use Rattle.btr_disk.specs.declared.disk.Disk.{Ghosts}
 use Rattle.btr_hist.specs.declared.entry.Entry.{Entry}
 use Rattle.btr_log.specs.Extents.{left}
+use Rattle.btr_super.specs.Super.{has_seal}
 use Rattle.btr_engine.specs.declared.engine.Engine.{Engine}
 use Rattle.btr_streams.specs.declared.board.Receipt.{Receipt}
 use Rattle.btr_engine.specs.declared.step.StepFault.{StepFault}
-use Rattle.btr_engine.specs.declared.step.StepFault.TheVariants.{Stopped, Rejected, Want, DeviceFull, DeviceFault}
+use Rattle.btr_engine.specs.declared.step.StepFault.TheVariants.{Stopped, Sealed, Rejected, Want, DeviceFull, DeviceFault}
 use Rattle.btr_streams.specs.Board.{IsBoardOf}
 use Rattle.btr_engine.specs.Body.{need_of, needs_after}
-use Rattle.btr_engine.specs.Engine.{log_of, board_of, super_of, entries_at_open, is_home, entries_of, blocks_of, tail_of, room_of, is_stopped, IsEngineOf, IsAtRest, IsDurable, KeepsOpening}
+use Rattle.btr_engine.specs.Engine.{log_of, board_of, super_of, entries_at_open, is_home, entries_of, blocks_of, tail_of, room_of, is_stopped, is_sealed, IsEngineOf, IsAtRest, IsDurable, KeepsOpening}
 use Rattle.btr_engine.specs.Step.{CanStep, IsStep, IsStepped, AddsOne, StopsByFault}
 use Rattle.btr_engine.specs.Travel.{IsLike}
+use Rattle.btr_engine.proofs.RaiseLemmas.{raise_unsealed}
 use Rattle.btr_engine.proofs.Stepping.{same_at_home}
 use Rattle.btr_gate.specs.Numbers.{one}
 use Rattle.btr_hall.specs.declared.item.Item.{Item}
@@ -27,6 +29,11 @@ use Rattle.btr_hall.specs.Commit.{has_failed, item_by}
 
 room_less : (blocks tail need : ℕ) → need ≤ left blocks tail → left blocks (tail + need) + need ≡ left blocks tail
 room_less blocks tail need low = omega arith
+
+both_false : (a b c : Bool) → (a || (b || c)) ≡ false → (a || b) ≡ false
+both_false true b c is = absurd (cc)
+both_false false true c is = absurd (cc)
+both_false false false c is = refl
 
 not_both : (b : Bool) → b ≡ true → b ≡ false → ⊥
 not_both b a c = cc
@@ -125,6 +132,48 @@ module _ {D : Type 0} {disk : Ghosts D} where
   pub stopped_of_list : (x : Engine D disk) (l : List (Item D disk)) → IsTraceOf x l → is_stopped (engine_after x l) ≡ stopped_in x l
   stopped_of_list x l trace =
       ap (λ (e : Engine D disk). is_stopped e) (engine_is x l trace) ∙ trace_stopped x trace.steps trace.trace ∙ ap (λ b. is_stopped x || b) (sym (halt_is x l trace))
+
+  -- ---- whether it is sealed
+
+  trace_sealed : (x : Engine D disk) (l : List (Item D disk)) → IsTrace x l → is_sealed (engine_after x l) ≡ is_sealed x
+  trace_sealed x [] trace = refl
+  trace_sealed x (Earlier ∷ l) trace = absurd trace
+  trace_sealed x (Added entry engine ∷ l) trace =
+      let adds : AddsOne x engine.value entry.value trace.0.0 = trace.0.1.effect.has_result in
+      trace_sealed engine.value l trace.1 ∙ ap has_seal adds.chosen ∙ raise_unsealed (super_of x) entry.value adds.unsealed ∙ sym adds.unsealed
+  trace_sealed x (Halted entry engine ∷ l) trace =
+      let fault : (is_stopped x ≡ false) × StopsByFault x engine.value entry.value = trace.0.effect.has_result in
+      trace_sealed engine.value l trace.1 ∙ ap has_seal fault.1.chosen
+
+  -- The engine at the end is sealed exactly if the first one was.
+  pub sealed_of_list : (x : Engine D disk) (l : List (Item D disk)) → IsTraceOf x l → is_sealed (engine_after x l) ≡ is_sealed x
+  sealed_of_list x l trace = ap (λ (e : Engine D disk). is_sealed e) (engine_is x l trace) ∙ trace_sealed x trace.steps trace.trace
+
+  -- A sealed engine has no steps.
+  pub ends_sealed : (x : Engine D disk) (l : List (Item D disk)) → is_sealed x ≡ true → IsTrace x l → l ≡ []
+  ends_sealed x [] sealed trace = refl
+  ends_sealed x (Earlier ∷ l) sealed trace = absurd trace
+  ends_sealed x (Added entry engine ∷ l) sealed trace =
+      let adds : AddsOne x engine.value entry.value trace.0.0 = trace.0.1.effect.has_result in
+      absurd (not_both (is_sealed x) sealed adds.unsealed)
+  ends_sealed x (Halted entry engine ∷ l) sealed trace =
+      let fault : (is_stopped x ≡ false) × StopsByFault x engine.value entry.value = trace.0.effect.has_result in
+      let says = (trace.0.effect.sealed fault.0 sealed).returned in
+      absurd (cc)
+
+  -- A sealed store that is not stopped when the hall begins is never stopped, and gets no entries.
+  pub sealed_runs : (x : Engine D disk) (l : List (Item D disk)) → IsTraceOf x l → is_sealed x ≡ true → is_stopped x ≡ false → stopped_in x l ≡ false
+  sealed_runs x l trace sealed runs =
+      let none = ends_sealed x trace.steps sealed trace.trace in
+      sym (stopped_of_list x l trace) ∙ ap (λ (e : Engine D disk). is_stopped e) (engine_is x l trace ∙ ap (engine_after x) none) ∙ runs
+
+  pub sealed_entries : (x : Engine D disk) (l : List (Item D disk)) → IsTraceOf x l → is_sealed x ≡ true → entries_in l ≡ []
+  sealed_entries x l trace sealed =
+      entries_is x l trace ∙ ap (entries_in {disk = disk}) (ends_sealed x trace.steps sealed trace.trace)
+
+  -- What is not stopped at the end of a list was not stopped before.
+  pub runs_front : (x : Engine D disk) (l m : List (Item D disk)) → stopped_in x (l ++ m) ≡ false → stopped_in x l ≡ false
+  runs_front x l m runs = both_false (is_stopped x) (has_halt l) (has_halt m) (sym (ap (λ b. is_stopped x || b) (halt_append l m)) ∙ runs)
 
   -- ---- how long the list is
 
@@ -245,6 +294,7 @@ module _ {D : Type 0} {disk : Ghosts D} where
   item_trace x y e (Ok receipt) step = ((receipt, step), tt)
   item_trace x y e (Err DeviceFault) step = (step, tt)
   item_trace x y e (Err (Stopped entries)) step = tt
+  item_trace x y e (Err Sealed) step = tt
   item_trace x y e (Err (Rejected why)) step = tt
   item_trace x y e (Err Want) step = tt
   item_trace x y e (Err (DeviceFull need room)) step = tt
@@ -254,6 +304,7 @@ module _ {D : Type 0} {disk : Ghosts D} where
   item_engine x y e (Ok receipt) step = refl
   item_engine x y e (Err DeviceFault) step = refl
   item_engine x y e (Err (Stopped entries)) step = sym step.effect.has_result.2
+  item_engine x y e (Err Sealed) step = sym step.effect.has_result.2
   item_engine x y e (Err (Rejected why)) step = sym step.effect.has_result.1
   item_engine x y e (Err Want) step = sym step.effect.has_result.1
   item_engine x y e (Err (DeviceFull need room)) step = sym step.effect.has_result.3
@@ -262,6 +313,7 @@ module _ {D : Type 0} {disk : Ghosts D} where
   item_halt y e (Ok receipt) = refl
   item_halt y e (Err DeviceFault) = refl
   item_halt y e (Err (Stopped entries)) = refl
+  item_halt y e (Err Sealed) = refl
   item_halt y e (Err (Rejected why)) = refl
   item_halt y e (Err Want) = refl
   item_halt y e (Err (DeviceFull need room)) = refl

@@ -5,11 +5,12 @@ use Rattle.btr_disk.specs.declared.disk.Disk.{Ghosts}
 use Rattle.btr_log.specs.declared.log.Log.{Log}
 use Rattle.btr_log.specs.Log.{log_tail}
 use Rattle.btr_super.specs.declared.superblock.Super.{Super}
+use Rattle.btr_super.specs.Super.{has_seal}
 use Rattle.btr_hist.specs.declared.entry.Entry.{Entry}
 use Rattle.btr_engine.specs.declared.engine.Engine.{Engine}
 use Rattle.btr_streams.specs.declared.board.Receipt.{Receipt}
 use Rattle.btr_engine.specs.declared.step.StepFault.{StepFault}
-use Rattle.btr_engine.specs.declared.step.StepFault.TheVariants.{Stopped, Rejected, Want, DeviceFull, DeviceFault}
+use Rattle.btr_engine.specs.declared.step.StepFault.TheVariants.{Stopped, Sealed, Rejected, Want, DeviceFull, DeviceFault}
 use Rattle.btr_engine.specs.declared.travel.Ready.{Ready}
 use Rattle.btr_streams.specs.Board.{Kept}
 use Rattle.btr_engine.specs.Engine.{log_of, is_home}
@@ -153,6 +154,7 @@ module _ {D : Type 0} {disk : Ghosts D} where
   -- An entry that was refused adds nothing.
   pub refused_adds : (s t : Store D disk) (e : Entry) (fault : StepFault) → IsStep s.engine t.engine e (Err fault) → HasResult s.engine s.engine e (Err fault) → t.opening ≡ s.opening → t.halted ≡ s.halted → Adds s t e (Err fault) None
   refused_adds s t e (Stopped n) step has opening halted = record { step = step; opening = ap (λ o. o.value) opening; halted = halted ∙ or_false s.halted; item = refl }
+  refused_adds s t e Sealed step has opening halted = record { step = step; opening = ap (λ o. o.value) opening; halted = halted ∙ or_false s.halted; item = refl }
   refused_adds s t e (Rejected why) step has opening halted = record { step = step; opening = ap (λ o. o.value) opening; halted = halted ∙ or_false s.halted; item = refl }
   refused_adds s t e Want step has opening halted = record { step = step; opening = ap (λ o. o.value) opening; halted = halted ∙ or_false s.halted; item = refl }
   refused_adds s t e (DeviceFull n left) step has opening halted = record { step = step; opening = ap (λ o. o.value) opening; halted = halted ∙ or_false s.halted; item = refl }
@@ -162,7 +164,7 @@ module _ {D : Type 0} {disk : Ghosts D} where
   abbrev pub HoldsIf : {A B : Type 0} → Log D disk → Log D disk → Entry → Ready → Result A B → Type 0
   HoldsIf l after e r written =
       disk.is_observable → (h : List Entry) (b : Kept) (s : Super) → IsStaged h b (log_tail l) e r → r.raise ≡ raise_for s e
-      → HoldsNow h b s l → OnOk written (HoldsNow (h ++ e ∷ []) r.staged.next (super_after s r.raise) after)
+      → has_seal s ≡ false → HoldsNow h b s l → OnOk written (HoldsNow (h ++ e ∷ []) r.staged.next (super_after s r.raise) after)
 
   -- The log is back: the store did the step that began in the turn in which it was at home.
   pub brought_in : {A B : Type 0} → HasMoments disk → (s u t : Store D disk) (l : Log D disk) (e : Entry) (r : Ready) → IsLike u.engine s.engine → u.opening.value ≡ s.opening.value → u.halted ≡ s.halted → IsReadyOn s.engine e r → StagesOn s.engine e r → LeavesEntry (log_of s.engine) l e r → (written : Result A B) (result : Result Receipt StepFault) (added : Option (Item D disk)) → OnOk written (IsWritten (log_of s.engine) l r) → IfErr written (λ _. HasFailed r.raise (log_of s.engine) l) → HoldsIf (log_of s.engine) l e r written → Brings u t l r e written result added → Adds s t e result added

@@ -5,7 +5,8 @@ use Rattle.btr_disk.specs.declared.disk.Disk.{Ghosts}
 use Rattle.btr_hist.specs.declared.entry.Entry.{Entry}
 use Rattle.btr_engine.specs.declared.engine.Engine.{Engine}
 use Rattle.btr_streams.specs.Board.{IsBoardOf}
-use Rattle.btr_engine.specs.Engine.{is_stopped, IsEngineOf}
+use Rattle.btr_super.specs.Super.{has_seal}
+use Rattle.btr_engine.specs.Engine.{is_stopped, is_sealed, IsEngineOf}
 use Rattle.btr_engine.specs.Travel.{IsLike}
 use Rattle.btr_gate.specs.declared.view.View.{View}
 use Rattle.btr_gate.specs.Gates.{view}
@@ -20,7 +21,7 @@ use Rattle.btr_hall.specs.declared.session.Session.{Session}
 use Rattle.btr_hall.specs.Trace.{IsTraceOf, engine_after, history_of, stopped_in}
 use Rattle.btr_hall.specs.Store.{IsStoreOf}
 use Rattle.btr_hall.specs.Session.{IsSame, Looks, opening_of, seen_of, mine_of, stopped_at}
-use Rattle.btr_hall.proofs.TraceLemmas.{engine_of_list, stopped_of_list}
+use Rattle.btr_hall.proofs.TraceLemmas.{engine_of_list, stopped_of_list, sealed_of_list}
 
 -- What is not out is at home.
 pub not_out : {b : Bool} → not b ≡ false → b ≡ true
@@ -49,6 +50,10 @@ module _ {D : Type 0} {disk : Ghosts D} where
   -- The engine of a turn is of the history of its list.
   pub turn_engine : (h : List Entry) (s : Store D disk) (l : List (Item D disk)) (x : Engine D disk) → IsStoreOf s l x → IsEngineOf h x → IsEngineOf (history_of h l) s.engine
   turn_engine h s l x of with_h = subst (IsBoardOf (history_of h l)) (sym of.engine.board) (engine_of_list h x l with_h of.trace)
+
+  -- The engine of a turn is sealed exactly if the one at the beginning was.
+  pub turn_sealed : (s : Store D disk) (l : List (Item D disk)) (x : Engine D disk) → IsStoreOf s l x → is_sealed s.engine ≡ is_sealed x
+  turn_sealed s l x of = ap has_seal of.engine.chosen ∙ sealed_of_list x l of.trace
 
   -- ---- the views after a turn
 

@@ -9,9 +9,9 @@ use Rattle.btr_hist.specs.Legal.{rejection}
 use Rattle.btr_engine.specs.declared.engine.Engine.{Engine}
 use Rattle.btr_streams.specs.declared.board.Receipt.{Receipt}
 use Rattle.btr_engine.specs.declared.step.StepFault.{StepFault}
-use Rattle.btr_engine.specs.declared.step.StepFault.TheVariants.{Stopped, Rejected, Want, DeviceFull, DeviceFault}
+use Rattle.btr_engine.specs.declared.step.StepFault.TheVariants.{Stopped, Sealed, Rejected, Want, DeviceFull, DeviceFault}
 use Rattle.btr_engine.specs.Body.{need_of, needs_after}
-use Rattle.btr_engine.specs.Engine.{room_of, IsEngineOf}
+use Rattle.btr_engine.specs.Engine.{room_of, is_sealed, IsEngineOf}
 use Rattle.btr_streams.specs.Stage.{MayLackMemory, IsReceipt}
 use Rattle.btr_engine.specs.Step.{IsStep}
 use Rattle.btr_gate.specs.Prefixes.{StartsWith}
@@ -66,6 +66,7 @@ module _ {D : Type 0} {disk : Ghosts D} where
   abbrev pub CommitReplies : Engine D disk → List Entry → List (Item D disk) → List Entry → Entry → Result Receipt StepFault → Type 0
   CommitReplies x first before h e (Ok receipt) = (rejection h e ≡ None) × IsReceipt h e receipt × (receipt.number ≡ length before + 1)
   CommitReplies x first before h e (Err (Stopped entries)) = (stopped_in x before ≡ true) × (entries ≡ length h)
+  CommitReplies x first before h e (Err Sealed) = (stopped_in x before ≡ false) × (is_sealed x ≡ true)
   CommitReplies x first before h e (Err (Rejected why)) = rejection h e ≡ Some why
   CommitReplies x first before h e (Err Want) = MayLackMemory (rejection h e)
   CommitReplies x first before h e (Err (DeviceFull need left)) =
@@ -86,5 +87,6 @@ module _ {D : Type 0} {disk : Ghosts D} where
     pub mine : mine_of new ≡ mine_of old ++ option_to_list (number_by result (length (seen_of new)))
     pub stopped : stopped_in (opening_of hall) before ≡ true
         → (h : List Entry) → IsEngineOf h (opening_of hall) → result ≡ Err (Stopped (length (history_of h before)))
+    pub sealed : stopped_in (opening_of hall) before ≡ false → is_sealed (opening_of hall) ≡ true → result ≡ Err Sealed
     pub replies : (h : List Entry) → IsEngineOf h (opening_of hall)
         → CommitReplies (opening_of hall) h before (history_of h before) e result

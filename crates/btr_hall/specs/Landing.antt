@@ -1,5 +1,5 @@
 -- What the turn of a plan does: which item it adds to the list, and what its result says of the history.
-use Rattle.std.specs.Prelude.{◌≡◌, ◌+◌, ◌<◌, true, List, [], ◌∷◌, ◌++◌, length, Some, None}
+use Rattle.std.specs.Prelude.{◌≡◌, ◌+◌, ◌<◌, true, false, List, [], ◌∷◌, ◌++◌, length, Some, None}
 use Rattle.std.specs.Prelude.{option_to_list, Result, Ok, Err}
 use Rattle.btr_disk.specs.declared.disk.Disk.{Ghosts}
 use Rattle.btr_hist.specs.declared.entry.Entry.{Entry}
@@ -15,7 +15,7 @@ use Rattle.btr_streams.specs.declared.board.Receipt.{Receipt}
 use Rattle.btr_engine.specs.declared.step.StepFault.{StepFault}
 use Rattle.btr_engine.specs.declared.step.StepFault.TheVariants as steps
 use Rattle.btr_engine.specs.Body.{need_of, needs_after}
-use Rattle.btr_engine.specs.Engine.{room_of, IsEngineOf}
+use Rattle.btr_engine.specs.Engine.{room_of, is_sealed, IsEngineOf}
 use Rattle.btr_streams.specs.Stage.{MayLackMemory, IsReceipt}
 use Rattle.btr_engine.specs.Step.{HasResult}
 use Rattle.btr_gate.specs.Prefixes.{StartsWith}
@@ -31,6 +31,7 @@ use Rattle.btr_hall.specs.Commit.{item_by, number_by}
 -- The fault of the step of a landing. There was no step if the plan was superseded.
 abbrev pub step_fault : LandFault → StepFault
 step_fault (faults.Stopped entries) = steps.Stopped entries
+step_fault faults.Sealed = steps.Sealed
 step_fault (faults.Superseded version) = steps.Want
 step_fault faults.VersionLimit = steps.Rejected rejections.VersionLimit
 step_fault (faults.Crowded start) = steps.Rejected (rejections.Crowded start)
@@ -52,6 +53,7 @@ module _ {D : Type 0} {disk : Ghosts D} where
       (reply_to h p ≡ Accepted (machine.receipt h (entry_of p))) × (landed_after h p ≡ h ++ entry_of p ∷ [])
       × IsReceipt h (entry_of p) receipt × (receipt.number ≡ length before + 1)
   LandingReplies x first before h p (Err (faults.Stopped entries)) = (stopped_in x before ≡ true) × (entries ≡ length h)
+  LandingReplies x first before h p (Err faults.Sealed) = (stopped_in x before ≡ false) × (is_sealed x ≡ true)
   LandingReplies x first before h p (Err (faults.Superseded version)) =
       (reply_to h p ≡ Superseded version) × (p.base < version) × (version ≡ latest h p.stream)
   LandingReplies x first before h p (Err faults.VersionLimit) = IsCurrent h p × (reply_to h p ≡ Rejected rejections.VersionLimit)
@@ -80,5 +82,6 @@ module _ {D : Type 0} {disk : Ghosts D} where
     pub effect : HasResult (engine_after (opening_of hall) before) (engine_of hall new) (entry_of p) (step_result result)
     pub stopped : stopped_in (opening_of hall) before ≡ true
         → (h : List Entry) → IsEngineOf h (opening_of hall) → result ≡ Err (faults.Stopped (length (history_of h before)))
+    pub sealed : stopped_in (opening_of hall) before ≡ false → is_sealed (opening_of hall) ≡ true → result ≡ Err faults.Sealed
     pub replies : (h : List Entry) → IsEngineOf h (opening_of hall)
         → LandingReplies (opening_of hall) h before (history_of h before) p result

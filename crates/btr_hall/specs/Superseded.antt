@@ -9,7 +9,7 @@ use Rattle.btr_distil.specs.Plan.{PlanValue, entry_of}
 use Rattle.btr_streams.specs.declared.board.Receipt.{Receipt}
 use Rattle.btr_engine.specs.declared.step.StepFault.{StepFault}
 use Rattle.btr_engine.specs.declared.step.StepFault.TheVariants as steps
-use Rattle.btr_engine.specs.Engine.{is_stopped, IsEngineOf}
+use Rattle.btr_engine.specs.Engine.{is_stopped, is_sealed, IsEngineOf}
 use Rattle.btr_hall.specs.declared.item.Item.{Item}
 use Rattle.btr_hall.specs.declared.land.LandFault.{LandFault}
 use Rattle.btr_hall.specs.declared.land.LandFault.TheVariants as faults
@@ -28,6 +28,7 @@ said_rejection why = faults.Want
 -- What is said of the fault of a step.
 abbrev pub said_fault : StepFault → LandFault
 said_fault (steps.Stopped entries) = faults.Stopped entries
+said_fault steps.Sealed = faults.Sealed
 said_fault (steps.Rejected why) = said_rejection why
 said_fault steps.Want = faults.Want
 said_fault (steps.DeviceFull need left) = faults.DeviceFull need left
@@ -39,16 +40,17 @@ said_result (Ok receipt) = Ok receipt
 said_result (Err fault) = Err (said_fault fault)
 
 module _ {D : Type 0} {disk : Ghosts D} where
-  -- The output has no version above the one that the plan follows, unless the engine is stopped.
+  -- The output has no version above the one that the plan follows, unless the engine is stopped or sealed.
   abbrev pub IsNotSuperseded : Store D disk → PlanValue → Type 0
   IsNotSuperseded s p =
-      is_stopped s.engine ≡ false → (h : List Entry) → IsEngineOf h s.engine → latest h p.stream ≤ p.base
+      is_stopped s.engine ≡ false → is_sealed s.engine ≡ false
+      → (h : List Entry) → IsEngineOf h s.engine → latest h p.stream ≤ p.base
 
-  -- The latest version of the output, if it is above the one that the plan follows and the engine is not stopped.
+  -- The latest version of the output, if it is above the one that the plan follows and the engine is not stopped nor sealed.
   abbrev pub IsSupersededBy : Store D disk → PlanValue → Option ℕ → Type 0
   IsSupersededBy s p None = IsNotSuperseded s p
   IsSupersededBy s p (Some version) =
-      (is_stopped s.engine ≡ false) × (p.base < version)
+      (is_stopped s.engine ≡ false) × (is_sealed s.engine ≡ false) × (p.base < version)
       × ((h : List Entry) → IsEngineOf h s.engine → latest h p.stream ≡ version)
 
   -- The plan was superseded, and nothing changed. Or the engine did the step of its entry, of whose result this is said.

@@ -21,7 +21,7 @@ impl<D: Disk> Session<D> {
     ///
     /// The list of the turn begins with all that the session had seen. After the call the session has seen that list, with the
     /// entry if it was accepted, or with its halt if the device failed; the number of this item is then one of its own. After a
-    /// halt each session's entries are refused as `Stopped`.
+    /// halt each session's entries are refused as `Stopped`. Those of a sealed store are refused as `Sealed`.
     ///
     /// It waits until nobody else has the log, then for a turn, and then costs what a step costs. It starts no thread. It sleeps if it
     /// waits long. Who commits again at once may pass those who sleep, for about a millisecond. While the device writes others have their

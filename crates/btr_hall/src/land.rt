@@ -27,6 +27,9 @@ pub enum LandFault {
     /// The engine was stopped, with this number of entries.
     Stopped { entries: u64 },
 
+    /// The store is sealed.
+    Sealed,
+
     /// The output has another version since the one that the plan follows: its latest version is this one.
     Superseded { version: u64 },
 
@@ -90,11 +93,11 @@ impl<D: Disk> Session<D> {
 
 impl<D: Disk> Store<D> {
     /// Returns the latest version of the output of a plan, if it is above the one that the plan follows and the engine is not
-    /// stopped.
+    /// stopped nor sealed.
     fn superseded(&self, plan: &Plan) -> Option<u64>
         ensures { IsSupersededBy self.now plan.now result }
     {
-        if self.engine.stopped() {
+        if self.engine.stopped() || self.engine.sealed() {
             return None;
         }
         let version = self.engine.latest(plan.stream()).unwrap_or(0);
@@ -112,6 +115,7 @@ fn land_fault(fault: StepFault) -> LandFault
 {
     match fault {
         StepFault::Stopped { entries } => LandFault::Stopped { entries },
+        StepFault::Sealed => LandFault::Sealed,
         StepFault::Rejected(why) => land_rejection(why),
         StepFault::Want => LandFault::Want,
         StepFault::DeviceFull { need, left } => LandFault::DeviceFull { need, left },

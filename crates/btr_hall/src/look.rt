@@ -3,7 +3,7 @@ ghost use Rattle.std.specs.Prelude.{◌≡◌, List, slice_get, IfOk};
 ghost use Rattle.btr_hist.specs.declared.entry.Entry.{Entry as EntrySpec};
 ghost use Rattle.btr_hist.specs.History.{ids};
 ghost use Rattle.btr_hist.specs.Answer.{answer};
-ghost use Rattle.btr_engine.specs.Engine.{entries_of, is_stopped, IsEngineOf};
+ghost use Rattle.btr_engine.specs.Engine.{entries_of, is_stopped, is_sealed, IsEngineOf};
 ghost use Rattle.btr_streams.specs.Snapshot.{IsSnapshotOf};
 ghost use Rattle.btr_hall.specs.Trace.{history_of};
 ghost use Rattle.btr_hall.specs.Found.{IsFound};
@@ -106,6 +106,20 @@ impl<D: Disk> Session<D> {
     {
         let (stopped, entries) = self.standing(rt, hall);
         stopped.then_some(entries)
+    }
+
+    /// Returns whether the store is sealed. It is if it was when the hall began. It waits for a turn, takes constant time in it, and no
+    /// memory.
+    pub fn sealed<R: Wait>(&mut self, rt: &R, hall: &Hall<D>) -> bool
+        requires session { IsSessionOf hall.now self.old }
+        ensures session { IsSessionOf hall.now self.new }
+        ensures looks { Looks hall.now self.old self.new }
+        ensures sealed { result ≡ is_sealed (opening_of hall.now) }
+    {
+        let turn = hall.gate.enter(rt, &mut self.pass);
+        let sealed = turn.state.engine.sealed();
+        hall.gate.leave(&mut self.pass, turn);
+        sealed
     }
 
     /// Returns whether the engine is stopped, and the number of entries.

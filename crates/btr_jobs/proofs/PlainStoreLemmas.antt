@@ -13,7 +13,7 @@ use Rattle.btr_engine.specs.Body.{need_of, needs_of}
 use Rattle.btr_engine.proofs.NeedLemmas.{needs-append, needs-push}
 use Rattle.btr_gate.specs.Prefixes.{StartsWith}
 use Rattle.btr_jobs.specs.States.{StoreState, LogState, GoesOn}
-use Rattle.btr_jobs.specs.Turns.{IsStopped, IsFull, Committed}
+use Rattle.btr_jobs.specs.Turns.{IsStopped, IsSealed, IsFull, Committed}
 use Rattle.btr_jobs.specs.PlainStore.{PlainStore, receipt_of, take_result_by, store_by, take_result, store_after, result_of, first_store, RunsThrough}
 use Rattle.btr_jobs.specs.PlainStore.TakeResult.{Taken, Rejected, Full}
 
@@ -28,6 +28,7 @@ needs_prefix h p starts =
 pub middle_runs : (start : StoreState) (late middle : LogState) → GoesOn start late middle → RunsThrough start late → RunsThrough start middle
 middle_runs start late middle on ran = record {
   runs = ran.runs;
+  unsealed = ran.unsealed;
   whole = none_left middle.failed refl;
   fits = let least = needs_prefix late.history middle.history on.begins in let fits = ran.fits in omega (arith, least, fits);
 }
@@ -108,6 +109,11 @@ module _ (start : StoreState) (log : LogState) (ran : RunsThrough start log) whe
       let wrong : true ≡ false = sym is.stopped ∙ both in
       absurd (cc)
 
+  pub never_sealed : (p : List Entry) → IsSealed start log p → ⊥
+  never_sealed p is =
+      let wrong : true ≡ false = sym is.sealed ∙ ran.unsealed in
+      absurd (cc)
+
   -- The turn of an entry, right after the history of the plain store.
   pub committed_plain : (c : PlainStore) (p : List Entry) (e : Entry) (result : Result Receipt StepFault) (own : List ℕ) (next : List Entry) → Holds start c p → (result ≡ Err steps.Want → ⊥) → Committed start log p e result own next → (result ≡ result_of (take_result c e)) × Holds start (store_after c e) next
   committed_plain c p e (Ok receipt) own next holds memory is =
@@ -119,6 +125,7 @@ module _ (start : StoreState) (log : LogState) (ran : RunsThrough start log) whe
       let same : receipt ≡ receipt_of c.history e = model ∙ ap (λ h. receipt_of h e) (sym holds.same) in
       (ap (λ (r : Receipt). Ok r) same ∙ sym (ap result_of taken), holds_added start c p e holds next taken room added.next)
   committed_plain c p e (Err (steps.Stopped entries)) own next holds memory is = absurd (never_stopped p entries is.0)
+  committed_plain c p e (Err steps.Sealed) own next holds memory is = absurd (never_sealed p is.0)
   committed_plain c p e (Err (steps.Rejected why)) own next holds memory is =
       let refused = outcome_rejected c e why (ap (λ h. rejection h e) holds.same ∙ is.0) in
       (sym (ap result_of refused), holds_rejected start c p e holds next why refused is.1.next)

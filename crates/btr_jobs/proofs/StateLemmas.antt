@@ -8,7 +8,7 @@ use mathlib.Core.List.{head-eq_of_cons-eq, tail-eq_of_cons-eq}
 use Rattle.btr_disk.specs.declared.disk.Disk.{Ghosts}
 use Rattle.btr_hist.specs.declared.entry.Entry.{Entry}
 use Rattle.btr_engine.specs.declared.engine.Engine.{Engine}
-use Rattle.btr_engine.specs.Engine.{entries_of, is_stopped, IsEngineOf}
+use Rattle.btr_engine.specs.Engine.{entries_of, is_stopped, is_sealed, IsEngineOf}
 use Rattle.btr_engine.specs.Step.{CanStep, IsStepped, StopsByFault}
 use Rattle.btr_gate.specs.Numbers.{one, times}
 use Rattle.btr_gate.specs.Prefixes.{StartsWith}
@@ -20,7 +20,7 @@ use Rattle.btr_hall.specs.Trace.{IsTrace, IsTraceOf, has_halt, history_of}
 use Rattle.btr_hall.specs.Session.{opening_of, seen_of}
 use Rattle.btr_hall.specs.StoreLaws.{ends_stopped}
 use Rattle.btr_hall.proofs.LandLemmas.{history_starts}
-use Rattle.btr_hall.proofs.TraceLemmas.{engine_of_list, length_of_list}
+use Rattle.btr_hall.proofs.TraceLemmas.{engine_of_list, length_of_list, ends_sealed}
 use Rattle.btr_jobs.specs.States.{LogState, GoesOn, failed_in, start_with, log_seen, start_of}
 use Rattle.btr_jobs.specs.Jobs.{IsAt, Goes}
 
@@ -74,7 +74,7 @@ module _ {D : Type 0} {disk : Ghosts D} where
       let head : Earlier ≡ item = head-eq_of_cons-eq is in
       list_ends n h x steps l rest of (tail-eq_of_cons-eq is) trace (subst (λ i. is_some (failed_in (i ∷ l)) ≡ true) (sym head) failed)
 
-  -- ---- stopped from the beginning
+  -- ---- stopped or sealed from the beginning
 
   -- What begins a list of entries of before is such a list.
   all_earlier : (n : ℕ) (l rest : List (Item D disk)) → replicate n Earlier ≡ l ++ rest → l ≡ replicate (length l) Earlier
@@ -97,6 +97,7 @@ module _ {D : Type 0} {disk : Ghosts D} where
   list_goes_on h x later earlier of trace starts = record {
     begins = history_starts h later earlier starts;
     ends = either (is_stopped x) (is_some (failed_in earlier)) (log_at h later ≡ log_at h earlier) from_stopped from_failed;
+    sealed = λ sealed. from_none (ends_sealed x trace.steps sealed trace.trace);
   }
     where
       is : replicate (entries_of x) Earlier ++ trace.steps ≡ earlier ++ starts.0
@@ -107,14 +108,16 @@ module _ {D : Type 0} {disk : Ghosts D} where
           let none = list_ends (entries_of x) h x trace.steps earlier starts.0 of is trace.trace failed in
           ap (log_at h) (starts.1 ∙ ap (λ m. earlier ++ m) none ∙ append-nil earlier)
 
-      from_stopped : is_stopped x ≡ true → log_at h later ≡ log_at h earlier
-      from_stopped stopped =
-          let none : trace.steps ≡ [] = ends_stopped x trace.steps stopped trace.trace in
+      from_none : trace.steps ≡ [] → log_at h later ≡ log_at h earlier
+      from_none none =
           let old : replicate (entries_of x) Earlier ≡ later =
           sym (append-nil (replicate (entries_of x) Earlier)) ∙ sym (ap (λ m. replicate (entries_of x) Earlier ++ m) none) ∙ sym trace.is in
           let whole = all_earlier (entries_of x) later [] (old ∙ sym (append-nil later)) in
           let front = all_earlier (entries_of x) earlier starts.0 (old ∙ starts.1) in
           log_earlier h (length later) later whole ∙ sym (log_earlier h (length earlier) earlier front)
+
+      from_stopped : is_stopped x ≡ true → log_at h later ≡ log_at h earlier
+      from_stopped stopped = from_none (ends_stopped x trace.steps stopped trace.trace)
 
   -- What a session has seen goes on from what it, or another one of the hall, had seen, if that begins it.
   pub goes_on : (h : List Entry) (hall : Hall D disk) (new old : Session D disk) → IsEngineOf h (opening_of hall) → IsAt hall new → StartsWith (seen_of new) (seen_of old) → GoesOn (start_of h hall) (log_seen h new) (log_seen h old)

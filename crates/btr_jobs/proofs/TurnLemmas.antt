@@ -13,7 +13,7 @@ use Rattle.btr_engine.specs.declared.step.StepFault.{StepFault}
 use Rattle.btr_engine.specs.declared.step.StepFault.TheVariants as steps
 use Rattle.btr_engine.specs.Body.{need_of, needs_after}
 use Rattle.btr_engine.proofs.NeedLemmas.{needs-append}
-use Rattle.btr_engine.specs.Engine.{is_stopped, room_of, IsEngineOf}
+use Rattle.btr_engine.specs.Engine.{is_stopped, is_sealed, room_of, IsEngineOf}
 use Rattle.btr_gate.specs.Numbers.{one, times, Climbs}
 use Rattle.btr_gate.specs.Prefixes.{StartsWith}
 use Rattle.btr_gate.specs.Shares.{on_path}
@@ -31,10 +31,10 @@ use Rattle.btr_hall.specs.Commit.{shown, number_by, item_by, Commits}
 use Rattle.btr_hall.specs.Commit as commit
 use Rattle.btr_hall.specs.Landing.{step_result, Lands}
 use Rattle.btr_hall.specs.Landing as landing
-use Rattle.btr_hall.proofs.TraceLemmas.{entries_append, halt_append, engine_of_list, length_of_list, list_push}
+use Rattle.btr_hall.proofs.TraceLemmas.{entries_append, halt_append, engine_of_list, length_of_list, sealed_runs, sealed_entries, runs_front, list_push}
 use Rattle.btr_hall.proofs.LandLemmas.{history_starts}
 use Rattle.btr_jobs.specs.States.{failed_in, start_with, log_seen, start_of}
-use Rattle.btr_jobs.specs.Turns.{IsAdded, IsFailed, IsIdle, IsStopped, IsFull, Committed, CommittedAfter, Landed, LandedAfter}
+use Rattle.btr_jobs.specs.Turns.{IsAdded, IsFailed, IsIdle, IsStopped, IsSealed, IsFull, SaysSealed, Committed, CommittedAfter, Landed, LandedAfter}
 use Rattle.btr_jobs.specs.Jobs.{IsAt, Goes, Does}
 use Rattle.btr_jobs.proofs.StateLemmas.{log_at, failed_halt, failed_append, history_goes_on}
 
@@ -106,6 +106,17 @@ module _ {D : Type 0} {disk : Ghosts D} where
           entries = is;
         }
 
+    sealed_by : after ≡ before ++ [] → stopped_in x before ≡ false → is_sealed x ≡ true → IsSealed (start_with h x) (log_at h after) (history_of h before)
+    sealed_by seen runs sealed =
+        let same : after ≡ before = seen ∙ append-nil before in
+        let halt : is_some (failed_in after) ≡ has_halt before = failed_halt after ∙ ap (has_halt {disk = disk}) same in
+        record {
+          sealed = sealed;
+          runs = ap (λ b. is_stopped x || b) halt ∙ runs;
+          last = ap (history_of h) same;
+          kept = ap (history_of h) (sym same) ∙ ap (λ k. h ++ k) (sealed_entries x after trace sealed) ∙ append-nil h;
+        }
+
     full_by : (e : Entry) (need left : ℕ) → need ≡ need_of (history_of h before) e → left + needs_after h (entries_in before) ≡ room_of x → left < need → IsFull (start_with h x) (history_of h before) e need left
     full_by e need left is room short =
         let both = needs-append h (entries_in before) in
@@ -123,6 +134,8 @@ module _ {D : Type 0} {disk : Ghosts D} where
         (history_of h before ++ e ∷ [], (says.0, says.1, added), added.follows)
     committed_by e y (Err (steps.Stopped entries)) seen stopped says =
         (history_of h before, (stopped_by entries seen says.0 says.1, idle_by), history_starts h after before ([], seen))
+    committed_by e y (Err steps.Sealed) seen stopped says =
+        (history_of h before, (sealed_by seen says.0 says.1, idle_by), history_starts h after before ([], seen))
     committed_by e y (Err (steps.Rejected why)) seen stopped says =
         (history_of h before, (says, idle_by), history_starts h after before ([], seen))
     committed_by e y (Err steps.Want) seen stopped says =
@@ -139,6 +152,8 @@ module _ {D : Type 0} {disk : Ghosts D} where
         (history_of h before ++ entry_of plan ∷ [], (says.0, says.2, added), added.follows)
     landed_by plan y (Err (faults.Stopped entries)) seen stopped says =
         (history_of h before, (stopped_by entries seen says.0 says.1, idle_by), history_starts h after before ([], seen))
+    landed_by plan y (Err faults.Sealed) seen stopped says =
+        (history_of h before, (sealed_by seen says.0 says.1, idle_by), history_starts h after before ([], seen))
     landed_by plan y (Err (faults.Superseded version)) seen stopped says =
         (history_of h before, (says.0, says.1, says.2, idle_by), history_starts h after before ([], seen))
     landed_by plan y (Err faults.VersionLimit) seen stopped says =
@@ -166,6 +181,7 @@ module _ {D : Type 0} {disk : Ghosts D} where
       let long = ap (length {A = Item D disk}) seen ∙ length-append before (Halted (shown e) (shown y) ∷ []) in
       (omega (arith, long), omega arith, tt)
   step_climbs before after e y (Err (steps.Stopped entries)) seen = tt
+  step_climbs before after e y (Err steps.Sealed) seen = tt
   step_climbs before after e y (Err (steps.Rejected why)) seen = tt
   step_climbs before after e y (Err steps.Want) seen = tt
   step_climbs before after e y (Err (steps.DeviceFull need left)) seen = tt
@@ -201,6 +217,10 @@ module _ {D : Type 0} {disk : Ghosts D} where
     says h of =
         committed_by h (opening_of hall) commits.before (seen_of new) of trace_after e (engine_of hall new) result commits.seen (λ stopped. commits.stopped stopped h of) (commits.replies h of)
 
+    -- In a sealed store that is not stopped the entry is refused as such.
+    says_sealed : (h : List Entry) → SaysSealed (start_of h hall) steps.Sealed result
+    says_sealed h sealed runs = commits.sealed (sealed_runs (opening_of hall) commits.before commits.trace sealed runs) sealed
+
     -- After the turn of an entry the session is at its hall.
     pub commit_at : IsSessionOf hall new → IsAt hall new
     commit_at is = record { own = is; trace = trace_after }
@@ -212,16 +232,17 @@ module _ {D : Type 0} {disk : Ghosts D} where
       goes,
       λ h of.
           let said = says h of in
-          (said.0, (history_of h commits.before, history_starts h commits.before (seen_of old) commits.grows, history_starts h (seen_of new) commits.before ends, said.1), said.2),
+          (said.0, (history_of h commits.before, history_starts h commits.before (seen_of old) commits.grows, history_starts h (seen_of new) commits.before ends, said.1, says_sealed h), said.2),
     )
 
     -- The turn of an entry by a session that is alone: its history is what the session had seen.
-    pub commit_turn_alone : IsAlone old → Does hall old new (λ start log low own. (next : List Entry) × Committed start log low e result own next × StartsWith log.history next)
+    pub commit_turn_alone : IsAlone old → Does hall old new (λ start log low own. (next : List Entry) × Committed start log low e result own next × StartsWith log.history next × SaysSealed start steps.Sealed result)
     commit_turn_alone alone = (
       option_to_list (number_by result (length (seen_of new))),
       goes,
       λ h of.
-          subst (λ l. (next : List Entry) × Committed (start_of h hall) (log_seen h new) (history_of h l) e result (option_to_list (number_by result (length (seen_of new)))) next × StartsWith (log_seen h new).history next) (commits.alone alone) (says h of),
+          let said = subst (λ l. (next : List Entry) × Committed (start_of h hall) (log_seen h new) (history_of h l) e result (option_to_list (number_by result (length (seen_of new)))) next × StartsWith (log_seen h new).history next) (commits.alone alone) (says h of) in
+          (said.0, said.1, said.2, says_sealed h),
     )
 
   -- ---- the turn of a plan
@@ -239,6 +260,14 @@ module _ {D : Type 0} {disk : Ghosts D} where
     plan_says h of =
         landed_by h (opening_of hall) lands.before (seen_of new) of lands.trace plan (engine_of hall new) result lands.seen (λ stopped. lands.stopped stopped h of) (lands.replies h of)
 
+    -- In a sealed store that is not stopped the plan is refused as such.
+    plan_says_sealed : (h : List Entry) → SaysSealed (start_of h hall) faults.Sealed result
+    plan_says_sealed h sealed runs =
+        let x = opening_of hall in
+        let more = option_to_list (item_by (step_result result) (entry_of plan) (engine_of hall new)) in
+        let all = ap (stopped_in x) (sym lands.seen) ∙ sealed_runs x (seen_of new) lands.trace sealed runs in
+        lands.sealed (runs_front x lands.before more all) sealed
+
     -- After the turn of a plan the session is at its hall.
     pub land_at : IsSessionOf hall new → IsAt hall new
     land_at is = record { own = is; trace = lands.trace }
@@ -250,7 +279,7 @@ module _ {D : Type 0} {disk : Ghosts D} where
       plan_goes,
       λ h of.
           let said = plan_says h of in
-          (said.0, (history_of h lands.before, history_starts h lands.before (seen_of old) lands.grows, history_starts h (seen_of new) lands.before plan_ends, said.1), said.2),
+          (said.0, (history_of h lands.before, history_starts h lands.before (seen_of old) lands.grows, history_starts h (seen_of new) lands.before plan_ends, said.1, plan_says_sealed h), said.2),
     )
 
     -- The turn of a plan by a session that is alone: its history is what the session had seen.

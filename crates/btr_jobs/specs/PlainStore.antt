@@ -60,8 +60,9 @@ result_of (Full need left) = Err (steps.DeviceFull need left)
 abbrev pub first_store : StoreState → PlainStore
 first_store start = record { history = start.history; left = start.left }
 
--- The store was not stopped, and the device did not fail. The entries need no more blocks than there were.
+-- The store was not stopped nor sealed, and the device did not fail. The entries need no more blocks than there were.
 pub record RunsThrough (start : StoreState) (log : LogState) : Type 0 where
   pub runs : start.stopped ≡ false
+  pub unsealed : start.sealed ≡ false
   pub whole : log.failed ≡ None
   pub fits : needs_of log.history ≤ start.left + needs_of start.history

@@ -13,12 +13,12 @@ use Rattle.btr_gate.proofs.PrefixLemmas.{starts_refl, starts_trans}
 use Rattle.btr_hall.specs.declared.land.LandFault.{LandFault}
 use Rattle.btr_hall.specs.declared.land.LandFault.TheVariants as faults
 use Rattle.btr_jobs.specs.States.{StoreState, LogState, GoesOn}
-use Rattle.btr_jobs.specs.Turns.{IsAdded, IsFailed, IsStopped, Committed, CommittedAfter, Landed, LandedAfter}
+use Rattle.btr_jobs.specs.Turns.{IsAdded, IsFailed, IsStopped, IsSealed, Committed, CommittedAfter, Landed, LandedAfter}
 
 -- ---- states of the log
 
 pub goes_refl : (start : StoreState) (log : LogState) → GoesOn start log log
-goes_refl start log = record { begins = starts_refl log.history; ends = λ _. refl }
+goes_refl start log = record { begins = starts_refl log.history; ends = λ _. refl; sealed = λ _. refl }
 
 pub goes_trans : (start : StoreState) (last late early : LogState) → GoesOn start last late → GoesOn start late early
     → GoesOn start last early
@@ -27,6 +27,7 @@ goes_trans start last late early after on = record {
   ends = λ stopped.
       let same = on.ends stopped in
       after.ends (ap (λ (c : LogState). start.stopped || is_some c.failed) same ∙ stopped) ∙ same;
+  sealed = λ sealed. after.sealed sealed ∙ on.sealed sealed;
 }
 
 -- The history of a turn still begins a later state of the log.
@@ -51,6 +52,10 @@ stopped_lasts : (start : StoreState) (late early : LogState) (p : List Entry) (e
     → IsStopped start early p entries → IsStopped start late p entries
 stopped_lasts start late early p entries on is = subst (λ c. IsStopped start c p entries) (sym (on.ends is.stopped)) is
 
+sealed_lasts : (start : StoreState) (late early : LogState) (p : List Entry) → GoesOn start late early
+    → IsSealed start early p → IsSealed start late p
+sealed_lasts start late early p on is = subst (λ c. IsSealed start c p) (sym (on.sealed is.sealed)) is
+
 -- ---- entries
 
 -- What a turn of an entry says, at the history of the turn.
@@ -60,6 +65,7 @@ pub committed_still : (start : StoreState) (late early : LogState) (p : List Ent
 committed_still start late early p e (Ok receipt) own next on is = (is.0, is.1, added_lasts start late early p e own next on is.2)
 committed_still start late early p e (Err (steps.Stopped entries)) own next on is =
     (stopped_lasts start late early p entries on is.0, is.1)
+committed_still start late early p e (Err steps.Sealed) own next on is = (sealed_lasts start late early p on is.0, is.1)
 committed_still start late early p e (Err (steps.Rejected why)) own next on is = is
 committed_still start late early p e (Err steps.Want) own next on is = is
 committed_still start late early p e (Err (steps.DeviceFull need left)) own next on is = is
@@ -71,13 +77,13 @@ pub committed_lasts : (start : StoreState) (late early : LogState) (low : List E
     (own : List ℕ) (next : List Entry) → GoesOn start late early
     → CommittedAfter start early low e result own next → CommittedAfter start late low e result own next
 committed_lasts start late early low e result own next on is =
-    (is.0, is.1, history_later start late early is.0 on is.2, committed_still start late early is.0 e result own next on is.3)
+    (is.0, is.1, history_later start late early is.0 on is.2, committed_still start late early is.0 e result own next on is.3, is.4)
 
 -- It is true after less had been seen.
 pub committed_lowers : (start : StoreState) (log : LogState) (low less : List Entry) (e : Entry) (result : Result Receipt StepFault)
     (own : List ℕ) (next : List Entry) → StartsWith low less
     → CommittedAfter start log low e result own next → CommittedAfter start log less e result own next
-committed_lowers start log low less e result own next starts is = (is.0, starts_trans is.0 low less is.1 starts, is.2, is.3)
+committed_lowers start log low less e result own next starts is = (is.0, starts_trans is.0 low less is.1 starts, is.2, is.3, is.4)
 
 -- ---- plans
 
@@ -89,6 +95,7 @@ landed_still start late early p plan (Ok receipt) own next on is =
     (is.0, is.1, added_lasts start late early p (entry_of plan) own next on is.2)
 landed_still start late early p plan (Err (faults.Stopped entries)) own next on is =
     (stopped_lasts start late early p entries on is.0, is.1)
+landed_still start late early p plan (Err faults.Sealed) own next on is = (sealed_lasts start late early p on is.0, is.1)
 landed_still start late early p plan (Err (faults.Superseded version)) own next on is = is
 landed_still start late early p plan (Err faults.VersionLimit) own next on is = is
 landed_still start late early p plan (Err (faults.Crowded at)) own next on is = is
@@ -103,10 +110,10 @@ pub landed_lasts : (start : StoreState) (late early : LogState) (low : List Entr
     (own : List ℕ) (next : List Entry) → GoesOn start late early
     → LandedAfter start early low plan result own next → LandedAfter start late low plan result own next
 landed_lasts start late early low plan result own next on is =
-    (is.0, is.1, history_later start late early is.0 on is.2, landed_still start late early is.0 plan result own next on is.3)
+    (is.0, is.1, history_later start late early is.0 on is.2, landed_still start late early is.0 plan result own next on is.3, is.4)
 
 -- It is true after less had been seen.
 pub landed_lowers : (start : StoreState) (log : LogState) (low less : List Entry) (plan : PlanValue) (result : Result Receipt LandFault)
     (own : List ℕ) (next : List Entry) → StartsWith low less
     → LandedAfter start log low plan result own next → LandedAfter start log less plan result own next
-landed_lowers start log low less plan result own next starts is = (is.0, starts_trans is.0 low less is.1 starts, is.2, is.3)
+landed_lowers start log low less plan result own next starts is = (is.0, starts_trans is.0 low less is.1 starts, is.2, is.3, is.4)

@@ -1,5 +1,5 @@
 -- What the result of one turn says of the history: of an entry that was to be added, and of a plan that was to be landed.
-use Rattle.std.specs.Prelude.{◌≡◌, ℕ, ◌+◌, ◌<◌, true, ◌||◌, List, [], ◌∷◌, ◌++◌, length, Some, None, Result, Ok, Err}
+use Rattle.std.specs.Prelude.{◌≡◌, ℕ, ◌+◌, ◌<◌, true, false, ◌||◌, List, [], ◌∷◌, ◌++◌, length, Some, None, Result, Ok, Err}
 use Rattle.std.specs.Option.{is_some}
 use Rattle.btr_hist.specs.declared.entry.Entry.{Entry}
 use Rattle.btr_hist.specs.declared.rejection.Rejection.TheVariants as rejections
@@ -47,6 +47,17 @@ pub record IsStopped (start : StoreState) (log : LogState) (p : List Entry) (cou
   pub last : log.history ≡ p
   pub entries : count ≡ length p
 
+-- The store was sealed when the hall began, and was not stopped. Its history is as it was then.
+pub record IsSealed (start : StoreState) (log : LogState) (p : List Entry) : Type 0 where
+  pub sealed : start.sealed ≡ true
+  pub runs : (start.stopped || is_some log.failed) ≡ false
+  pub last : log.history ≡ p
+  pub kept : p ≡ start.history
+
+-- In a sealed store that is not stopped the result is this refusal.
+abbrev pub SaysSealed : {F : Type 0} → StoreState → F → Result Receipt F → Type 0
+SaysSealed start fault result = start.sealed ≡ true → start.stopped ≡ false → result ≡ Err fault
+
 -- The entry needs more blocks than are left. What is left and what the history needs are together what they were at the start.
 pub record IsFull (start : StoreState) (p : List Entry) (e : Entry) (needed room : ℕ) : Type 0 where
   pub need : needed ≡ need_of p e
@@ -59,6 +70,7 @@ pub record IsFull (start : StoreState) (p : List Entry) (e : Entry) (needed room
 abbrev pub Committed : StoreState → LogState → List Entry → Entry → Result Receipt StepFault → List ℕ → List Entry → Type 0
 Committed start log p e (Ok receipt) own next = (rejection p e ≡ None) × IsReceipt p e receipt × IsAdded log p e own next
 Committed start log p e (Err (steps.Stopped entries)) own next = IsStopped start log p entries × IsIdle p own next
+Committed start log p e (Err steps.Sealed) own next = IsSealed start log p × IsIdle p own next
 Committed start log p e (Err (steps.Rejected why)) own next = (rejection p e ≡ Some why) × IsIdle p own next
 Committed start log p e (Err steps.Want) own next = MayLackMemory (rejection p e) × IsIdle p own next
 Committed start log p e (Err (steps.DeviceFull need left)) own next =
@@ -69,6 +81,7 @@ Committed start log p e (Err steps.DeviceFault) own next = (rejection p e ≡ No
 abbrev pub CommittedAfter : StoreState → LogState → List Entry → Entry → Result Receipt StepFault → List ℕ → List Entry → Type 0
 CommittedAfter start log low e result own next =
     (p : List Entry) × StartsWith p low × StartsWith log.history p × Committed start log p e result own next
+    × SaysSealed start steps.Sealed result
 
 -- ---- plans
 
@@ -78,6 +91,7 @@ Landed start log p plan (Ok receipt) own next =
     (reply_to p plan ≡ Accepted (machine.receipt p (entry_of plan))) × IsReceipt p (entry_of plan) receipt
     × IsAdded log p (entry_of plan) own next
 Landed start log p plan (Err (faults.Stopped entries)) own next = IsStopped start log p entries × IsIdle p own next
+Landed start log p plan (Err faults.Sealed) own next = IsSealed start log p × IsIdle p own next
 Landed start log p plan (Err (faults.Superseded version)) own next =
     (reply_to p plan ≡ Superseded version) × (plan.base < version) × (version ≡ latest p plan.stream) × IsIdle p own next
 Landed start log p plan (Err faults.VersionLimit) own next =
@@ -97,3 +111,4 @@ Landed start log p plan (Err faults.DeviceFault) own next =
 abbrev pub LandedAfter : StoreState → LogState → List Entry → PlanValue → Result Receipt LandFault → List ℕ → List Entry → Type 0
 LandedAfter start log low plan result own next =
     (p : List Entry) × StartsWith p low × StartsWith log.history p × Landed start log p plan result own next
+    × SaysSealed start faults.Sealed result

@@ -205,6 +205,7 @@ id-stays h late stream starts known =
 pub same_reply : (start : StoreState) (log : LogState) (p late : List Entry) (e : Entry) (result : Result Receipt StepFault) (own : List ℕ) (next : List Entry) (id : ℕ) → StartsWith late p → Committed start log p e result own next → ((output : ℕ) → holding_output result ≡ Some output → id ≡ unwrap_or (slice_get (ids late) output) 0) → reply_with id result ≡ reply_of_step p result
 same_reply start log p late e (Ok receipt) own next id starts is names = refl
 same_reply start log p late e (Err (steps.Stopped count)) own next id starts is names = refl
+same_reply start log p late e (Err steps.Sealed) own next id starts is names = refl
 same_reply start log p late e (Err steps.Want) own next id starts is names = refl
 same_reply start log p late e (Err (steps.DeviceFull need left)) own next id starts is names = refl
 same_reply start log p late e (Err steps.DeviceFault) own next id starts is names = refl

@@ -160,7 +160,7 @@ legal_not_done s t (Commits e) reply h legal =
     (λ full. along s t full.store legal)
     (λ h. ⊎_elim
     (λ fault. subst (λ (x : StoreState). Legal x.history) (sym fault.store) legal)
-    (λ stopped. along s t stopped.store legal)
+    (λ h. ⊎_elim (λ stopped. along s t stopped.store legal) (λ sealed. along s t sealed.store legal) h)
     h)
     h
 legal_not_done s t (Asks query) reply h legal = absurd h

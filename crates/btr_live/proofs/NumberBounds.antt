@@ -57,6 +57,7 @@ module _ (start : StoreState) (log : LogState) (sound : log.failed ≡ None) (n 
   committed : (p : List Entry) (e : Entry) (result : Result Receipt StepFault) (own : List ℕ) (next : List Entry) → Committed start log p e result own next → 1 ≤ times n own → IsWithin log p n
   committed p e (Ok receipt) own next is some = added p e own next is.2 some
   committed p e (Err (steps.Stopped entries)) own next is some = idle p own next is.1 some
+  committed p e (Err steps.Sealed) own next is some = idle p own next is.1 some
   committed p e (Err (steps.Rejected why)) own next is some = idle p own next is.1 some
   committed p e (Err steps.Want) own next is some = idle p own next is.1 some
   committed p e (Err (steps.DeviceFull need left)) own next is some = idle p own next is.2 some
@@ -65,6 +66,7 @@ module _ (start : StoreState) (log : LogState) (sound : log.failed ≡ None) (n 
   landed : (p : List Entry) (plan : PlanValue) (result : Result Receipt LandFault) (own : List ℕ) (next : List Entry) → Landed start log p plan result own next → 1 ≤ times n own → IsWithin log p n
   landed p plan (Ok receipt) own next is some = added p (entry_of plan) own next is.2 some
   landed p plan (Err (faults.Stopped entries)) own next is some = idle p own next is.1 some
+  landed p plan (Err faults.Sealed) own next is some = idle p own next is.1 some
   landed p plan (Err (faults.Superseded version)) own next is some = idle p own next is.3 some
   landed p plan (Err faults.VersionLimit) own next is some = idle p own next is.2 some
   landed p plan (Err (faults.Crowded at)) own next is some = idle p own next is.3 some

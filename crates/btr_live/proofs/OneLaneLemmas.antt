@@ -100,7 +100,7 @@ module _ (start : StoreState) (log : LogState) (all : Follows log.history) where
         begins = is.1.2;
         adds = adds;
         stops = λ heard. let refused = is.3 heard in adds.stops refused.0 refused.1;
-        done = λ same. (is.0, is.1.3, is.2, is.3);
+        done = λ same. (is.0, is.1.3, is.1.4, is.2, is.3);
       }
 
   -- The turn of a distillate: its plan is that of the history of the turn.
@@ -117,7 +117,7 @@ module _ (start : StoreState) (log : LogState) (all : Follows log.history) where
             let made : IsNextPlan at stream is.0 = subst (λ x. IsNextPlan x stream is.0) same is.1 in
             let step : IsStepOf start log all at is.4.2 is.0 made.of (next_current at stream is.0 made) is.3 own next =
             as_step start log all at is.4.2 is.0 made.of (next_current at stream is.0 made) is.3 own next is.4.3 in
-            (step.step, subst (λ e. Committed start log at e step.step own next) is.2 step.committed, is.5 ∙ step.same, is.6);
+            (step.step, subst (λ e. Committed start log at e step.step own next) is.2 step.committed, step.says_sealed is.4.4, is.5 ∙ step.same, is.6);
       }
 
   -- What is no commit was answered at the history to which the line was admitted.
@@ -325,7 +325,7 @@ no_last start log low (Some result) own is = absurd is
 
 -- The state of a store with the history of its beginning.
 abbrev state_with : StoreState → ℕ → Bool → State
-state_with start left stopped = record { store = record { history = start.history; left = left; stopped = stopped }; waiting = none_waiting }
+state_with start left stopped = record { store = record { history = start.history; left = left; stopped = stopped; sealed = start.sealed }; waiting = none_waiting }
 
 -- A lane begins with the store of its run.
 begun_same : (start : StoreState) → start.stopped ≡ false → state_with start (room start start.history) false ≡ begun_state start

@@ -32,6 +32,7 @@ module _ (start : StoreState) (log : LogState) where
   landed_ends : (p : List Entry) (plan : PlanValue) (result : Result Receipt LandFault) (own : List ℕ) (next : List Entry) → StartsWith log.history p → Landed start log p plan result own next → StartsWith log.history next
   landed_ends p plan (Ok receipt) own next begins is = subst (StartsWith log.history) (sym is.2.next) is.2.follows
   landed_ends p plan (Err (faults.Stopped entries)) own next begins is = subst (StartsWith log.history) (sym is.1.next) begins
+  landed_ends p plan (Err faults.Sealed) own next begins is = subst (StartsWith log.history) (sym is.1.next) begins
   landed_ends p plan (Err (faults.Superseded version)) own next begins is = subst (StartsWith log.history) (sym is.3.next) begins
   landed_ends p plan (Err faults.VersionLimit) own next begins is = subst (StartsWith log.history) (sym is.2.next) begins
   landed_ends p plan (Err (faults.Crowded at)) own next begins is = subst (StartsWith log.history) (sym is.3.next) begins
@@ -91,6 +92,7 @@ module _ (start : StoreState) (log : LogState) where
       replies = record { next = low; answers = (refl, record { own = is; next = refl }); ends = begins };
     }
     by_refreshed (refreshed.Refused (faults.Stopped entries)) begins stopped is = plan_serves (Err (faults.Stopped entries)) (λ reported. (entries, refl)) is
+    by_refreshed (refreshed.Refused faults.Sealed) begins stopped is = plan_serves (Err faults.Sealed) (never_so faults.Sealed stopped) is
     by_refreshed (refreshed.Refused (faults.Superseded version)) begins stopped is =
         plan_serves (Err (faults.Superseded version)) (never_so (faults.Superseded version) stopped) is
     by_refreshed (refreshed.Refused faults.VersionLimit) begins stopped is = plan_serves (Err faults.VersionLimit) (never_so faults.VersionLimit stopped) is

@@ -132,7 +132,13 @@ not_done : (s t : StoreState) (e : Entry) (version : ℕ) → IsNotDone s (Commi
 not_done s t e version h =
     ⊎_elim
     (λ full. not_refused version (reasons.Full (need_of s.history e) s.left) full.replied)
-    (λ h. ⊎_elim (λ fault. not_refused version reasons.Device fault.replied) (λ stopped. not_refused version (reasons.Stopped (length s.history)) stopped.replied) h)
+    (λ h. ⊎_elim
+    (λ fault. not_refused version reasons.Device fault.replied)
+    (λ h. ⊎_elim
+    (λ stopped. not_refused version (reasons.Stopped (length s.history)) stopped.replied)
+    (λ sealed. not_refused version reasons.Sealed sealed.replied)
+    h)
+    h)
     h
 
 -- The commit of the next version, if it is done.

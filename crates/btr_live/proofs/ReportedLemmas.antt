@@ -66,6 +66,7 @@ module _ (start : StoreState) (log : LogState) where
   step_tells : (p : List Entry) (e : Entry) (result : Result Receipt StepFault) (own : List ℕ) (next : List Entry) → Committed start log p e result own next → is_failure (reply_of_step p result) ≡ true → has_failed start log ≡ true
   step_tells p e (Ok receipt) own next is tells = never _ tells
   step_tells p e (Err (steps.Stopped entries)) own next is tells = is.0.stopped
+  step_tells p e (Err steps.Sealed) own next is tells = never _ tells
   step_tells p e (Err (steps.Rejected why)) own next is tells = never _ (sym (rejection_tells (holder p why) why) ∙ tells)
   step_tells p e (Err steps.Want) own next is tells = never _ tells
   step_tells p e (Err (steps.DeviceFull need left)) own next is tells = never _ tells
@@ -74,6 +75,7 @@ module _ (start : StoreState) (log : LogState) where
   landing_tells : (p : List Entry) (plan : PlanValue) (result : Result Receipt LandFault) (own : List ℕ) (next : List Entry) → Landed start log p plan result own next → is_failure (reply_of_landing result) ≡ true → has_failed start log ≡ true
   landing_tells p plan (Ok receipt) own next is tells = never _ tells
   landing_tells p plan (Err (faults.Stopped entries)) own next is tells = is.0.stopped
+  landing_tells p plan (Err faults.Sealed) own next is tells = never _ tells
   landing_tells p plan (Err (faults.Superseded version)) own next is tells = never _ tells
   landing_tells p plan (Err faults.VersionLimit) own next is tells = never _ tells
   landing_tells p plan (Err (faults.Crowded at)) own next is tells = never _ tells

@@ -1,4 +1,4 @@
--- Lemmas on a script by the model: a store that is stopped stays so, and a line that has room is done, until memory runs out.
+-- Lemmas on a script by the model: a store that is stopped or sealed stays so, and a line that has room is done, until memory runs out.
 use Rattle.std.specs.Prelude.{◌≡◌, ◌⊎◌, ℕ, ◌+◌, ◌≤◌, true, false, List, [], ◌∷◌, Option, Some, None}
 use Rattle.std.proofs.Common.{sym, ◌∙◌, ap, subst, arith, inl, inr, ⊎_elim}
 use Rattle.btr_base.specs.declared.point.Point.{Point}
@@ -14,7 +14,7 @@ use Rattle.btr_engine.specs.Body.{need_of}
 use Rattle.btr_live.specs.Feeds.{Waiting, fed}
 use Rattle.btr_live.specs.Meaning.{Meaning, Commits, Asks, Holds, Current, Refuses, meaning}
 use Rattle.btr_live.specs.Replies.{model_reply, waiting_after, Means}
-use Rattle.btr_live.specs.Script.{State, after_asked, after_commit, IsModel, IsNotDone, RepliesTo, RepliesToLine, RunsScript}
+use Rattle.btr_live.specs.Script.{State, stopped_store, after_asked, after_commit, IsModel, WasSealed, IsNotDone, RepliesTo, RepliesToLine, RunsScript}
 use Rattle.btr_live.specs.Script.{need_of_meaning, after_model, after_line}
 use Rattle.btr_jobs.specs.States.{StoreState}
 
@@ -40,7 +40,13 @@ along s t e runs = ap (λ (x : StoreState). x.stopped) (sym e) ∙ runs
 -- A store that runs after a commit that was not done ran before it.
 not_done_before : (s t : StoreState) (m : Meaning) (reply : LineReply) → IsNotDone s m reply t → t.stopped ≡ false → s.stopped ≡ false
 not_done_before s t (Commits e) reply h runs =
-    ⊎_elim (λ full. full.not_stopped) (λ h. ⊎_elim (λ fault. fault.not_stopped) (λ stopped. along s t stopped.store runs) h) h
+    ⊎_elim
+    (λ full. full.not_stopped)
+    (λ h. ⊎_elim
+    (λ fault. fault.not_stopped)
+    (λ h. ⊎_elim (λ stopped. along s t stopped.store runs) (λ sealed. sealed.not_stopped) h)
+    h)
+    h
 not_done_before s t (Asks query) reply h runs = absurd h
 not_done_before s t (Holds count) reply h runs = absurd h
 not_done_before s t (Current version) reply h runs = absurd h
@@ -61,6 +67,46 @@ ran_all batch s t [] (reply ∷ replies) script runs = absurd script
 ran_all batch s t (line ∷ lines) [] script runs = absurd script
 ran_all batch s t (line ∷ lines) (reply ∷ replies) script runs =
     ran_before s.store script.0.store script.1 reply script.2.replied (ran_all batch script.0 t lines replies script.3 runs)
+
+-- ---- sealed stores
+
+-- A commit does not seal a store.
+seal_after_commit : (s : StoreState) (e : Entry) (why : Option Rejection) → (after_commit s e why).sealed ≡ s.sealed
+seal_after_commit s e None = λ i. s.sealed
+seal_after_commit s e (Some why) = λ i. s.sealed
+
+-- Nothing that the model does seals a store.
+seal_after : (s : StoreState) (m : Meaning) → (after_asked s m).sealed ≡ s.sealed
+seal_after s (Commits e) = seal_after_commit s e (rejection s.history e)
+seal_after s (Asks query) = λ i. s.sealed
+seal_after s (Holds count) = λ i. s.sealed
+seal_after s (Current version) = λ i. s.sealed
+seal_after s (Refuses reason) = λ i. s.sealed
+
+same_seal : (s t : StoreState) → t ≡ s → t.sealed ≡ s.sealed
+same_seal s t e = ap (λ (x : StoreState). x.sealed) e
+
+seal_not_done : (s t : StoreState) (m : Meaning) (reply : LineReply) → IsNotDone s m reply t → t.sealed ≡ s.sealed
+seal_not_done s t (Commits e) reply h =
+    ⊎_elim
+    (λ full. same_seal s t full.store)
+    (λ h. ⊎_elim
+    (λ fault. same_seal (stopped_store s) t fault.store)
+    (λ h. ⊎_elim (λ stopped. same_seal s t stopped.store) (λ sealed. same_seal s t sealed.store) h)
+    h)
+    h
+seal_not_done s t (Asks query) reply h = absurd h
+seal_not_done s t (Holds count) reply h = absurd h
+seal_not_done s t (Current version) reply h = absurd h
+seal_not_done s t (Refuses reason) reply h = absurd h
+
+-- A line neither seals a store nor opens a sealed one.
+pub seal_stays : (s t : StoreState) (m : Meaning) (reply : LineReply) → RepliesTo s m reply t → t.sealed ≡ s.sealed
+seal_stays s t m reply replied =
+    ⊎_elim
+    (λ model. same_seal (after_asked s m) t model.store ∙ seal_after s m)
+    (λ h. ⊎_elim (λ h. seal_not_done s t m reply h) (λ lacks. same_seal s t lacks.store) h)
+    replied
 
 -- ---- what a line needs
 
@@ -89,20 +135,20 @@ need_of_done batch s line m means =
 apart : {P : Type 0} (s t : StoreState) → t ≡ s → s.stopped ≡ true → t.stopped ≡ false → P
 apart s t same stopped runs = let is = ap (λ (x : StoreState). x.stopped) same in absurd (cc)
 
--- If there is room and the store runs after it, what is asked for is done.
-pub none_not_done : (s t : StoreState) (m : Meaning) (reply : LineReply) → need_of_meaning s.history m ≤ s.left → t.stopped ≡ false → IsNotDone s m reply t → ⊥
-none_not_done s t (Commits e) reply room runs h =
+-- If there is room and the store runs after it, what is asked for is done, unless the store is sealed.
+pub sealed_if_not_done : (s t : StoreState) (m : Meaning) (reply : LineReply) → need_of_meaning s.history m ≤ s.left → t.stopped ≡ false → IsNotDone s m reply t → WasSealed s reply t
+sealed_if_not_done s t (Commits e) reply room runs h =
     ⊎_elim
-    (λ full. omega (arith, full.short))
+    (λ full. absurd (omega (arith, full.short)))
     (λ h. ⊎_elim
-    (λ fault. apart (record { history = s.history; left = s.left; stopped = true }) t fault.store (λ i. true) runs)
-    (λ stopped. apart s t stopped.store stopped.stopped runs)
+    (λ fault. apart (stopped_store s) t fault.store (λ i. true) runs)
+    (λ h. ⊎_elim (λ stopped. apart s t stopped.store stopped.stopped runs) (λ sealed. sealed) h)
     h)
     h
-none_not_done s t (Asks query) reply room runs h = h
-none_not_done s t (Holds count) reply room runs h = h
-none_not_done s t (Current version) reply room runs h = h
-none_not_done s t (Refuses reason) reply room runs h = h
+sealed_if_not_done s t (Asks query) reply room runs h = absurd h
+sealed_if_not_done s t (Holds count) reply room runs h = absurd h
+sealed_if_not_done s t (Current version) reply room runs h = absurd h
+sealed_if_not_done s t (Refuses reason) reply room runs h = absurd h
 
 -- ---- lines that are done
 

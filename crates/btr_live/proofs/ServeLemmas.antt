@@ -21,7 +21,8 @@ use Rattle.btr_hall.specs.Trace.{history_of}
 use Rattle.btr_hall.specs.Session.{IsSame, Looks, opening_of, seen_of}
 use Rattle.btr_hall.specs.Commit.{Commits, is_distillate}
 use Rattle.btr_jobs.specs.States.{StoreState, LogState, log_seen, start_of}
-use Rattle.btr_jobs.specs.Turns.{Committed, CommittedAfter}
+use Rattle.btr_engine.specs.declared.step.StepFault.TheVariants as steps
+use Rattle.btr_jobs.specs.Turns.{SaysSealed, Committed, CommittedAfter}
 use Rattle.btr_jobs.specs.TurnLaws.{history_later}
 use Rattle.btr_jobs.specs.Jobs.{IsAt}
 use Rattle.btr_jobs.proofs.DoesLemmas.{goes_none, does_then}
@@ -43,6 +44,18 @@ offers start log saw_failure a (entries.Define id spec) result own next user is 
 offers start log saw_failure a (entries.Commit stream cut added) result own next user is again = (result, is, refl, again)
 offers start log saw_failure a (entries.Distillate stream cut added reads) result own next user is again = absurd (cc)
 offers start log saw_failure a (entries.Retire stream first) result own next user is again = (result, is, refl, again)
+
+-- It is so offered after less had been seen.
+offers_lower : (start : StoreState) (log : LogState) (saw_failure : Bool) (a less : List Entry) (e : Entry) (reply : LineReply) (own : List ℕ) (next : List Entry) → is_distillate e ≡ false → StartsWith a less → Offers start log saw_failure a e reply own next → Offers start log saw_failure less e reply own next
+offers_lower start log saw_failure a less (entries.Create id) reply own next user starts is =
+    (is.0, (is.1.0, starts_trans is.1.0 a less is.1.1 starts, is.1.2, is.1.3, is.1.4), is.2, is.3)
+offers_lower start log saw_failure a less (entries.Define id spec) reply own next user starts is =
+    (is.0, (is.1.0, starts_trans is.1.0 a less is.1.1 starts, is.1.2, is.1.3, is.1.4), is.2, is.3)
+offers_lower start log saw_failure a less (entries.Commit stream cut added) reply own next user starts is =
+    (is.0, (is.1.0, starts_trans is.1.0 a less is.1.1 starts, is.1.2, is.1.3, is.1.4), is.2, is.3)
+offers_lower start log saw_failure a less (entries.Distillate stream cut added reads) reply own next user starts is = absurd (cc)
+offers_lower start log saw_failure a less (entries.Retire stream first) reply own next user starts is =
+    (is.0, (is.1.0, starts_trans is.1.0 a less is.1.1 starts, is.1.2, is.1.3, is.1.4), is.2, is.3)
 
 module _ {D : Type 0} {disk : Ghosts D} (hall : Hall D disk) where
   -- ---- replies
@@ -106,8 +119,8 @@ module _ {D : Type 0} {disk : Ghosts D} (hall : Hall D disk) where
       (look_turn hall mid new looks (λ _. Unit {0}) (λ h of. tt))
 
   -- An entry of a user was refused after a look.
-  pub look_commits : (old new : Session D disk) (e : Entry) (result : Result Receipt StepFault) (reply : LineReply) → is_distillate e ≡ false → ((p : List Entry) → reply_of_step p result ≡ reply) → Looks hall old new → ((h : List Entry) → IsEngineOf h (opening_of hall) → Committed (start_of h hall) (log_seen h new) (log_seen h new).history e result [] (log_seen h new).history) → ((h : List Entry) → IsEngineOf h (opening_of hall) → was_reported hall new ≡ true → (count : ℕ) × (reply ≡ No (reasons.Stopped count))) → RepliesIn hall old new (CommitsEntry e) reply
-  look_commits old new e result reply user same looks says again =
+  pub look_commits : (old new : Session D disk) (e : Entry) (result : Result Receipt StepFault) (reply : LineReply) → is_distillate e ≡ false → ((p : List Entry) → reply_of_step p result ≡ reply) → Looks hall old new → ((h : List Entry) → IsEngineOf h (opening_of hall) → Committed (start_of h hall) (log_seen h new) (log_seen h new).history e result [] (log_seen h new).history) → ((h : List Entry) → IsEngineOf h (opening_of hall) → SaysSealed (start_of h hall) steps.Sealed result) → ((h : List Entry) → IsEngineOf h (opening_of hall) → was_reported hall new ≡ true → (count : ℕ) × (reply ≡ No (reasons.Stopped count))) → RepliesIn hall old new (CommitsEntry e) reply
+  look_commits old new e result reply user same looks says sealed again =
       let does = look_turn hall old new looks (λ _. Unit {0}) (λ h of. tt) in (
         does.0,
         does.1,
@@ -115,7 +128,7 @@ module _ {D : Type 0} {disk : Ghosts D} (hall : Hall D disk) where
             let seen = (log_seen h new).history in
             let none : [] ≡ does.0 = sym (does.2 h of).0 in
             let turn : CommittedAfter (start_of h hall) (log_seen h new) (log_seen h old).history e result does.0 seen =
-            (seen, history_goes_on h new old looks.grows, starts_refl seen, subst (λ own. Committed (start_of h hall) (log_seen h new) seen e result own seen) none (says h of)) in
+            (seen, history_goes_on h new old looks.grows, starts_refl seen, subst (λ own. Committed (start_of h hall) (log_seen h new) seen e result own seen) none (says h of), sealed h of) in
             let offered = offers (start_of h hall) (log_seen h new) (was_reported hall old) (log_seen h old).history e result does.0 seen user turn
             (λ saw_failure. let heard = again h of (stopped_longer (opening_of hall) (seen_of new) (seen_of old) looks.grows saw_failure) in (heard.0, same turn.0 ∙ heard.1)) in
             record {
@@ -124,6 +137,24 @@ module _ {D : Type 0} {disk : Ghosts D} (hall : Hall D disk) where
               ends = starts_refl seen;
             },
       )
+
+  -- An entry of a user that was offered after a look.
+  pub look_then_commits : (old mid new : Session D disk) (e : Entry) (reply : LineReply) → is_distillate e ≡ false → IsAt hall new → Looks hall old mid → RepliesIn hall mid new (CommitsEntry e) reply → RepliesIn hall old new (CommitsEntry e) reply
+  look_then_commits old mid new e reply user at looks replies =
+      does_then hall old mid new
+      (λ start log low own. (own ≡ []) × StartsWith log.history low × Unit {0})
+      (λ start log low own. HasReply start log (was_reported hall mid) low (CommitsEntry e) reply own)
+      (λ start log low own. HasReply start log (was_reported hall old) low (CommitsEntry e) reply own)
+      at
+      (λ start late early low a b on starts first second. record {
+        next = second.next;
+        answers = subst (λ l. Answers start late (was_reported hall old) low (CommitsEntry e) reply l second.next) (sym (ap (λ l. l ++ b) first.0))
+            (answers_reported start late (was_reported hall mid) (was_reported hall old) (stopped_longer (opening_of hall) (seen_of mid) (seen_of old) looks.grows) low (CommitsEntry e) reply b second.next
+            (offers_lower start late (was_reported hall mid) early.history low e reply b second.next user starts second.answers));
+        ends = second.ends;
+      })
+      (look_turn hall old mid looks (λ _. Unit {0}) (λ h of. tt))
+      replies
 
   -- ---- what is asked for
 

@@ -20,7 +20,7 @@ use Rattle.btr_gate.specs.Numbers.{one}
 use Rattle.btr_gate.specs.Prefixes.{StartsWith}
 use Rattle.btr_gate.proofs.PrefixLemmas.{starts_length}
 use Rattle.btr_jobs.specs.States.{StoreState, LogState}
-use Rattle.btr_jobs.specs.Turns.{IsAdded, IsFailed, IsIdle, IsFull, Committed}
+use Rattle.btr_jobs.specs.Turns.{IsAdded, IsFailed, IsIdle, IsFull, SaysSealed, Committed}
 use Rattle.btr_live.specs.Meaning.{Meaning, Commits, Asks, Holds, Current, Refuses}
 use Rattle.btr_live.specs.Reasons.{holder}
 use Rattle.btr_live.specs.Replies.{reply_of_answer, reply_of_commit}
@@ -47,7 +47,8 @@ reported_still false b is = absurd (cc)
 -- What was done in a turn at the history to which the line was admitted. Who saw the device fail gets a reply that says so again.
 abbrev pub IsDone : StoreState → LogState → Bool → List Entry → Meaning → LineReply → List ℕ → List Entry → Type 0
 IsDone start log saw_failure h (Commits e) reply own next =
-    (result : Result Receipt StepFault) × Committed start log h e result own next × (reply ≡ reply_of_step h result)
+    (result : Result Receipt StepFault) × Committed start log h e result own next × SaysSealed start steps.Sealed result
+    × (reply ≡ reply_of_step h result)
     × (saw_failure ≡ true → (count : ℕ) × (reply ≡ No (reasons.Stopped count)))
 IsDone start log saw_failure h (Asks query) reply own next =
     ((reply ≡ reply_of_answer (answer h query)) ⊎ (reply ≡ No reasons.Memory)) × IsIdle h own next
@@ -74,12 +75,12 @@ abbrev pub room : StoreState → List Entry → ℕ
 room start h = (start.left + needs_of start.history) - needs_of h
 
 -- A store with these entries.
-abbrev store_with : List Entry → ℕ → Bool → StoreState
-store_with h left stopped = record { history = h; left = left; stopped = stopped }
+abbrev store_with : List Entry → ℕ → Bool → Bool → StoreState
+store_with h left stopped sealed = record { history = h; left = left; stopped = stopped; sealed = sealed }
 
 -- The store of a history.
 abbrev pub store_of : StoreState → List Entry → Bool → StoreState
-store_of start h stopped = store_with h (room start h) stopped
+store_of start h stopped = store_with h (room start h) stopped start.sealed
 
 module _ (start : StoreState) (log : LogState) (fits : FitsLeft start log) (runs : start.stopped ≡ false) where
   -- A history that begins that of the log fits.
@@ -106,7 +107,7 @@ module _ (start : StoreState) (log : LogState) (fits : FitsLeft start log) (runs
   next_store h e =
       let sum = needs-push h e in
       let same : room start (h ++ e ∷ []) ≡ room start h - need_of h e = omega (arith, sum) in
-      ap (λ left. store_with (h ++ e ∷ []) left false) same
+      ap (λ left. store_with (h ++ e ∷ []) left false start.sealed) same
 
   -- What was done is what the model does or its reason, and the store goes on to the next history.
   pub record Stepped (h : List Entry) (stopped saw_failure : Bool) (m : Meaning) (reply : LineReply) (own : List ℕ) (next : List Entry) : Type 0 where
@@ -165,30 +166,45 @@ module _ (start : StoreState) (log : LogState) (fits : FitsLeft start log) (runs
           moves = inr (one_more is.own, omega (arith, its));
         }
 
+    -- The store is not sealed, since the result does not say so.
+    unsealed : (result : Result Receipt StepFault) → SaysSealed start steps.Sealed result → (result ≡ Err steps.Sealed → ⊥) → start.sealed ≡ false
+    unsealed result says other = go start.sealed refl
+      where
+        go : (b : Bool) → start.sealed ≡ b → start.sealed ≡ false
+        go false is = is
+        go true is = absurd (other (says is runs))
+
     -- A commit while the store runs.
-    running : (is_failure reply ≡ true → own ≡ [] → log.history ≡ h → is_some log.failed ≡ true → ⊥) → (result : Result Receipt StepFault) → Committed start log h e result own next → reply ≡ reply_of_step h result → Stepped h false saw_failure (Commits e) reply own next
-    running no_stop (Ok receipt) is replied =
+    running : (is_failure reply ≡ true → own ≡ [] → log.history ≡ h → is_some log.failed ≡ true → ⊥) → (result : Result Receipt StepFault) → Committed start log h e result own next → SaysSealed start steps.Sealed result → reply ≡ reply_of_step h result → Stepped h false saw_failure (Commits e) reply own next
+    running no_stop (Ok receipt) is says replied =
         added receipt.version is.2 (record {
-          allowed = (refl, λ none. entry_fits h e (begins_fits (h ++ e ∷ []) is.2.follows));
+          allowed = (refl, unsealed (Ok receipt) says (λ other. absurd (cc)), λ none. entry_fits h e (begins_fits (h ++ e ∷ []) is.2.follows));
           replied = replied ∙ ap (λ v. Done v) is.1.version ∙ sym (ap (λ o. reply_of_commit h e o) is.0);
           store = next_store h e ∙ sym (ap (λ o. after_commit (store_of start h false) e o) is.0);
         })
-    running no_stop (Err (steps.Stopped count)) is replied =
+    running no_stop (Err (steps.Stopped count)) is says replied =
         absurd (no_stop (ap is_failure replied) is.1.own is.0.last (right_if start.stopped (is_some log.failed) runs is.0.stopped))
-    running no_stop (Err (steps.Rejected why)) is replied =
+    running no_stop (Err steps.Sealed) is says replied =
+        still h false saw_failure (Commits e) reply own next begins (λ stops. absurd (cc)) is.1 (inr (inl (inr (inr (inr (record {
+          not_stopped = refl;
+          sealed = is.0.sealed;
+          replied = replied;
+          store = refl;
+        }))))))
+    running no_stop (Err (steps.Rejected why)) is says replied =
         let rejected : rejection h e ≡ Some why = is.0 in
         still h false saw_failure (Commits e) reply own next begins (λ stops. absurd (cc)) is.1 (inl (record {
-          allowed = (refl, λ none. absurd (cc));
+          allowed = (refl, unsealed (Err (steps.Rejected why)) says (λ other. absurd (cc)), λ none. absurd (cc));
           replied = replied ∙ sym (ap (λ o. reply_of_commit h e o) rejected);
           store = sym (ap (λ o. after_commit (store_of start h false) e o) rejected);
         }))
-    running no_stop (Err steps.Want) is replied =
+    running no_stop (Err steps.Want) is says replied =
         still h false saw_failure (Commits e) reply own next begins (λ stops. absurd (cc)) is.1 (inr (inr (record {
-          needs = (refl, is.0);
+          needs = (refl, unsealed (Err steps.Want) says (λ other. absurd (cc)), is.0);
           replied = replied;
           store = refl;
         })))
-    running no_stop (Err (steps.DeviceFull need left)) is replied =
+    running no_stop (Err (steps.DeviceFull need left)) is says replied =
         let full : IsFull start h e need left = is.1 in
         let need_is = full.need in
         let left_is = full.left in
@@ -196,14 +212,16 @@ module _ (start : StoreState) (log : LogState) (fits : FitsLeft start log) (runs
         let same : left ≡ room start h = omega (arith, left_is) in
         still h false saw_failure (Commits e) reply own next begins (λ stops. absurd (cc)) is.2 (inr (inl (inl (record {
           not_stopped = refl;
+          not_sealed = unsealed (Err (steps.DeviceFull need left)) says (λ other. absurd (cc));
           allowed = is.0;
           short = omega (arith, need_is, same, short);
           replied = replied ∙ ap₂ (λ n l. No (reasons.Full n l)) need_is same;
           store = refl;
         }))))
-    running no_stop (Err steps.DeviceFault) is replied =
+    running no_stop (Err steps.DeviceFault) is says replied =
         failed is.1 replied (record {
           not_stopped = refl;
+          not_sealed = unsealed (Err steps.DeviceFault) says (λ other. absurd (cc));
           allowed = is.0;
           fits = entry_fits h e (failed_fits h e is.1.last is.1.failed);
           replied = replied;
@@ -215,11 +233,13 @@ module _ (start : StoreState) (log : LogState) (fits : FitsLeft start log) (runs
     stopped_so last count refused (Ok receipt) is replied =
         not_both (is_failure reply) (ap is_failure replied) (ap is_failure refused)
     stopped_so last count refused (Err (steps.Stopped entries)) is replied =
-        still h true saw_failure (Commits e) reply own next begins (λ stops. last) is.1 (inr (inl (inr (inr (record {
+        still h true saw_failure (Commits e) reply own next begins (λ stops. last) is.1 (inr (inl (inr (inr (inl (record {
           stopped = refl;
           replied = replied ∙ ap (λ n. No (reasons.Stopped n)) is.0.entries;
           store = refl;
-        })))))
+        }))))))
+    stopped_so last count refused (Err steps.Sealed) is replied =
+        not_both (is_failure reply) (ap is_failure replied) (ap is_failure refused)
     stopped_so last count refused (Err (steps.Rejected why)) is replied =
         not_both (is_failure reply) (ap is_failure replied ∙ rejection_tells (holder h why) why) (ap is_failure refused)
     stopped_so last count refused (Err steps.Want) is replied =
@@ -232,9 +252,9 @@ module _ (start : StoreState) (log : LogState) (fits : FitsLeft start log) (runs
     committed : (stopped : Bool) → (stopped ≡ true → IsLast log h saw_failure) → (stopped ≡ false → is_failure reply ≡ true → own ≡ [] → log.history ≡ h → is_some log.failed ≡ true → ⊥) → IsDone start log saw_failure h (Commits e) reply own next → Stepped h stopped saw_failure (Commits e) reply own next
     committed true known no_stop is =
         let last = known refl in
-        let refused = is.3 last.saw_failure in
-        stopped_so last refused.0 refused.1 is.0 is.1 is.2
-    committed false known no_stop is = running (no_stop refl) is.0 is.1 is.2
+        let refused = is.4 last.saw_failure in
+        stopped_so last refused.0 refused.1 is.0 is.1 is.3
+    committed false known no_stop is = running (no_stop refl) is.0 is.1 is.2 is.3
 
   -- What was done in a turn at the history of the store, if the store was stopped only by a failure of the device in a step of before.
   pub stepped : (h : List Entry) (stopped saw_failure : Bool) (m : Meaning) (reply : LineReply) (own : List ℕ) (next : List Entry) → StartsWith log.history h → (stopped ≡ true → IsLast log h saw_failure) → (stopped ≡ false → tells_failure m reply ≡ true → own ≡ [] → log.history ≡ h → is_some log.failed ≡ true → ⊥) → IsDone start log saw_failure h m reply own next → Stepped h stopped saw_failure m reply own next

@@ -30,7 +30,7 @@ use Rattle.btr_gate.proofs.PrefixLemmas.{starts_refl, starts_append}
 use Rattle.btr_hall.specs.declared.land.LandFault.{LandFault}
 use Rattle.btr_hall.specs.declared.land.LandFault.TheVariants as faults
 use Rattle.btr_jobs.specs.States.{StoreState, LogState}
-use Rattle.btr_jobs.specs.Turns.{IsAdded, IsFailed, IsIdle, Committed, Landed}
+use Rattle.btr_jobs.specs.Turns.{IsAdded, IsFailed, IsIdle, SaysSealed, Committed, Landed}
 use Rattle.btr_live.specs.Lanes.{reply_of_step, reply_of_landing}
 
 -- ---- what a turn added
@@ -93,6 +93,7 @@ module _ (start : StoreState) (log : LogState) (p : List Entry) where
   pub committed_adds : (e : Entry) (result : Result Receipt StepFault) (own : List ℕ) (next : List Entry) → Committed start log p e result own next → Adds p (reply_of_step p result) own next
   committed_adds e (Ok receipt) own next is = adds_one e receipt.version own next is.2
   committed_adds e (Err (steps.Stopped entries)) own next is = adds_none p (reply_of_step p (Err (steps.Stopped entries))) own next is.1
+  committed_adds e (Err steps.Sealed) own next is = adds_none p (reply_of_step p (Err steps.Sealed)) own next is.1
   committed_adds e (Err (steps.Rejected why)) own next is = adds_none p (reply_of_step p (Err (steps.Rejected why))) own next is.1
   committed_adds e (Err steps.Want) own next is = adds_none p (reply_of_step p (Err steps.Want)) own next is.1
   committed_adds e (Err (steps.DeviceFull need left)) own next is = adds_none p (reply_of_step p (Err (steps.DeviceFull need left))) own next is.2
@@ -102,6 +103,7 @@ module _ (start : StoreState) (log : LogState) (p : List Entry) where
   pub landed_adds : (plan : PlanValue) (result : Result Receipt LandFault) (own : List ℕ) (next : List Entry) → Landed start log p plan result own next → Adds p (reply_of_landing result) own next
   landed_adds plan (Ok receipt) own next is = adds_one (entry_of plan) receipt.version own next is.2
   landed_adds plan (Err (faults.Stopped entries)) own next is = adds_none p (reply_of_landing (Err (faults.Stopped entries))) own next is.1
+  landed_adds plan (Err faults.Sealed) own next is = adds_none p (reply_of_landing (Err faults.Sealed)) own next is.1
   landed_adds plan (Err (faults.Superseded version)) own next is = adds_none p (reply_of_landing (Err (faults.Superseded version))) own next is.3
   landed_adds plan (Err faults.VersionLimit) own next is = adds_none p (reply_of_landing (Err faults.VersionLimit)) own next is.2
   landed_adds plan (Err (faults.Crowded at)) own next is = adds_none p (reply_of_landing (Err (faults.Crowded at))) own next is.3
@@ -143,6 +145,7 @@ module _ (start : StoreState) (log : LogState) (all : Follows log.history) where
       pub step : Result Receipt StepFault
       pub committed : Committed start log h (entry_of plan) step own next
       pub same : reply_of_landing result ≡ reply_of_step h step
+      pub says_sealed : SaysSealed start faults.Sealed result → SaysSealed start steps.Sealed step
 
     -- The entry of such a landing is rejected for that reason.
     limited : reply_to h plan ≡ Rejected rejections.VersionLimit → rejection h (entry_of plan) ≡ Some rejections.VersionLimit
@@ -158,11 +161,19 @@ module _ (start : StoreState) (log : LogState) (all : Follows log.history) where
       step = Ok receipt;
       committed = (follows-last h (entry_of plan) (follows_at (h ++ entry_of plan ∷ []) is.2.follows), is.1, is.2);
       same = refl;
+      says_sealed = λ says sealed runs. let is = says sealed runs in absurd (cc);
     }
     as_step (Err (faults.Stopped entries)) own next is = record {
       step = Err (steps.Stopped entries);
       committed = (is.0, is.1);
       same = refl;
+      says_sealed = λ says sealed runs. let is = says sealed runs in absurd (cc);
+    }
+    as_step (Err faults.Sealed) own next is = record {
+      step = Err steps.Sealed;
+      committed = (is.0, is.1);
+      same = refl;
+      says_sealed = λ says sealed runs. refl;
     }
     as_step (Err (faults.Superseded version)) own next is =
         let late = is.1 in let last = is.2 in absurd (omega (arith, late, last, current))
@@ -170,21 +181,25 @@ module _ (start : StoreState) (log : LogState) (all : Follows log.history) where
       step = Err (steps.Rejected rejections.VersionLimit);
       committed = (limited is.1, is.2);
       same = refl;
+      says_sealed = λ says sealed runs. let is = says sealed runs in absurd (cc);
     }
     as_step (Err (faults.Crowded at)) own next is = record {
       step = Err (steps.Rejected (rejections.Crowded at));
       committed = (is.1, is.3);
       same = refl;
+      says_sealed = λ says sealed runs. let is = says sealed runs in absurd (cc);
     }
     as_step (Err (faults.TooManyPoints count)) own next is = record {
       step = Err (steps.Rejected (rejections.TooManyPoints count));
       committed = (is.1, is.3);
       same = refl;
+      says_sealed = λ says sealed runs. let is = says sealed runs in absurd (cc);
     }
-    as_step (Err faults.Want) own next is = record { step = Err steps.Want; committed = (is.1, is.2); same = refl }
+    as_step (Err faults.Want) own next is = record { step = Err steps.Want; committed = (is.1, is.2); same = refl; says_sealed = λ says sealed runs. let is = says sealed runs in absurd (cc) }
     as_step (Err (faults.DeviceFull need left)) own next is = record {
       step = Err (steps.DeviceFull need left);
       committed = (is.1, is.2, is.3);
       same = refl;
+      says_sealed = λ says sealed runs. let is = says sealed runs in absurd (cc);
     }
-    as_step (Err faults.DeviceFault) own next is = record { step = Err steps.DeviceFault; committed = (is.1, is.2); same = refl }
+    as_step (Err faults.DeviceFault) own next is = record { step = Err steps.DeviceFault; committed = (is.1, is.2); same = refl; says_sealed = λ says sealed runs. let is = says sealed runs in absurd (cc) }

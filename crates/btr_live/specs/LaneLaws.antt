@@ -38,7 +38,7 @@ module _ (start : StoreState) (late early : LogState) (on : GoesOn start late ea
   entry_lasts saw_failure a e reply own next is =
       let p = is.1.0 in
       let turn = committed_still start late early p e is.0 own next on is.1.3 in
-      (is.0, (p, is.1.1, history_later start late early p on is.1.2, turn), is.2, is.3)
+      (is.0, (p, is.1.1, history_later start late early p on is.1.2, turn, is.1.4), is.2, is.3)
 
   offers_lasts : (saw_failure : Bool) (a : List Entry) (e : Entry) (reply : LineReply) (own : List ℕ) (next : List Entry)
       → Offers start early saw_failure a e reply own next → Offers start late saw_failure a e reply own next

@@ -25,6 +25,7 @@ holder_of_step h fault = 0
 -- The reason of an entry that was not added. If its rejection names an output, `id` is the id of that.
 abbrev pub reason_of_step : ℕ → StepFault → Reason
 reason_of_step id (steps.Stopped entries) = reasons.Stopped entries
+reason_of_step id steps.Sealed = reasons.Sealed
 reason_of_step id (steps.Rejected why) = reason_of_rejection id why
 reason_of_step id steps.Want = reasons.Memory
 reason_of_step id (steps.DeviceFull need left) = reasons.Full need left
@@ -33,6 +34,7 @@ reason_of_step id steps.DeviceFault = reasons.Device
 -- The reason of a plan that was not landed.
 abbrev pub reason_of_landing : LandFault → Reason
 reason_of_landing (faults.Stopped entries) = reasons.Stopped entries
+reason_of_landing faults.Sealed = reasons.Sealed
 reason_of_landing (faults.Superseded version) = reasons.Superseded version
 reason_of_landing faults.VersionLimit = reasons.Versions
 reason_of_landing (faults.Crowded start) = reasons.Crowded start

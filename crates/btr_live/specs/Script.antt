@@ -22,11 +22,11 @@ use Rattle.btr_jobs.specs.States.{StoreState}
 
 -- The store with one entry more.
 abbrev pub store_with_entry : StoreState → Entry → StoreState
-store_with_entry s e = record { history = s.history ++ e ∷ []; left = s.left - need_of s.history e; stopped = s.stopped }
+store_with_entry s e = record { history = s.history ++ e ∷ []; left = s.left - need_of s.history e; stopped = s.stopped; sealed = s.sealed }
 
 -- The store that takes no more entries.
 abbrev pub stopped_store : StoreState → StoreState
-stopped_store s = record { history = s.history; left = s.left; stopped = true }
+stopped_store s = record { history = s.history; left = s.left; stopped = true; sealed = s.sealed }
 
 abbrev pub after_commit : StoreState → Entry → Option Rejection → StoreState
 after_commit s e None = store_with_entry s e
@@ -42,9 +42,9 @@ after_asked s (Refuses reason) = s
 
 -- ---- the reply to what is asked for
 
--- The store can do it: it is not stopped, and an entry that the model accepts fits.
+-- The store can do it: it is not stopped nor sealed, and an entry that the model accepts fits.
 abbrev pub Allows : StoreState → Meaning → Type 0
-Allows s (Commits e) = (s.stopped ≡ false) × (rejection s.history e ≡ None → need_of s.history e ≤ s.left)
+Allows s (Commits e) = (s.stopped ≡ false) × (s.sealed ≡ false) × (rejection s.history e ≡ None → need_of s.history e ≤ s.left)
 Allows s (Asks query) = Unit {0}
 Allows s (Holds count) = Unit {0}
 Allows s (Current version) = Unit {0}
@@ -59,6 +59,7 @@ pub record IsModel (s : StoreState) (m : Meaning) (reply : LineReply) (t : Store
 -- The model accepts the entry, but there are too few blocks for it.
 pub record LacksRoom (s : StoreState) (e : Entry) (reply : LineReply) (t : StoreState) : Type 0 where
   pub not_stopped : s.stopped ≡ false
+  pub not_sealed : s.sealed ≡ false
   pub allowed : rejection s.history e ≡ None
   pub short : s.left < need_of s.history e
   pub replied : reply ≡ No (reasons.Full (need_of s.history e) s.left)
@@ -67,6 +68,7 @@ pub record LacksRoom (s : StoreState) (e : Entry) (reply : LineReply) (t : Store
 -- The model accepts the entry, but the device failed in its commit, which stops the store.
 pub record IsDeviceFault (s : StoreState) (e : Entry) (reply : LineReply) (t : StoreState) : Type 0 where
   pub not_stopped : s.stopped ≡ false
+  pub not_sealed : s.sealed ≡ false
   pub allowed : rejection s.history e ≡ None
   pub fits : need_of s.history e ≤ s.left
   pub replied : reply ≡ No reasons.Device
@@ -78,9 +80,16 @@ pub record WasStopped (s : StoreState) (reply : LineReply) (t : StoreState) : Ty
   pub replied : reply ≡ No (reasons.Stopped (length s.history))
   pub store : t ≡ s
 
+-- The store was sealed before, and not stopped.
+pub record WasSealed (s : StoreState) (reply : LineReply) (t : StoreState) : Type 0 where
+  pub not_stopped : s.stopped ≡ false
+  pub sealed : s.sealed ≡ true
+  pub replied : reply ≡ No reasons.Sealed
+  pub store : t ≡ s
+
 -- Memory may run out in it: in an answer, or in a commit that nothing refuses which is tested before memory is taken.
 abbrev pub NeedsMemory : StoreState → Meaning → Type 0
-NeedsMemory s (Commits e) = (s.stopped ≡ false) × MayLackMemory (rejection s.history e)
+NeedsMemory s (Commits e) = (s.stopped ≡ false) × (s.sealed ≡ false) × MayLackMemory (rejection s.history e)
 NeedsMemory s (Asks query) = Unit {0}
 NeedsMemory s (Holds count) = ⊥
 NeedsMemory s (Current version) = ⊥
@@ -94,7 +103,7 @@ pub record IsOutOfMemory (s : StoreState) (m : Meaning) (reply : LineReply) (t :
 
 -- The entry was not committed, for a reason that the model does not have.
 abbrev pub IsNotDone : StoreState → Meaning → LineReply → StoreState → Type 0
-IsNotDone s (Commits e) reply t = LacksRoom s e reply t ⊎ IsDeviceFault s e reply t ⊎ WasStopped s reply t
+IsNotDone s (Commits e) reply t = LacksRoom s e reply t ⊎ IsDeviceFault s e reply t ⊎ WasStopped s reply t ⊎ WasSealed s reply t
 IsNotDone s (Asks query) reply t = ⊥
 IsNotDone s (Holds count) reply t = ⊥
 IsNotDone s (Current version) reply t = ⊥

@@ -158,7 +158,7 @@ fn delete_range<R: Threads + Wait + Sync, D: Disk>(
 }
 
 /// Refuses to remove the points of a range, since there is no memory for a list of it. What a commit tests before it takes memory is
-/// tested all the same: whether the store is stopped, and whether the stream is an output.
+/// tested all the same: whether the store is stopped or sealed, and whether the stream is an output.
 fn refuse_range<R: Wait, D: Disk>(
     rt: &R,
     hall: &Hall<D>,
@@ -171,12 +171,16 @@ fn refuse_range<R: Wait, D: Disk>(
     ensures replies { (range : RangeValue)
         → RepliesIn hall.now session.old session.new (Commits (CommitSpec found.stream (range ∷ []) [])) result }
 {
-    match session.stopped(rt, hall) {
-        Some(entries) => LineReply::No(Reason::Stopped { entries }),
-        None => match found.spec {
-            Some(_) => LineReply::No(Reason::Output),
-            None => LineReply::No(Reason::Memory),
-        },
+    let sealed = session.sealed(rt, hall);
+    if let Some(entries) = session.stopped(rt, hall) {
+        return LineReply::No(Reason::Stopped { entries });
+    }
+    if sealed {
+        return LineReply::No(Reason::Sealed);
+    }
+    match found.spec {
+        Some(_) => LineReply::No(Reason::Output),
+        None => LineReply::No(Reason::Memory),
     }
 }
 

@@ -13,6 +13,7 @@ pub fn reason_of_step(fault: StepFault, id: u128) -> Reason
 {
     match fault {
         StepFault::Stopped { entries } => Reason::Stopped { entries },
+        StepFault::Sealed => Reason::Sealed,
         StepFault::Rejected(why) => Reason::of_rejection(why, id),
         StepFault::Want => Reason::Memory,
         StepFault::DeviceFull { need, left } => Reason::Full { need, left },
@@ -26,6 +27,7 @@ pub fn reason_of_landing(fault: LandFault) -> Reason
 {
     match fault {
         LandFault::Stopped { entries } => Reason::Stopped { entries },
+        LandFault::Sealed => Reason::Sealed,
         LandFault::Superseded { version } => Reason::Superseded { version },
         LandFault::VersionLimit => Reason::Versions,
         LandFault::Crowded { start } => Reason::Crowded { start },

@@ -88,6 +88,7 @@ creates start log p id (Err (steps.Rejected why)) outcome own next turn is fits 
   goes = subst (λ o. Agrees (created p o) outcome) (sym turn.0) is;
 }
 creates start log p id (Err (steps.Stopped count)) outcome own next turn is fits = absurd (lacks id (steps.Stopped count) outcome (λ b. b) is fits)
+creates start log p id (Err steps.Sealed) outcome own next turn is fits = absurd (lacks id steps.Sealed outcome (λ b. b) is fits)
 creates start log p id (Err steps.Want) outcome own next turn is fits = absurd (lacks id steps.Want outcome (λ b. b) is fits)
 creates start log p id (Err (steps.DeviceFull need left)) outcome own next turn is fits = absurd (lacks id (steps.DeviceFull need left) outcome (λ b. b) is fits)
 creates start log p id (Err steps.DeviceFault) outcome own next turn is fits = absurd (lacks id steps.DeviceFault outcome (λ b. b) is fits)
@@ -167,6 +168,7 @@ module _ (start : StoreState) (log : LogState) (mid : List Entry) (stream : ℕ)
             ((refused, more.0), more.1)
       ]
   batches_alike low q (batch ∷ batches) (Err (steps.Stopped count) ∷ results) own last low_mid q_mid starts same most fits did = absurd fits.0
+  batches_alike low q (batch ∷ batches) (Err steps.Sealed ∷ results) own last low_mid q_mid starts same most fits did = absurd fits.0
   batches_alike low q (batch ∷ batches) (Err steps.Want ∷ results) own last low_mid q_mid starts same most fits did = absurd fits.0
   batches_alike low q (batch ∷ batches) (Err (steps.DeviceFull need left) ∷ results) own last low_mid q_mid starts same most fits did = absurd fits.0
   batches_alike low q (batch ∷ batches) (Err steps.DeviceFault ∷ results) own last low_mid q_mid starts same most fits did = absurd fits.0

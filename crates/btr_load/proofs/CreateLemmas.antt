@@ -41,6 +41,7 @@ use Rattle.btr_load.specs.Plan.{IsPlanned, settled_outcome, IsStreamSettled, Are
 pub next_is : (start : StoreState) (log : LogState) (p : List Entry) (e : Entry) (result : Result Receipt StepFault) (own : List ℕ) (next : List Entry) → turns.Committed start log p e result own next → next ≡ history_after result p e
 next_is start log p e (Ok receipt) own next is = is.2.next
 next_is start log p e (Err (steps.Stopped count)) own next is = is.1.next
+next_is start log p e (Err steps.Sealed) own next is = is.1.next
 next_is start log p e (Err (steps.Rejected why)) own next is = is.1.next
 next_is start log p e (Err steps.Want) own next is = is.1.next
 next_is start log p e (Err (steps.DeviceFull need left)) own next is = is.2.next
@@ -53,12 +54,13 @@ module _ {D : Type 0} {disk : Ghosts D} where
   item_history h before e y (Err steps.DeviceFault) =
       ap (λ k. h ++ k) (entries_append before (Halted (shown e) (shown y) ∷ []) ∙ append-nil (entries_in before))
   item_history h before e y (Err (steps.Stopped count)) = ap (history_of h) (append-nil before)
+  item_history h before e y (Err steps.Sealed) = ap (history_of h) (append-nil before)
   item_history h before e y (Err (steps.Rejected why)) = ap (history_of h) (append-nil before)
   item_history h before e y (Err steps.Want) = ap (history_of h) (append-nil before)
   item_history h before e y (Err (steps.DeviceFull need left)) = ap (history_of h) (append-nil before)
 
   -- The turn of an entry by a session that is alone: the history goes from what it had seen to what it has then seen.
-  pub turn_alone : (hall : Hall D disk) (old new : Session D disk) (e : Entry) (result : Result Receipt StepFault) → IsSame old new → Commits hall old new e result → IsAlone old → Does hall old new (λ start log low own. turns.Committed start log low e result own log.history)
+  pub turn_alone : (hall : Hall D disk) (old new : Session D disk) (e : Entry) (result : Result Receipt StepFault) → IsSame old new → Commits hall old new e result → IsAlone old → Does hall old new (λ start log low own. turns.Committed start log low e result own log.history × turns.SaysSealed start steps.Sealed result)
   turn_alone hall old new e result same commits alone =
       let does = commit_turn_alone hall old new e result same commits alone in (
         does.0,
@@ -69,7 +71,7 @@ module _ {D : Type 0} {disk : Ghosts D} where
             ap (history_of h) commits.seen ∙ item_history h commits.before e (engine_of hall new) result
             ∙ ap (λ l. history_after result (history_of h l) e) (commits.alone alone) in
             let then = next_is (start_of h hall) (log_seen h new) (history_of h (seen_of old)) e result does.0 said.0 said.1 in
-            subst (turns.Committed (start_of h hall) (log_seen h new) (history_of h (seen_of old)) e result does.0) (then ∙ sym now) said.1,
+            (subst (turns.Committed (start_of h hall) (log_seen h new) (history_of h (seen_of old)) e result does.0) (then ∙ sym now) said.1, said.3),
       )
 
 -- ---- one stream
@@ -99,17 +101,18 @@ settled_created Output (Ok receipt) to = absurd to
 settled_created (NotCreated fault) (Ok receipt) to = absurd to
 settled_created (Committed stream results latest) (Ok receipt) to = (refl, to.1)
 
-new_opens : (start : StoreState) (log : LogState) (h p : List Entry) (id : ℕ) (o : Option ℕ) (outcome : RowsOutcome) (result : Result Receipt StepFault) (own : List ℕ) (next : List Entry) → is_some o ≡ false → turns.Committed start log p (entries.Create id) result own next → IsPlanned h o outcome → CreatesIfNew start log h p id o (settled_outcome outcome result) own next
-new_opens start log h p id None outcome result own next is turn planned = (result, turn, settled_created outcome result planned)
-new_opens start log h p id (Some stream) outcome result own next is turn planned = absurd (cc)
+new_opens : (start : StoreState) (log : LogState) (h p : List Entry) (id : ℕ) (o : Option ℕ) (outcome : RowsOutcome) (result : Result Receipt StepFault) (own : List ℕ) (next : List Entry) → is_some o ≡ false → turns.Committed start log p (entries.Create id) result own next → turns.SaysSealed start steps.Sealed result → IsPlanned h o outcome → CreatesIfNew start log h p id o (settled_outcome outcome result) own next
+new_opens start log h p id None outcome result own next is turn sealed planned =
+    (result, turn, settled_created outcome result planned, sealed)
+new_opens start log h p id (Some stream) outcome result own next is turn sealed planned = absurd (cc)
 
 -- A stream that is not there is created, or refused.
-pub opened_new : (start : StoreState) (log : LogState) (h p : List Entry) (s : LoadedStream) (result : Result Receipt StepFault) (own : List ℕ) (next : List Entry) → is_some (stream_of h s.rows.id) ≡ false → turns.Committed start log p (entries.Create s.rows.id) result own next → IsStreamSettled start log h p s (record { rows = s.rows; batch = s.batch; outcome = settled_outcome s.outcome result }) own next
-opened_new start log h p s result own next is turn = record {
+pub opened_new : (start : StoreState) (log : LogState) (h p : List Entry) (s : LoadedStream) (result : Result Receipt StepFault) (own : List ℕ) (next : List Entry) → is_some (stream_of h s.rows.id) ≡ false → turns.Committed start log p (entries.Create s.rows.id) result own next → turns.SaysSealed start steps.Sealed result → IsStreamSettled start log h p s (record { rows = s.rows; batch = s.batch; outcome = settled_outcome s.outcome result }) own next
+opened_new start log h p s result own next is turn sealed = record {
   rows = refl;
   batch = refl;
   ready = λ ready. record { some = ready.some; blank = settled_ready (batches_of s.batch s.rows.points) s.outcome result ready.blank };
-  opens = new_opens start log h p s.rows.id (stream_of h s.rows.id) s.outcome result own next is turn;
+  opens = new_opens start log h p s.rows.id (stream_of h s.rows.id) s.outcome result own next is turn sealed;
 }
 
 -- ---- many streams
@@ -117,7 +120,7 @@ opened_new start log h p s result own next is turn = record {
 opens_lasts : (start : StoreState) (late early : LogState) (h p : List Entry) (id : ℕ) (o : Option ℕ) (outcome : RowsOutcome) (own : List ℕ) (next : List Entry) → GoesOn start late early → CreatesIfNew start early h p id o outcome own next → CreatesIfNew start late h p id o outcome own next
 opens_lasts start late early h p id (Some stream) outcome own next on opens = opens
 opens_lasts start late early h p id None outcome own next on opens =
-    (opens.0, committed_still start late early p (entries.Create id) opens.0 own next on opens.1, opens.2)
+    (opens.0, committed_still start late early p (entries.Create id) opens.0 own next on opens.1, opens.2, opens.3)
 
 pub opened_lasts : (start : StoreState) (late early : LogState) (h p : List Entry) (was now : LoadedStream) (own : List ℕ) (next : List Entry) → GoesOn start late early → IsStreamSettled start early h p was now own next → IsStreamSettled start late h p was now own next
 opened_lasts start late early h p was now own next on opened = record {

@@ -203,6 +203,7 @@ module _ (start : StoreState) (log : LogState) where
     result_fits : (low : List Entry) (batch : List NumberedPoint) (batches : List (List NumberedPoint)) (result : Result Receipt StepFault) (results : List (Result Receipt StepFault)) (own : List ℕ) (last : List Entry) → StartsWith low start.history → StartsWith log.history low → latest log.history stream ≤ latest low stream + accepted_count (result ∷ results) → Leaves start log (λ p. needs_at p own) (batches_need (commits low stream) (batch ∷ batches)) → BatchesDid start log low stream (batch ∷ batches) (result ∷ results) own last → HadRoom result
     result_fits low batch batches (Ok receipt) results own last starts begins most leaves did = tt
     result_fits low batch batches (Err (steps.Stopped count)) results own last starts begins most leaves did = tt
+    result_fits low batch batches (Err steps.Sealed) results own last starts begins most leaves did = tt
     result_fits low batch batches (Err (steps.Rejected why)) results own last starts begins most leaves did = tt
     result_fits low batch batches (Err steps.Want) results own last starts begins most leaves did = tt
     result_fits low batch batches (Err steps.DeviceFault) results own last starts begins most leaves did = tt
@@ -245,6 +246,7 @@ module _ (start : StoreState) (log : LogState) where
   -- The create of a stream that was refused.
   refused_fits : (q : List Entry) (id : ℕ) (own other : List ℕ) (next : List Entry) (fault : StepFault) (more : ℕ) → StartsWith q start.history → StartsWith log.history q → turns.Committed start log q (Create id) (Err fault) own next → other ≡ [] → Leaves start log (λ p. needs_at p own + needs_at p other) (create_need id None + more) → HadRoom (Err fault)
   refused_fits q id own other next (steps.Stopped count) more starts begins turn none leaves = tt
+  refused_fits q id own other next steps.Sealed more starts begins turn none leaves = tt
   refused_fits q id own other next (steps.Rejected why) more starts begins turn none leaves = tt
   refused_fits q id own other next steps.Want more starts begins turn none leaves = tt
   refused_fits q id own other next steps.DeviceFault more starts begins turn none leaves = tt

@@ -78,7 +78,7 @@ module _ (start : StoreState) (log : LogState) (low : List Entry) (batches : Lis
   still_opens late h p id (Some stream) was now own more next blank works opens =
       (still_found h stream (spec_of h stream) was now more blank works opens.0, opens.1)
   still_opens late h p id None was now own more next blank works opens =
-      (opens.0, opens.1, still_created opens.0 was now more blank works opens.2)
+      (opens.0, opens.1, still_created opens.0 was now more blank works opens.2, opens.3)
 
   -- What was committed of a stream.
   outcome_did : (was now : RowsOutcome) (own : List ℕ) → OutcomeWorks start log low batches was now own → OutcomeDid start log low batches now own

@@ -110,6 +110,7 @@ module _ (start : StoreState) (log : LogState) (p : List Entry) (begins : Starts
   -- An entry that was not added needs nothing.
   pub refused_at : (q : List Entry) (e : Entry) (fault : StepFault) (own : List ℕ) (next : List Entry) → turns.Committed start log q e (Err fault) own next → needs_at p own ≡ 0
   refused_at q e (steps.Stopped count) own next is = none_at own is.1.own
+  refused_at q e steps.Sealed own next is = none_at own is.1.own
   refused_at q e (steps.Rejected why) own next is = none_at own is.1.own
   refused_at q e steps.Want own next is = none_at own is.1.own
   refused_at q e (steps.DeviceFull need left) own next is = none_at own is.2.own

@@ -51,6 +51,7 @@ module _ (f : Entry → ℕ) (start : StoreState) (log : LogState) where
       let all = one_sum own (length p + 1) (f e) added.own here in
       omega (arith, all)
   committed_sum p e (Err (steps.Stopped count)) own next is = none_sum own is.1.own
+  committed_sum p e (Err steps.Sealed) own next is = none_sum own is.1.own
   committed_sum p e (Err (steps.Rejected why)) own next is = none_sum own is.1.own
   committed_sum p e (Err steps.Want) own next is = none_sum own is.1.own
   committed_sum p e (Err (steps.DeviceFull need left)) own next is = none_sum own is.2.own

@@ -14,7 +14,7 @@ use Rattle.btr_rows.specs.declared.row.NumberedPoint.{NumberedPoint}
 use Rattle.btr_rows.specs.Streams.{StreamValue, RowListValue}
 use Rattle.btr_streams.specs.declared.board.Receipt.{Receipt}
 use Rattle.btr_engine.specs.declared.step.StepFault.{StepFault}
-use Rattle.btr_engine.specs.declared.step.StepFault.TheVariants.{Rejected, Stopped, Want, DeviceFull, DeviceFault}
+use Rattle.btr_engine.specs.declared.step.StepFault.TheVariants.{Rejected, Stopped, Sealed, Want, DeviceFull, DeviceFault}
 use Rattle.btr_jobs.specs.States.{StoreState, LogState}
 use Rattle.btr_load.specs.declared.outcome.RowsOutcome.{RowsOutcome}
 use Rattle.btr_load.specs.declared.outcome.RowsOutcome.TheVariants.{Output, NotCreated, Committed}
@@ -91,6 +91,7 @@ SaysEntry h e (Ok receipt) =
     (rejection h e ≡ None) × (receipt.stream ≡ (machine.receipt h e).stream) × (receipt.version ≡ (machine.receipt h e).version)
 SaysEntry h e (Err (Rejected why)) = rejection h e ≡ Some why
 SaysEntry h e (Err (Stopped entries)) = ⊥
+SaysEntry h e (Err Sealed) = ⊥
 SaysEntry h e (Err Want) = ⊥
 SaysEntry h e (Err (DeviceFull need left)) = ⊥
 SaysEntry h e (Err DeviceFault) = ⊥
@@ -120,11 +121,12 @@ SaysOutcomes h batch rows targets streams = ⊥
 
 -- ---- the law
 
--- The entry was accepted or rejected: the store was not stopped, and there was enough memory and room.
+-- The entry was accepted or rejected: the store was not stopped nor sealed, and there was enough memory and room.
 abbrev pub IsPlain : Result Receipt StepFault → Type 0
 IsPlain (Ok receipt) = Unit {0}
 IsPlain (Err (Rejected why)) = Unit {0}
 IsPlain (Err (Stopped entries)) = ⊥
+IsPlain (Err Sealed) = ⊥
 IsPlain (Err Want) = ⊥
 IsPlain (Err (DeviceFull need left)) = ⊥
 IsPlain (Err DeviceFault) = ⊥

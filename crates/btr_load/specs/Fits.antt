@@ -10,7 +10,7 @@ use Rattle.btr_rows.specs.declared.row.NumberedPoint.{NumberedPoint}
 use Rattle.btr_rows.specs.Streams.{StreamValue, RowListValue}
 use Rattle.btr_streams.specs.declared.board.Receipt.{Receipt}
 use Rattle.btr_engine.specs.declared.step.StepFault.{StepFault}
-use Rattle.btr_engine.specs.declared.step.StepFault.TheVariants.{Stopped, Rejected, Want, DeviceFull, DeviceFault}
+use Rattle.btr_engine.specs.declared.step.StepFault.TheVariants.{Stopped, Sealed, Rejected, Want, DeviceFull, DeviceFault}
 use Rattle.btr_engine.specs.Body.{need_after}
 use Rattle.btr_jobs.specs.States.{StoreState, LogState}
 use Rattle.btr_load.specs.declared.outcome.RowsOutcome.{RowsOutcome}
@@ -47,6 +47,7 @@ rows_need low batch (r ∷ rows) =
 abbrev pub HadRoom : Result Receipt StepFault → Type 0
 HadRoom (Ok receipt) = Unit {0}
 HadRoom (Err (Stopped entries)) = Unit {0}
+HadRoom (Err Sealed) = Unit {0}
 HadRoom (Err (Rejected why)) = Unit {0}
 HadRoom (Err Want) = Unit {0}
 HadRoom (Err (DeviceFull need left)) = ⊥

@@ -8,6 +8,7 @@ use Rattle.btr_rows.specs.declared.row.RefusedRow.{RefusedRow}
 use Rattle.btr_rows.specs.Streams.{StreamValue, RowListValue}
 use Rattle.btr_streams.specs.declared.board.Receipt.{Receipt}
 use Rattle.btr_engine.specs.declared.step.StepFault.{StepFault}
+use Rattle.btr_engine.specs.declared.step.StepFault.TheVariants as steps
 use Rattle.btr_gate.specs.Numbers.{times}
 use Rattle.btr_gate.specs.Prefixes.{StartsWith}
 use Rattle.btr_jobs.specs.States.{StoreState, LogState}
@@ -45,6 +46,7 @@ abbrev pub CreatesIfNew : StoreState → LogState → List Entry → List Entry 
 CreatesIfNew start log low p id (Some stream) outcome own next = OutcomeOfFound low stream (spec_of low stream) outcome × IsIdle p own next
 CreatesIfNew start log low p id None outcome own next =
     (result : Result Receipt StepFault) × turns.Committed start log p (entries.Create id) result own next × OutcomeOfCreated result outcome
+    × turns.SaysSealed start steps.Sealed result
 
 -- The streams of rows, in order. Those that `low` has not are created one after another, the first right after the history p.
 -- `own` are the numbers of what was added, in order, and `last` is the history after it.

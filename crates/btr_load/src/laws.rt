@@ -18,7 +18,7 @@ pub fn batches_are_there()
 
 /// Any number of workers leaves each stream as one worker does: with the commits of the plain load, which makes the creates in
 /// order and then commits the batches stream by stream. Each outcome and result is what the plain load says. This is so if nobody
-/// else added anything, the store was not stopped, and there was enough memory and room.
+/// else added anything, the store was not stopped nor sealed, and there was enough memory and room.
 pub fn loads_are_alike()
     ensures { LoadsAlike }
 {}
@@ -32,7 +32,7 @@ pub fn loads_fit()
 
 /// One worker has one right outcome, also on a nearly full device: it makes the creates in order, and then commits the batches stream by
 /// stream. Each entry is added if the model accepts it and the blocks that are left suffice. The history and all results are those. This
-/// is so if nobody else added anything, the store was not stopped, the device did not fail, and there was enough memory.
+/// is so if nobody else added anything, the store was not stopped nor sealed, the device did not fail, and there was enough memory.
 pub fn loads_in_order()
     ensures { LoadsInOrder }
 {}

@@ -47,7 +47,7 @@ format-spells body head spells =
     ap (u32_at 12) (sym (take-append-drop 64 body) ∙ ap (λ l. l ++ drop 64 body) spells.spelling) ∙ format-head head (drop 64 body) spells.is_head
 
 -- the head of an entry keeps the grammar
-pub IsHead-entry_head : (format number length nodes root : ℕ) → 1 ≤ format → format ≤ 3 → 1 ≤ number → number < 2 ^ 64 → length < 2 ^ 64
+pub IsHead-entry_head : (format number length nodes root : ℕ) → 1 ≤ format → format ≤ 4 → 1 ≤ number → number < 2 ^ 64 → length < 2 ^ 64
     → content_blocks length + nodes < 2 ^ 64 → root < 2 ^ 64 → IsHead (entry_head format number length nodes root)
 IsHead-entry_head format number length nodes root some known least most few fit low = record {
   kind = inl (refl, least);

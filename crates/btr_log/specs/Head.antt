@@ -32,7 +32,7 @@ IsCheckpointHead head = (head.kind ≡ 2) × (head.nodes ≡ 0) × (head.root �
 -- The grammar of a head, apart from its bytes.
 pub record IsHead (head : Head) : Type 0 where
   pub kind : IsEntryHead head ⊎ IsCheckpointHead head
-  pub format : (1 ≤ head.format) × (head.format ≤ 3)
+  pub format : (1 ≤ head.format) × (head.format ≤ 4)
   pub blocks : head.n ≡ content_blocks head.length + head.nodes
   pub fits : FitsFields head
 

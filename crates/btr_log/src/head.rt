@@ -11,19 +11,19 @@ pub const HEAD_BYTES: usize = 64;
 pub const HEAD_MARK: [u8; 8] = *b"BTR-BODY";
 
 /// The greatest format of a body.
-const MAX_FORMAT: u32 = 3;
+const MAX_FORMAT: u32 = 4;
 
 /// The head of an extent's body.
 ///
 /// Its 64 bytes are the mark, the fields in their order and width with the highest byte first, and 8 zero
-/// bytes. The grammar of a head: its format is 1 to 3, its kind is 1 or 2, and `n` is the number of blocks
+/// bytes. The grammar of a head: its format is 1 to 4, its kind is 1 or 2, and `n` is the number of blocks
 /// of head and content, the last one filled up, and of node blocks.
 #[derive(Clone, Copy, PartialEq, Eq)]
 pub struct Head {
     /// 1 for an entry, whose number is at least 1, or 2 for a checkpoint, which has no nodes and no root.
     pub kind: u32,
 
-    /// The format of the body, 1 to 3.
+    /// The format of the body, 1 to 4. That of an entry is at most 3.
     pub format: u32,
 
     /// The number of the entry, from 1 on; for a checkpoint, the number of entries before it.

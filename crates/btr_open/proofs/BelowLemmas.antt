@@ -1,13 +1,11 @@
 -- Lemmas on the pages of a device below a block: at most one page is stored in a block, and pages that stand rightly have nothing below them
 -- that breaks the format.
-use Rattle.std.specs.Prelude.{◌≡◌, ℕ, ◌+◌, ◌-◌, ◌*◌, ◌<◌, ◌≤◌, nat_lt, List, [], ◌∷◌, length, take, drop, slice_get, Option, Some, None, IfSome, MatchOption, cond, true, false}
-use Rattle.std.proofs.Common.{sym, ap, ◌∙◌, subst, arith, inl, inr, length-drop}
+use Rattle.std.specs.Prelude.{◌≡◌, ℕ, ◌*◌, ◌<◌, ◌≤◌, nat_lt, List, [], ◌∷◌, length, slice_get, Option, Some, None, IfSome, MatchOption, cond, true, false}
+use Rattle.std.proofs.Common.{sym, ap, ◌∙◌, subst, arith, inl, inr}
 use Rattle.std.proofs.lemmas.Bool.{cases_lt}
 use Rattle.std.proofs.lemmas.Bool.Decides.{nat_tests}
-use Rattle.std.proofs.lemmas.List.{append-nil, length-take-le, take-append-drop}
-use Rattle.std.proofs.lemmas.List.Concat.{flat_map-cons}
 use Rattle.btr_disk.specs.Bytes.{Image, Has, Same}
-use Rattle.btr_disk.proofs.ByteLemmas.{Has-one, Has-append, Has-take, Has-Same, Same-sym}
+use Rattle.btr_disk.proofs.ByteLemmas.{Has-one}
 use Rattle.btr_log.specs.Piece.{PieceValue, IsPieceOf, HoldsBlocks, bytes_at}
 use Rattle.btr_log.proofs.PieceLemmas.{length-bytes_at, Has-bytes_at, Has-bytes_before}
 use Rattle.btr_node.specs.Page.{page_bytes, Fits, Spells, slots_of_page}

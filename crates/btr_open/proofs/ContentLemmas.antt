@@ -36,7 +36,7 @@ module _ (number : ℕ) (e : Entry) (root : ℕ) (blocks body : List ℕ) (has :
 
   pub IsHead-content : 1 ≤ number → number < 2 ^ 64 → IsHead content_head
   IsHead-content some few =
-      IsHead-entry_head (format_of e) number (length (spelling e)) has.nodes root (format-from e) (format-to e) some few (omega (arith, length-spelling e has.spelled)) has.room has.low
+      IsHead-entry_head (format_of e) number (length (spelling e)) has.nodes root (format-from e) (omega (arith, format-to e)) some few (omega (arith, length-spelling e has.spelled)) has.room has.low
 
   -- The head, the spelling and the zeros, and then the node blocks.
   pub content-parts : body ≡ head_bytes content_head ++ (filled e ++ blocks)

@@ -1,11 +1,14 @@
 -- A log that is read from its first gate, whatever checkpoint its superblock names.
-use Rattle.std.specs.Prelude.{◌≡◌, ℕ, ◌<◌}
+use Rattle.std.specs.Prelude.{◌≡◌, ◌⊎◌, ℕ, ◌<◌, ◌≤◌, min, false, List, [], ◌∷◌}
+use Rattle.std.specs.List.{AllByRecursion}
 use Rattle.std.proofs.Common.{refl, sym, subst, arith, inl, inr}
+use Rattle.std.proofs.lemmas.Bool.{cases_lt, ne_eqb}
 use Rattle.btr_disk.specs.declared.disk.Disk.{Ghosts}
 use Rattle.btr_disk.specs.Bytes.{Image}
 use Rattle.btr_disk.specs.Gate.{IsClosed}
 use Rattle.btr_super.specs.declared.superblock.Super.{Super}
-use Rattle.btr_super.specs.Super.{IsSuper}
+use Rattle.btr_super.specs.Super.{has_seal, IsSuper}
+use Rattle.btr_engine.specs.Body.{format_in, MayStandUnder}
 use Rattle.btr_pages.specs.Known.{AreKnown}
 use Rattle.btr_open.specs.declared.judge.Judge.{Ghosts as Judging}
 use Rattle.btr_open.specs.declared.judged.WholeLog.{WholeLog}
@@ -19,7 +22,7 @@ use Rattle.btr_open.proofs.OpenCauses.{cause-along}
 -- It keeps the table.
 pub first-table : (size : ℕ) (s : Super) → IsSuper size s → IsSuper size (first_reading s)
 first-table size s table = record {
-  known_format = table.known_format;
+  known_format = (omega (arith, table.known_format.0), omega arith);
   has_side = table.has_side;
   seq_from = omega arith;
   seq_to = omega (arith, table.known_format.0);
@@ -30,6 +33,29 @@ first-table size s table = record {
   tail_to = omega (arith, table.blocks_from);
   start = inl (refl, refl);
 }
+
+-- It has no seal.
+pub first-unsealed : (s : Super) → has_seal (first_reading s) ≡ false
+first-unsealed s = ne_eqb (min s.format 3) 4 (λ same. omega (arith, same))
+
+-- The same bodies may stand under it.
+pub formats-first : (s : Super) (bodies : List (List ℕ)) → s.format ≤ 4 → AllByRecursion (MayStandUnder s.format) bodies → AllByRecursion (MayStandUnder (first_reading s).format) bodies
+formats-first s [] few all = tt
+formats-first s (body ∷ bodies) few all =
+    let one : MayStandUnder (min s.format 3) body = elim all.0 [
+      | inl low ↦ elim (cases_lt (format_in body) 4) [
+        | inl less ↦ inl (omega (arith, low, less))
+        | inr last ↦ inr (omega (arith, low, last, few))
+      ]
+      | inr seal ↦ inr seal
+    ] in
+    (one, formats-first s bodies few all.1)
+
+pub formats-from-first : (s : Super) (bodies : List (List ℕ)) → AllByRecursion (MayStandUnder (first_reading s).format) bodies → AllByRecursion (MayStandUnder s.format) bodies
+formats-from-first s [] all = tt
+formats-from-first s (body ∷ bodies) all =
+    let one : MayStandUnder s.format body = elim all.0 [ inl low ↦ inl (omega (arith, low)) | inr seal ↦ inr seal ] in
+    (one, formats-from-first s bodies all.1)
 
 whole-judged : {J : Type 0} (by : Judging J) (size : ℕ) (image : Image) (s : Super) (l : Loader) (judge : J) (w : WholeLog) → IsJudgedRead by size image s w.tail l judge → IsClosed image w.tail → w.tail < s.blocks → w.nodes ≡ l.nodes → IsJudgedLog by.may by.is_after image s judge w
 whole-judged by size image s l judge w is closed inside nodes = record {

@@ -69,7 +69,7 @@ kept-on before (body ∷ bodies) after leads kept = elim leads [
 ]
 
 -- The past of version 0 has no commit.
-past-none : (h : List Entry) (stream : ℕ) → commits_to h stream 0 ≡ nothing
+pub past-none : (h : List Entry) (stream : ℕ) → commits_to h stream 0 ≡ nothing
 past-none h stream = ap (with_commits 0 nothing) (take-none (commits h stream))
   where
     take-none : {X : Type 0} (xs : List X) → take 0 xs ≡ []

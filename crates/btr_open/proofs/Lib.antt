@@ -7,6 +7,7 @@ pub mod OpenCauses
 -- what the body of an extent has
 pub mod ContentLemmas
 mod BodyParts
+pub mod Formats
 pub mod UniqueLemmas
 -- why an entry may not follow
 pub mod OutlineLemmas
@@ -41,8 +42,12 @@ mod NextLemmas
 mod WholeLemmas
 mod LogWalkLemmas
 mod RuleLemmas
-mod FirstReading
+pub mod FirstReading
 -- what an opening returns, and the laws
 pub mod UnbrokenLemmas
 pub mod Sound
 mod Opened
+-- a sealed store as a shelf
+mod ShelfLemmas
+mod ShelfHeld
+mod SealedLemmas

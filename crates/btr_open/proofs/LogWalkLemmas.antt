@@ -1,5 +1,5 @@
 -- Lemmas on a walk over a log: what holds of it after calls that only read, after one extent more, and at the closed gate.
-use Rattle.std.specs.Prelude.{◌≡◌, ℕ, ◌+◌, ◌*◌, ◌<◌, ◌≤◌, List}
+use Rattle.std.specs.Prelude.{◌≡◌, ℕ, ◌+◌, ◌*◌, ◌<◌, ◌≤◌, false, List}
 use Rattle.std.proofs.Common.{refl, sym, ◌∙◌, subst, arith, inr}
 use Rattle.btr_disk.specs.declared.disk.Disk.{Ghosts}
 use Rattle.btr_disk.specs.Bytes.{Has}
@@ -10,13 +10,14 @@ use Rattle.btr_log.specs.Log.{log_device, log_blocks, KeepsLog}
 use Rattle.btr_log.specs.Extents.{need, IsExtent}
 use Rattle.btr_log.specs.Piece.{PieceValue, IsPieceOf}
 use Rattle.btr_super.specs.declared.superblock.Super.{Super}
-use Rattle.btr_super.specs.Super.{IsSuper}
+use Rattle.btr_super.specs.Super.{has_seal, IsSuper}
 use Rattle.btr_open.specs.declared.below.BlockReader.{BlockReader}
 use Rattle.btr_open.specs.declared.judge.Judge.{Ghosts as Judging}
 use Rattle.btr_open.specs.declared.loading.Loader.{Loader}
 use Rattle.btr_open.specs.declared.log_walk.LogWalk.{LogWalk}
 use Rattle.btr_open.specs.declared.opening.OpenCause.{OpenCause}
 use Rattle.btr_open.specs.declared.place.Place.{Place}
+use Rattle.btr_open.specs.Content.{MayHeadStand}
 use Rattle.btr_open.specs.Below.{StandBelow}
 use Rattle.btr_open.specs.Loading.{IsReaderOf, CanRead, AreOfDevice, ReadsBody, BreaksAfter}
 use Rattle.btr_open.specs.LogWalk.{walked_device, IsWalkOver, WalksOn, IsWalked, IsAtEnd, WasWalked, HoldsNext, body_ahead, ReadsExtent, BreaksExtent}
@@ -185,7 +186,7 @@ module _ {D : Type 0} {disk : Ghosts D} where
         pub next-inside : w.place.gate + need body < w.found.blocks
         next-inside = omega (arith, next-is, holds.whole.inside, walked.over.same_blocks)
 
-        module _ (matches : disk.is_observable → IsOpen (disk.contents (walked_device w)) w.place.gate × Has (disk.contents (walked_device w)) (4096 * (w.place.gate + 1)) body) where
+        module _ (matches : disk.is_observable → IsOpen (disk.contents (walked_device w)) w.place.gate × Has (disk.contents (walked_device w)) (4096 * (w.place.gate + 1)) body) (unsealed : has_seal w.found ≡ false) where
           extent : disk.is_observable → IsExtent (disk.contents (walked_device w)) w.place.gate body head
           extent reported =
               (found-extent (disk.contents (walked_device w)) (log_blocks w.log) w.place.gate head body (w.place.gate + head.n + 1) holds.whole (matches reported)).0
@@ -193,19 +194,19 @@ module _ {D : Type 0} {disk : Ghosts D} where
           low : w.found.checkpoint ≤ w.place.gate
           low = omega (arith, limit-low, walked.over.limit)
 
-          -- The format of the body is greater than that of the superblock.
-          pub extent-above : w.found.format < head.format → disk.is_observable → IsDamagedStoreBy by.may (disk.contents (walked_device w)) w.found (w.place.gate + 1)
+          -- The head may not stand under the superblock.
+          pub extent-above : (MayHeadStand w.found.format head → ⊥) → disk.is_observable → IsDamagedStoreBy by.may (disk.contents (walked_device w)) w.found (w.place.gate + 1)
           extent-above above reported =
-              inr (above-damaged by (disk.size (walked_device w)) (disk.contents (walked_device w)) w.found w.place.gate w.loader judge (walked.read reported) low body head (extent reported) next-inside above)
+              inr (above-damaged by (disk.size (walked_device w)) (disk.contents (walked_device w)) w.found w.place.gate w.loader judge (walked.read reported) low body head (extent reported) unsealed next-inside above)
 
           -- A block of the body breaks the format or the rule.
-          pub extent-breaks : head.format ≤ w.found.format → (block : ℕ) → BreaksExtent by w head judge block → disk.is_observable → IsDamagedStoreBy by.may (disk.contents (walked_device w)) w.found block
+          pub extent-breaks : MayHeadStand w.found.format head → (block : ℕ) → BreaksExtent by w head judge block → disk.is_observable → IsDamagedStoreBy by.may (disk.contents (walked_device w)) w.found block
           extent-breaks under block breaks reported =
-              inr (body-damaged by (disk.size (walked_device w)) (disk.contents (walked_device w)) w.found w.place.gate w.loader judge (walked.read reported) low body head (extent reported) under block next-inside
+              inr (body-damaged by (disk.size (walked_device w)) (disk.contents (walked_device w)) w.found w.place.gate w.loader judge (walked.read reported) low body head (extent reported) unsealed under block next-inside
               (subst (λ n. BreaksAfter by (disk.contents (walked_device w)) n w.place.gate body w.loader judge block) walked.over.limit (breaks reported)))
 
           -- The body was read, and the walk is at the gate after it.
-          pub extent-walked : head.format ≤ w.found.format → (mid : Loader) (new : LogWalk D disk) (after : J) → WalksOn w new → new.loader ≡ mid → IsPlaceAfter w.place (w.place.gate + head.n + 1) new.place → ReadsExtent by w mid head judge after → IsWalked by new after
+          pub extent-walked : MayHeadStand w.found.format head → (mid : Loader) (new : LogWalk D disk) (after : J) → WalksOn w new → new.loader ≡ mid → IsPlaceAfter w.place (w.place.gate + head.n + 1) new.place → ReadsExtent by w mid head judge after → IsWalked by new after
           extent-walked under mid new after walks loader goes reads =
               let next : new.place.gate ≡ w.place.gate + need body = goes.gate ∙ next-is in
               record {
@@ -218,6 +219,6 @@ module _ {D : Type 0} {disk : Ghosts D} where
                 });
                 into = rw loader (subst (λ g. WasReadTo g mid) (sym next) reads.through.into);
                 read = rw (walks.same_super, loader) (judged-on by (walked_device w) (walked_device new) walks.reads.reads w.found new.place.gate mid after (λ reported.
-                    read-on by (disk.size (walked_device w)) (disk.contents (walked_device w)) w.found w.place.gate w.loader judge (walked.read reported) low body head (extent reported) under mid after new.place.gate next
+                    read-on by (disk.size (walked_device w)) (disk.contents (walked_device w)) w.found w.place.gate w.loader judge (walked.read reported) low body head (extent reported) unsealed under mid after new.place.gate next
                     (subst (λ n. ReadsBody by (disk.contents (walked_device w)) n w.place.gate body w.loader mid judge after) walked.over.limit (reads.read reported))));
               }

@@ -1,15 +1,14 @@
 -- Lemmas on one extent more of a log that is read: what was read up to the gate after it, and which block of it breaks the format.
-use Rattle.std.specs.Prelude.{◌≡◌, ℕ, ◌+◌, ◌*◌, ◌<◌, ◌≤◌, List, [], ◌∷◌, ◌++◌}
+use Rattle.std.specs.Prelude.{◌≡◌, ℕ, ◌+◌, ◌*◌, ◌<◌, ◌≤◌, false, List, [], ◌∷◌, ◌++◌}
 use Rattle.std.proofs.Common.{refl, sym, ◌∙◌, ap, subst, arith, inl, inr, append_assoc}
 use Rattle.std.proofs.lemmas.List.{append-nil}
 use Rattle.btr_disk.specs.Bytes.{Image}
 use Rattle.btr_disk.specs.Gate.{IsOpen}
 use Rattle.btr_log.specs.declared.head.Head.{Head}
 use Rattle.btr_log.specs.Extents.{need, IsExtent, Extents, first_gate}
-use Rattle.btr_log.specs.Found.{IsDamagedExtent}
 use Rattle.btr_log.proofs.ExtentLemmas.{IsBody-one}
 use Rattle.btr_super.specs.declared.superblock.Super.{Super}
-use Rattle.btr_super.specs.Super.{IsSuper}
+use Rattle.btr_super.specs.Super.{has_seal, IsSuper}
 use Rattle.btr_hist.specs.declared.entry.Entry.{Entry}
 use Rattle.btr_hist.specs.Legal.{Follows}
 use Rattle.btr_hist.proofs.HistoryLemmas.{follows-prefix}
@@ -18,10 +17,11 @@ use Rattle.btr_engine.specs.Roots.{IsRootOf}
 use Rattle.btr_engine.specs.Holds.{HoldsHistoryTo}
 use Rattle.btr_engine.proofs.BodyLemmas.{LeadTo-append, LeadTo-split}
 use Rattle.btr_open.specs.declared.loading.Loader.{Loader}
+use Rattle.btr_open.specs.Content.{MayHeadStand}
 use Rattle.btr_open.specs.Reached.{with_other_pages}
 use Rattle.btr_open.specs.Below.{StandBelow}
 use Rattle.btr_open.specs.declared.judge.Judge.{Ghosts as Judging}
-use Rattle.btr_open.specs.Walk.{IsDamagedNextBy}
+use Rattle.btr_open.specs.Walk.{IsDamagedGate, IsDamagedNextBy}
 use Rattle.btr_open.specs.Seen.{Lets, IsDamagedLogBy}
 use Rattle.btr_open.specs.Reading.{IsPartRead, IsJudgedRead}
 use Rattle.btr_open.specs.Loading.{ReadsBody, BreaksAfter}
@@ -125,22 +125,22 @@ module _ {J : Type 0} (by : Judging J) (size : ℕ) (image : Image) (found : Sup
   its-walk : KeepingWalk by.may image found its.read.log its.seen
   its-walk = record { walk = its.read.walk; keeps = its.keeps }
 
-  -- A gate whose extent is damaged breaks the format of the log.
-  pub gate-damaged : (block : ℕ) → IsDamagedExtent image found.blocks gate block → IsDamagedLogBy by.may image found block
+  -- A gate that is damaged breaks the format of the log.
+  pub gate-damaged : (block : ℕ) → IsDamagedGate image found gate block → IsDamagedLogBy by.may image found block
   gate-damaged block damage = record {
     log = its.read.log;
     seen = its.seen;
     walk = its.read.walk;
     keeps = its.keeps;
-    damage = inl (subst (λ g. IsDamagedExtent image found.blocks g block) (sym its.read.at) damage);
+    damage = inl (subst (λ g. IsDamagedGate image found g block) (sym its.read.at) damage);
   }
 
-  module _ (high : found.checkpoint ≤ gate) (body : List ℕ) (head : Head) (extent : IsExtent image gate body head) where
+  module _ (high : found.checkpoint ≤ gate) (body : List ℕ) (head : Head) (extent : IsExtent image gate body head) (unsealed : has_seal found ≡ false) where
     its-extent : IsExtent image its.read.log.gate body head
     its-extent = subst (λ g. IsExtent image g body head) (sym its.read.at) extent
 
     -- All was read up to the gate after it.
-    pub read-on : head.format ≤ found.format → (new : Loader) (after : J) (next : ℕ) → next ≡ gate + need body → ReadsBody by image found.checkpoint gate body old new before after → IsJudgedRead by size image found next new after
+    pub read-on : MayHeadStand found.format head → (new : Loader) (after : J) (next : ℕ) → next ≡ gate + need body → ReadsBody by image found.checkpoint gate body old new before after → IsJudgedRead by size image found next new after
     read-on under new after next next_is reads =
         let read = its.read in
         let limit = found.checkpoint in
@@ -148,7 +148,7 @@ module _ {J : Type 0} (by : Judging J) (size : ℕ) (image : Image) (found : Sup
         let log = with_other_pages read.log is.wider in
         let one = lead-plain by.may log its.seen (body ∷ []) is.next is.all is.leads in
         let at : is.next.gate ≡ next = lead-gate log body is.next one ∙ ap (λ g. g + need body) read.at ∙ sym next_is in
-        let walk = walk-push by.may image found log is.next its.seen is.all body head (walk-wider by.may image found read.log its.seen is.wider its-walk is.wide is.stand) its-extent under is.leads in
+        let walk = walk-push by.may image found log is.next its.seen is.all body head (walk-wider by.may image found read.log its.seen is.wider its-walk is.wide is.stand) its-extent unsealed under is.leads in
         record {
           read = record {
             log = is.next;
@@ -164,19 +164,19 @@ module _ {J : Type 0} (by : Judging J) (size : ℕ) (image : Image) (found : Sup
           judged = is.judged;
         }
 
-    -- A format that is greater than that of the superblock breaks the format of the log.
-    pub above-damaged : gate + need body < found.blocks → found.format < head.format → IsDamagedLogBy by.may image found (gate + 1)
+    -- A head that may not stand under the superblock breaks the format of the log.
+    pub above-damaged : gate + need body < found.blocks → (MayHeadStand found.format head → ⊥) → IsDamagedLogBy by.may image found (gate + 1)
     above-damaged inside above =
         let log = its.read.log in
-        let damage : IsDamagedNextBy (Lets by.may log its.seen.entries) image found log (gate + 1) = inr (record { head = head; body = body; extent = its-extent; inside = omega (arith, inside, its.read.at); breaks = inl (above, ap (λ g. g + 1) (sym its.read.at)) }) in
+        let damage : IsDamagedNextBy (Lets by.may log its.seen.entries) image found log (gate + 1) = inr (record { unsealed = unsealed; head = head; body = body; extent = its-extent; inside = omega (arith, inside, its.read.at); breaks = inl (above, ap (λ g. g + 1) (sym its.read.at)) }) in
         record { log = log; seen = its.seen; walk = its.read.walk; keeps = its.keeps; damage = damage }
 
     -- The block breaks the format of the log, or the rule.
-    pub body-damaged : head.format ≤ found.format → (block : ℕ) → gate + need body < found.blocks → BreaksAfter by image found.checkpoint gate body old before block → IsDamagedLogBy by.may image found block
+    pub body-damaged : MayHeadStand found.format head → (block : ℕ) → gate + need body < found.blocks → BreaksAfter by image found.checkpoint gate body old before block → IsDamagedLogBy by.may image found block
     body-damaged under block inside breaks =
         let read = its.read in
         let is = breaks read.log its.seen read.at read.into read.stand its.judged in
         let log = with_other_pages read.log is.0 in
         let walk = walk-wider by.may image found read.log its.seen is.0 its-walk is.1 is.2 in
-        let damage : IsDamagedNextBy (Lets by.may log its.seen.entries) image found log block = inr (record { head = head; body = body; extent = its-extent; inside = omega (arith, inside, read.at); breaks = inr (under, is.3) }) in
+        let damage : IsDamagedNextBy (Lets by.may log its.seen.entries) image found log block = inr (record { unsealed = unsealed; head = head; body = body; extent = its-extent; inside = omega (arith, inside, read.at); breaks = inr (under, is.3) }) in
         record { log = log; seen = its.seen; walk = walk.walk; keeps = walk.keeps; damage = damage }

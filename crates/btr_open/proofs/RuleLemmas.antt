@@ -34,9 +34,10 @@ module _ (May : EntryRule) (all : (before : List Entry) (e : Entry) (root : ℕ)
 
   next-plain : (before : List Entry) (image : Image) (s : Super) (log : Reached) (block : ℕ) → IsDamagedNextBy (Lets May log before) image s log block → IsDamagedNext image s log block
   next-plain before image s log block damage = elim damage [
-    | inl extent ↦ inl extent
+    | inl gate ↦ inl gate
     | inr w ↦
         inr (record {
+          unsealed = w.unsealed;
           head = w.head;
           body = w.body;
           extent = w.extent;

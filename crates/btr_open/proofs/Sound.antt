@@ -1,5 +1,5 @@
 -- A device holds at most one history, and a device that holds one, or of which a walk ends at a closed gate, is damaged nowhere.
-use Rattle.std.specs.Prelude.{◌≡◌, ℕ, ◌+◌, ◌*◌, ◌<◌, ◌≤◌, ◌^◌, List, [], ◌∷◌, length, Option, Some, None, IsNone}
+use Rattle.std.specs.Prelude.{◌≡◌, ℕ, ◌+◌, ◌*◌, ◌<◌, ◌≤◌, ◌^◌, true, false, List, [], ◌∷◌, length, Option, Some, None, IsNone}
 use Rattle.std.specs.List.{flat_map, AllByRecursion}
 use Rattle.std.proofs.Common.{refl, sym, ◌∙◌, ap, subst, inl, inr, arith, ⊎_elim}
 use Rattle.std.proofs.lemmas.Bool.{cases_lt}
@@ -9,6 +9,7 @@ use Rattle.btr_log.specs.declared.head.Head.{Head}
 use Rattle.btr_log.specs.Extents.{need, IsExtent, Extents, first_gate}
 use Rattle.btr_log.proofs.ExtentLemmas.{IsBody-one, IsBody-some, Extents-le, Extents-one}
 use Rattle.btr_super.specs.declared.superblock.Super.{Super}
+use Rattle.btr_super.specs.Super.{has_seal}
 use Rattle.btr_super.specs.Choose.{IsChosen}
 use Rattle.btr_super.proofs.ChoiceLemmas.{one_chosen, chosen_not_none, chosen_not_damaged}
 use Rattle.btr_node.specs.Page.{page_bytes}
@@ -30,7 +31,7 @@ use Rattle.btr_open.specs.Laws.{OneHistoryIsHeld, HeldIsSound}
 use Rattle.btr_open.proofs.BelowLemmas.{stored-one, stand-broken, stand-page, pages_joined-is, pages_joined-with}
 use Rattle.btr_open.proofs.HeldLemmas.{reached_with, lead-on, start-held}
 use Rattle.btr_open.proofs.UniqueLemmas.{has-roll-one, next-one, next-content, marks-apart}
-use Rattle.btr_open.proofs.UnbrokenLemmas.{with_below, entry-undamaged, checkpoint-undamaged, one-body, head-of-body, extent-unbroken}
+use Rattle.btr_open.proofs.UnbrokenLemmas.{with_below, entry-undamaged, checkpoint-undamaged, one-body, head-of-body, extent-unbroken, next-open}
 
 -- ---- one history
 
@@ -71,6 +72,23 @@ entry-below limit below log e root pages body behind =
 least-extent : (image : Image) (gate : ℕ) (body : List ℕ) (head : Head) → IsExtent image gate body head → 2 ≤ need body
 least-extent image gate body head extent = omega (arith, IsBody-some body head extent.is_body)
 
+-- Extents that lead to their own gate are none.
+pub no-extents : (image : Image) (gate : ℕ) (bodies : List (List ℕ)) (tail : ℕ) → Extents image gate bodies tail → gate ≡ tail → bodies ≡ []
+no-extents image gate [] tail extents same = refl
+no-extents image gate (body ∷ bodies) tail extents same =
+    let least = least-extent image gate body extents.0.0 extents.0.1 in
+    absurd (omega (arith, least, same, Extents-le image (gate + need body) bodies tail extents.1))
+
+some-bodies : (b : List ℕ) (bodies : List (List ℕ)) → b ∷ bodies ≡ [] → ⊥
+some-bodies b bodies none = absurd (cc)
+
+-- A store with an extent after its start is not sealed.
+unsealed-with : (s : Super) (b : List ℕ) (bodies : List (List ℕ)) → (has_seal s ≡ true → b ∷ bodies ≡ []) → has_seal s ≡ false
+unsealed-with s b bodies sealed = elim (has_seal s) as (λ t. has_seal s ≡ t → has_seal s ≡ false) [
+  | true ↦ λ is. absurd (some-bodies b bodies (sealed is))
+  | false ↦ λ is. is
+] refl
+
 -- A checkpoint says nothing of pages.
 as-checkpoint : (limit : ℕ) (below : Pages) (log : Reached) (body : List ℕ) → IsCheckpointBody (with_below limit below log) body → IsCheckpointBody log body
 as-checkpoint limit below log body is =
@@ -79,23 +97,23 @@ as-checkpoint limit below log body is =
 module _ (image : Image) (s : Super) (block : ℕ) (below : Pages) (stand : StandBelow image s.checkpoint below) (limit : s.blocks ≤ 2 ^ 32) where
   -- Two walks lead to the same gate, but one knows only those pages that are not below the checkpoint. The other one leads on to a closed
   -- gate. So the first one does not lead on to damage.
-  walk-sound : (log : Reached) (bodies others : List (List ℕ)) (after other : Reached) → s.checkpoint ≤ log.gate → 2 * log.entries + 4 ≤ log.gate → LeadOn (with_below s.checkpoint below log) bodies after → AllByRecursion (MayStandUnder s.format) bodies → Extents image log.gate bodies after.gate → IsClosed image after.gate → after.gate < s.blocks → LeadOn log others other → Extents image log.gate others other.gate → IsDamagedNext image s other block → ⊥
-  walk-sound log [] [] after other behind counted leads formats x closed inside leads_too y damage =
+  walk-sound : (log : Reached) (bodies others : List (List ℕ)) (after other : Reached) → s.checkpoint ≤ log.gate → 2 * log.entries + 4 ≤ log.gate → LeadOn (with_below s.checkpoint below log) bodies after → AllByRecursion (MayStandUnder s.format) bodies → (has_seal s ≡ true → bodies ≡ []) → Extents image log.gate bodies after.gate → IsClosed image after.gate → after.gate < s.blocks → LeadOn log others other → Extents image log.gate others other.gate → IsDamagedNext image s other block → ⊥
+  walk-sound log [] [] after other behind counted leads formats sealed x closed inside leads_too y damage =
       let here : IsDamagedNext image s log block = subst (λ p. IsDamagedNext image s p block) (sym leads_too) damage in
-      closed (subst (IsOpen image) x (⊎_elim (λ d. d.is_open) (λ b. b.extent.is_open) here))
-  walk-sound log [] (c ∷ others) after other behind counted leads formats x closed inside leads_too y damage =
+      closed (subst (IsOpen image) x (next-open image s log block here))
+  walk-sound log [] (c ∷ others) after other behind counted leads formats sealed x closed inside leads_too y damage =
       closed (subst (IsOpen image) x y.0.1.is_open)
-  walk-sound log (b ∷ bodies) [] after other behind counted leads formats x closed inside leads_too y damage =
+  walk-sound log (b ∷ bodies) [] after other behind counted leads formats sealed x closed inside leads_too y damage =
       let le = Extents-le image (log.gate + need b) bodies after.gate x.1 in
       let least = least-extent image log.gate b x.0.0 x.0.1 in
       let here : IsDamagedNext image s log block = subst (λ p. IsDamagedNext image s p block) (sym leads_too) damage in
       elim leads [
         | inl n ↦
-            entry-undamaged image s block below stand log b x.0.0 x.0.1 formats.0 (omega (arith, le, inside)) n.0 n.1 n.2 (omega (arith, limit)) (omega (arith, counted, le, inside, limit)) n.3 here
+            entry-undamaged image s block below stand log b x.0.0 x.0.1 formats.0 (omega (arith, le, inside)) (unsealed-with s b bodies sealed) n.0 n.1 n.2 (omega (arith, limit)) (omega (arith, counted, le, inside, limit)) n.3 here
         | inr n ↦
-            checkpoint-undamaged image s block below stand log b x.0.0 x.0.1 formats.0 (omega (arith, le, inside)) (as-checkpoint s.checkpoint below log b n.0) here
+            checkpoint-undamaged image s block below stand log b x.0.0 x.0.1 formats.0 (omega (arith, le, inside)) (unsealed-with s b bodies sealed) (as-checkpoint s.checkpoint below log b n.0) here
       ]
-  walk-sound log (b ∷ bodies) (c ∷ others) after other behind counted leads formats x closed inside leads_too y damage =
+  walk-sound log (b ∷ bodies) (c ∷ others) after other behind counted leads formats sealed x closed inside leads_too y damage =
       let le = Extents-le image (log.gate + need b) bodies after.gate x.1 in
       let least = least-extent image log.gate b x.0.0 x.0.1 in
       let same = IsBody-one image (4096 * (log.gate + 1)) b c x.0.0 y.0.0 x.0.1.is_body y.0.1.is_body x.0.1.stored y.0.1.stored in
@@ -111,7 +129,7 @@ module _ (image : Image) (s : Super) (block : ℕ) (below : Pages) (stand : Stan
               let place : with_entry log m.0 m.1 m.2 c ≡ next = λ i. with_entry log (sym one.0 i) (sym one.1 i) (sym one.2 i) (sym same i) in
               let ahead = subst (λ p. LeadOn p bodies after) (entry-below s.checkpoint below log n.0 n.1 n.2 b behind) n.4 in
               let ahead_too = subst (λ p. LeadOn p others other) place m.4 in
-              walk-sound next bodies others after other (omega (arith, behind)) (omega (arith, counted, least)) ahead formats.1 x.1 closed inside ahead_too rest damage
+              walk-sound next bodies others after other (omega (arith, behind)) (omega (arith, counted, least)) ahead formats.1 (λ seal. absurd (some-bodies b bodies (sealed seal))) x.1 closed inside ahead_too rest damage
           | inr m ↦
               marks-apart log (log.entries + 1) n.0 n.1 (flat_map page_bytes n.2) b (next-content known n.0 n.1 n.2 b n.3 size) (subst (IsCheckpointBody log) (sym same) m.0)
         ]
@@ -120,7 +138,7 @@ module _ (image : Image) (s : Super) (block : ℕ) (below : Pages) (stand : Stan
               marks-apart known (log.entries + 1) m.0 m.1 (flat_map page_bytes m.2) c (next-content log m.0 m.1 m.2 c m.3 (subst (λ d. need d ≤ 2 ^ 64) same size)) (subst (IsCheckpointBody known) same n.0)
           | inr m ↦
               let ahead_too = subst (λ d. LeadOn (passed log d) others other) (sym same) m.1 in
-              walk-sound (passed log b) bodies others after other (omega (arith, behind)) (omega (arith, counted, least)) n.1 formats.1 x.1 closed inside ahead_too rest damage
+              walk-sound (passed log b) bodies others after other (omega (arith, behind)) (omega (arith, counted, least)) n.1 formats.1 (λ seal. absurd (some-bodies b bodies (sealed seal))) x.1 closed inside ahead_too rest damage
         ]
       ]
 
@@ -270,7 +288,7 @@ whole-sound size image s log chosen walk inside closed =
           let start = same-start image s limit tail walk.start d.walk.start walk.starts d.walk.starts in
           let leads = subst (λ p. LeadOn p walk.bodies log) start.same walk.leads in
           let extents = subst (λ (p : Reached). Extents image p.gate walk.bodies log.gate) start.same walk.extents in
-          walk-sound image s block walk.start.pages start.stand limit d.walk.start walk.bodies d.walk.bodies log d.log start.behind start.counted leads walk.formats extents closed inside d.walk.leads d.walk.extents d.damage)
+          walk-sound image s block walk.start.pages start.stand limit d.walk.start walk.bodies d.walk.bodies log d.log start.behind start.counted leads walk.formats walk.sealed extents closed inside d.walk.leads d.walk.extents d.damage)
           (subst (λ t. IsDamagedStore image t block) same other.2))
           damaged,
     )
@@ -289,6 +307,7 @@ walk-held size image blocks tail h st =
         extents = of.extents;
         leads = on.1;
         formats = formats-rest st.super.format of.before of.after (subst (AllByRecursion (MayStandUnder st.super.format)) of.parts st.formats);
+        sealed = λ seal. no-extents image st.super.tail of.after tail (subst (λ g. Extents image g of.after tail) of.gate of.extents) (st.sealed seal);
       },
     )
 

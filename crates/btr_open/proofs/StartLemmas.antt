@@ -104,6 +104,7 @@ read-first size image found l table none of empty least = record {
     extents = refl;
     leads = refl;
     formats = tt;
+    sealed = λ sealed. refl;
   };
   into = into-none l of empty least;
   stand = λ block low. tt;
@@ -293,7 +294,7 @@ module _ (size : ℕ) (image : Image) (found : Super) (l : Loader) (table : IsSu
   read-after = record {
     log = start;
     at = refl;
-    walk = record { start = start; starts = inr (some, start-is); bodies = []; extents = refl; leads = refl; formats = tt };
+    walk = record { start = start; starts = inr (some, start-is); bodies = []; extents = refl; leads = refl; formats = tt; sealed = λ sealed. refl };
     into = start-into;
     stand = loaded.fetched.stand;
     held = λ blocks tail h holds same.

@@ -1,11 +1,13 @@
 -- The body of the next entry, or of a checkpoint, breaks the format nowhere, and neither does its extent. What is before its gate is known
 -- but for pages below a limit, of which some are given that stand rightly there.
-use Rattle.std.specs.Prelude.{◌≡◌, ◌⊎◌, ℕ, ◌+◌, ◌*◌, ◌<◌, ◌≤◌, ◌^◌, List, [], ◌∷◌, ◌++◌, length, take, drop}
+use Rattle.std.specs.Prelude.{◌≡◌, ◌⊎◌, ℕ, ◌+◌, ◌*◌, ◌<◌, ◌≤◌, ◌^◌, false, List, [], ◌∷◌, ◌++◌, length, take, drop}
 use Rattle.std.specs.List.{flat_map, AllByRecursion}
 use Rattle.std.proofs.Common.{refl, sym, ◌∙◌, ap, subst, arith, ⊎_elim, length-append}
+use Rattle.std.proofs.lemmas.Bool.{false≢true}
 use Rattle.std.proofs.Math.Seq.{take-append_seam, take-append-add, drop-append-add}
 use Rattle.std.proofs.lemmas.List.Concat.{flat_map-cons}
 use Rattle.btr_disk.specs.Bytes.{Image, Has}
+use Rattle.btr_disk.specs.Gate.{IsOpen}
 use Rattle.btr_disk.proofs.ByteLemmas.{Has-one, Has-take}
 use Rattle.btr_log.specs.declared.head.Head.{Head}
 use Rattle.btr_log.specs.Head.{head_bytes, Spells}
@@ -14,6 +16,7 @@ use Rattle.btr_log.specs.Extents.{need, IsExtent}
 use Rattle.btr_log.proofs.ExtentLemmas.{IsBody-one, IsBody-blocks}
 use Rattle.btr_log.specs.Found.{SpellsAt, IsDamagedExtent}
 use Rattle.btr_super.specs.declared.superblock.Super.{Super}
+use Rattle.btr_super.specs.Super.{has_seal}
 use Rattle.btr_node.specs.Page.{page_bytes, Fits}
 use Rattle.btr_node.specs.declared.page.NodePage.{NodePage}
 use Rattle.btr_node.proofs.PageLemmas.{page-once}
@@ -24,13 +27,13 @@ use Rattle.btr_pages.proofs.BlockLemmas.{parts-one, length-pages, each-places}
 use Rattle.btr_pages.proofs.PagesLemmas.{right-next}
 use Rattle.btr_hist.specs.declared.entry.Entry.{Entry}
 use Rattle.btr_engine.specs.Body.{first_page, MayStandUnder}
-use Rattle.btr_engine.proofs.BodyLemmas.{format-body}
-use Rattle.btr_open.specs.Content.{HasContent}
+use Rattle.btr_open.specs.Content.{HasContent, MayHeadStand}
 use Rattle.btr_open.specs.Reached.{Reached, with_other_pages}
 use Rattle.btr_open.specs.RootTest.{MayLeadIn}
 use Rattle.btr_open.specs.Below.{StandBelow}
 use Rattle.btr_open.specs.Walk.{FitsRoll, IsNextBody, IsCheckpointBody, IsNoNextBody, IsForbiddenBody, pages_from}
-use Rattle.btr_open.specs.Walk.{HasWrongRoot, IsOutOfPlace, HasWrongNode, BreaksBody, IsBrokenExtent, IsDamagedNext}
+use Rattle.btr_open.specs.Walk.{HasWrongRoot, IsOutOfPlace, HasWrongNode, BreaksBody, IsOpenTail, IsDamagedGate, IsBrokenExtent, IsDamagedNext}
+use Rattle.btr_open.proofs.Formats.{head-may}
 use Rattle.btr_open.proofs.ContentLemmas.{content-one}
 use Rattle.btr_open.proofs.RootLemmas.{may-lead-in, pages-keep}
 use Rattle.btr_open.proofs.UniqueLemmas.{next-content, marks-apart}
@@ -42,7 +45,7 @@ with_below limit below log = with_other_pages log (pages_from limit below log)
 -- ---- pages of which some are known
 
 -- A page fills a block.
-page-length : (p : NodePage) → Fits p → length (page_bytes p) ≡ 4096
+pub page-length : (p : NodePage) → Fits p → length (page_bytes p) ≡ 4096
 page-length p fits =
     omega (arith, length-pages (p ∷ []) (each-places (p ∷ []) (fits, tt)), ap (length {A = ℕ}) (flat_map-cons page_bytes p []), length-append (page_bytes p) [])
 
@@ -202,28 +205,46 @@ module _ (image : Image) (gate : ℕ) (body : List ℕ) (head : Head) (extent : 
       (λ cause. ⊎_elim (λ none. none head (record { is_head = extent.is_body.spells.is_head; stored = head-stands })) (λ much. has-room blocks much.0 inside much.1 much.2) cause.2)
       damaged.damage
 
--- An extent of a log, inside the blocks of the store, whose format is no greater than that of the superblock, is damaged only if its body
--- breaks the format.
-extent-undamaged : (image : Image) (s : Super) (block : ℕ) (log : Reached) (body : List ℕ) (head : Head) → (BreaksBody image s.checkpoint log body block → ⊥) → IsExtent image log.gate body head → MayStandUnder s.format body → log.gate + need body < s.blocks → IsDamagedNext image s log block → ⊥
-extent-undamaged image s block log body head unbroken extent under inside damage =
+-- A gate that is damaged is open.
+pub gate-open : (image : Image) (s : Super) (gate block : ℕ) → IsDamagedGate image s gate block → IsOpen image gate
+gate-open image s gate block damage =
+    ⊎_elim (λ (t : IsOpenTail image s gate block). t.is_open) (λ (d : (has_seal s ≡ false) × IsDamagedExtent image s.blocks gate block). d.1.is_open) damage
+
+-- So is one at which a log is damaged.
+pub next-open : (image : Image) (s : Super) (log : Reached) (block : ℕ) → IsDamagedNext image s log block → IsOpen image log.gate
+next-open image s log block damage =
+    ⊎_elim (gate-open image s log.gate block) (λ (b : IsBrokenExtent (λ e root. FitsRoll log.roll e) image s log block). b.extent.is_open) damage
+
+-- In a store that is not sealed the gate of an extent inside the blocks of the store is not damaged.
+gate-undamaged : (image : Image) (s : Super) (gate block : ℕ) (body : List ℕ) (head : Head) → has_seal s ≡ false → IsExtent image gate body head → gate + need body < s.blocks → IsDamagedGate image s gate block → ⊥
+gate-undamaged image s gate block body head unsealed extent inside damage =
     ⊎_elim
-    (extent-unbroken image log.gate body head extent s.blocks block inside)
+    (λ (t : IsOpenTail image s gate block). false≢true (sym unsealed ∙ t.sealed))
+    (λ (d : (has_seal s ≡ false) × IsDamagedExtent image s.blocks gate block). extent-unbroken image gate body head extent s.blocks block inside d.1)
+    damage
+
+-- In a store that is not sealed an extent of a log, inside the blocks of the store, that may stand under the superblock is damaged only if
+-- its body breaks the format.
+extent-undamaged : (image : Image) (s : Super) (block : ℕ) (log : Reached) (body : List ℕ) (head : Head) → has_seal s ≡ false → (BreaksBody image s.checkpoint log body block → ⊥) → IsExtent image log.gate body head → MayStandUnder s.format body → log.gate + need body < s.blocks → IsDamagedNext image s log block → ⊥
+extent-undamaged image s block log body head unsealed unbroken extent under inside damage =
+    ⊎_elim
+    (gate-undamaged image s log.gate block body head unsealed extent inside)
     (λ (b : IsBrokenExtent (λ e root. FitsRoll log.roll e) image s log block).
     let same = one-body image log.gate body head extent b.body b.head b.extent in
     let heads = head-of-body image log.gate body head extent b.body b.head b.extent in
     ⊎_elim
-    (λ above. let more = above.0 in omega (arith, more, ap (λ (h : Head). h.format) heads, format-body body head extent.is_body, under))
+    (λ above. above.0 (subst (MayHeadStand s.format) (sym heads) (head-may s.format body head extent.is_body under)))
     (λ breaks. unbroken (subst (λ c. BreaksBody image s.checkpoint log c block) same breaks.1))
     b.breaks)
     damage
 
-module _ (image : Image) (s : Super) (block : ℕ) (below : Pages) (stand : StandBelow image s.checkpoint below) (log : Reached) (body : List ℕ) (head : Head) (extent : IsExtent image log.gate body head) (under : MayStandUnder s.format body) (inside : log.gate + need body < s.blocks) where
+module _ (image : Image) (s : Super) (block : ℕ) (below : Pages) (stand : StandBelow image s.checkpoint below) (log : Reached) (body : List ℕ) (head : Head) (extent : IsExtent image log.gate body head) (under : MayStandUnder s.format body) (inside : log.gate + need body < s.blocks) (unsealed : has_seal s ≡ false) where
   -- The extent of the next entry is not damaged.
   pub entry-undamaged : (e : Entry) (root : ℕ) (pages : List NodePage) → s.blocks ≤ 2 ^ 64 → log.entries + 1 < 2 ^ 64 → IsNextBody (with_below s.checkpoint below log) e root pages body → IsDamagedNext image s log block → ⊥
   entry-undamaged e root pages limit few is damage =
-      extent-undamaged image s block log body head (body-unbroken image s.checkpoint below stand log e root pages body block few (omega (arith, limit, inside)) is) extent under inside damage
+      extent-undamaged image s block log body head unsealed (body-unbroken image s.checkpoint below stand log e root pages body block few (omega (arith, limit, inside)) is) extent under inside damage
 
   -- The extent of a checkpoint of what is before it is not damaged.
   pub checkpoint-undamaged : IsCheckpointBody log body → IsDamagedNext image s log block → ⊥
   checkpoint-undamaged is damage =
-      extent-undamaged image s block log body head (checkpoint-unbroken image s.checkpoint below stand log body block is) extent under inside damage
+      extent-undamaged image s block log body head unsealed (checkpoint-unbroken image s.checkpoint below stand log body block is) extent under inside damage

@@ -29,7 +29,7 @@ use Rattle.btr_open.proofs.ContentLemmas.{content_head, content-parts, checkpoin
 -- ---- the body of a checkpoint
 
 -- The head of a checkpoint keeps the grammar, if its numbers fit.
-IsHead-checkpoint : (format number length : ℕ) → (1 ≤ format) × (format ≤ 3) → number < 2 ^ 64 → length < 2 ^ 64 → IsHead (checkpoint_head format number length)
+IsHead-checkpoint : (format number length : ℕ) → (1 ≤ format) × (format ≤ 4) → number < 2 ^ 64 → length < 2 ^ 64 → IsHead (checkpoint_head format number length)
 IsHead-checkpoint format number length known few short = record {
   kind = inr (refl, refl, refl);
   format = known;
@@ -46,7 +46,7 @@ need-roll format number roll =
     omega (arith, length-append (head_bytes head) (roll_bytes format roll ++ zeros (padding size)), length-append (roll_bytes format roll) (zeros (padding size)), length-head_bytes head, length-zeros (padding size))
 
 -- A body is that of one checkpoint: it has one number, and one list of streams.
-roll-one : (v w m n : ℕ) (a b : List RollStreamValue) → (1 ≤ v) × (v ≤ 3) → (1 ≤ w) × (w ≤ 3) → m < 2 ^ 64 → n < 2 ^ 64 → length (roll_bytes v a) < 2 ^ 64 → length (roll_bytes w b) < 2 ^ 64 → RollFits v a → RollFits w b → body_of_roll v m a ≡ body_of_roll w n b → (m ≡ n) × (a ≡ b)
+roll-one : (v w m n : ℕ) (a b : List RollStreamValue) → (1 ≤ v) × (v ≤ 4) → (1 ≤ w) × (w ≤ 4) → m < 2 ^ 64 → n < 2 ^ 64 → length (roll_bytes v a) < 2 ^ 64 → length (roll_bytes w b) < 2 ^ 64 → RollFits v a → RollFits w b → body_of_roll v m a ≡ body_of_roll w n b → (m ≡ n) × (a ≡ b)
 unfolding body_of_roll
 roll-one v w m n a b known knows few fewer short shorter h k same =
     let x = roll_bytes v a in

@@ -1,13 +1,14 @@
 -- A walk over a log stays one with wider pages below the block from which its pages are read one by one, and with one extent more. What
 -- breaks the format does so by each rule that lets the entry follow.
-use Rattle.std.specs.Prelude.{◌≡◌, ◌⊎◌, ℕ, ◌+◌, ◌<◌, ◌≤◌, List, [], ◌∷◌, ◌++◌, slice_get, Some, None, IfSome, IsNone}
+use Rattle.std.specs.Prelude.{◌≡◌, ◌⊎◌, ℕ, ◌+◌, ◌<◌, ◌≤◌, false, List, [], ◌∷◌, ◌++◌, slice_get, Some, None, IfSome, IsNone}
 use Rattle.std.proofs.Common.{refl, sym, ◌∙◌, ap, subst, arith, inl, inr}
-use Rattle.std.proofs.lemmas.Bool.{cases_lt}
+use Rattle.std.proofs.lemmas.Bool.{cases_lt, false≢true}
 use Rattle.btr_disk.specs.Bytes.{Image}
 use Rattle.btr_log.specs.declared.head.Head.{Head}
 use Rattle.btr_log.specs.Extents.{need, IsExtent, Extents}
 use Rattle.btr_log.proofs.ExtentLemmas.{Extents-push}
 use Rattle.btr_super.specs.declared.superblock.Super.{Super}
+use Rattle.btr_super.specs.Super.{has_seal}
 use Rattle.btr_node.specs.declared.page.NodePage.{NodePage}
 use Rattle.btr_node.specs.Page.{slots_of_page}
 use Rattle.btr_tree.specs.PageNodes.{Pages}
@@ -18,13 +19,15 @@ use Rattle.btr_hist.specs.declared.entry.Entry.{Entry}
 use Rattle.btr_hist.specs.declared.entry.Entry.TheVariants.{Create, Define, Commit, Distillate, Retire}
 use Rattle.btr_roll.specs.Roll.{RollStreamValue}
 use Rattle.btr_engine.specs.Body.{first_page}
-use Rattle.btr_engine.proofs.BodyLemmas.{stands-under, formats-push}
+use Rattle.btr_engine.proofs.BodyLemmas.{formats-push}
+use Rattle.btr_open.specs.Content.{MayHeadStand}
 use Rattle.btr_open.specs.Reached.{Reached, with_entry, passed, with_other_pages}
 use Rattle.btr_open.specs.RootTest.{MayLead}
 use Rattle.btr_open.specs.Below.{StandBelow, IsStoredPage, pages_joined, AreWider}
 use Rattle.btr_open.specs.Start.{HaveRootPages, IsCheckpointStart}
 use Rattle.btr_open.specs.Walk.{IsNextBody, LeadOn, IsWalk, HasWrongRoot, HasWrongNode}
 use Rattle.btr_open.specs.Seen.{Seen, nothing_seen, EntryRule, with_seen, with_mark, LeadOnBy, KeepsRule}
+use Rattle.btr_open.proofs.Formats.{body-may}
 use Rattle.btr_open.proofs.BelowLemmas.{stand-pages_joined, pages_joined-below, pages_joined-from, pages_joined-is, pages_joined-with}
 
 -- ---- another rule
@@ -267,14 +270,15 @@ walk-wider May image s log seen wider is wide stand =
               extents = walk.extents;
               leads = lead-plain May (with_other_pages start others) nothing_seen walk.bodies (with_other_pages log wider) seen leads;
               formats = walk.formats;
+              sealed = walk.sealed;
             };
             keeps = leads;
           }
     ]
 
--- A walk with one extent more.
-pub walk-push : (May : EntryRule) (image : Image) (s : Super) (log next : Reached) (seen all : Seen) (body : List ℕ) (head : Head) → KeepingWalk May image s log seen → IsExtent image log.gate body head → head.format ≤ s.format → LeadOnBy May log seen (body ∷ []) next all → KeepingWalk May image s next all
-walk-push May image s log next seen all body head is extent under leads =
+-- A walk in a store that is not sealed, with one extent more.
+pub walk-push : (May : EntryRule) (image : Image) (s : Super) (log next : Reached) (seen all : Seen) (body : List ℕ) (head : Head) → KeepingWalk May image s log seen → IsExtent image log.gate body head → has_seal s ≡ false → MayHeadStand s.format head → LeadOnBy May log seen (body ∷ []) next all → KeepingWalk May image s next all
+walk-push May image s log next seen all body head is extent unsealed under leads =
     let walk = is.walk in
     let on = lead-append May walk.start nothing_seen walk.bodies log seen (body ∷ []) next all is.keeps leads in
     let one = lead-plain May log seen (body ∷ []) next all leads in
@@ -285,7 +289,8 @@ walk-push May image s log next seen all body head is extent under leads =
         bodies = walk.bodies ++ body ∷ [];
         extents = subst (Extents image walk.start.gate (walk.bodies ++ body ∷ [])) (sym (lead-gate log body next one)) (Extents-push image walk.start.gate walk.bodies log.gate body head walk.extents extent);
         leads = lead-plain May walk.start nothing_seen (walk.bodies ++ body ∷ []) next all on;
-        formats = formats-push s.format walk.bodies body walk.formats (stands-under s.format body head extent.is_body under);
+        formats = formats-push s.format walk.bodies body walk.formats (body-may s.format body head extent.is_body under);
+        sealed = λ sealed. absurd (false≢true (sym unsealed ∙ sealed));
       };
       keeps = on;
     }

@@ -30,3 +30,6 @@ pub mod Loading
 pub mod LogWalk
 -- what the functions promise that read a checkpoint
 pub mod Checkpoint
+-- a sealed store as a shelf: its streams with the roots of their versions, and its opening
+pub mod Shelf
+pub mod Sealed

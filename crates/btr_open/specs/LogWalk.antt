@@ -1,13 +1,15 @@
 -- What holds of a walk over the log of a superblock between its steps, and what a step does.
-use Rattle.std.specs.Prelude.{◌≡◌, ℕ, ◌+◌, ◌≤◌, List, []}
+use Rattle.std.specs.Prelude.{◌≡◌, ℕ, ◌+◌, ◌≤◌, false, List, [], Result, Ok, Err, Option, None, Some, IfSome}
 use Rattle.btr_disk.specs.declared.disk.Disk.{Ghosts}
 use Rattle.btr_disk.specs.Bytes.{Image}
 use Rattle.btr_disk.specs.Gate.{IsClosed}
 use Rattle.btr_log.specs.declared.head.Head.{Head}
+use Rattle.btr_log.specs.declared.found.ExtentFault.{ExtentFault}
+use Rattle.btr_log.specs.declared.found.ExtentFault.TheVariants.{Damaged, Fault, Want}
 use Rattle.btr_log.specs.Log.{log_device, log_blocks}
 use Rattle.btr_log.specs.Piece.{IsPieceOf, bytes_at}
-use Rattle.btr_log.specs.Ahead.{HoldsExtent}
-use Rattle.btr_super.specs.Super.{IsSuper}
+use Rattle.btr_log.specs.Ahead.{HoldsExtent, MatchesPiece}
+use Rattle.btr_super.specs.Super.{has_seal, IsSuper}
 use Rattle.btr_streams.specs.Board.{IsBoardOf}
 use Rattle.btr_open.specs.declared.judge.Judge.{Ghosts as Judging}
 use Rattle.btr_open.specs.declared.loading.Loader.{Loader}
@@ -15,6 +17,14 @@ use Rattle.btr_open.specs.declared.log_walk.LogWalk.{LogWalk}
 use Rattle.btr_open.specs.Place.{IsPlaceIn}
 use Rattle.btr_open.specs.Reading.{ReadsLog, WasReadTo, WasJudged}
 use Rattle.btr_open.specs.Loading.{IsReaderOf, ReadsThrough, ReadsBody, BreaksAfter}
+
+-- What was found at a gate says that the gate is open.
+abbrev pub SaysOpen : Result (Option Head) ExtentFault → Type 0
+SaysOpen (Ok None) = ⊥
+SaysOpen (Ok (Some head)) = Unit {0}
+SaysOpen (Err (Damaged block)) = Unit {0}
+SaysOpen (Err Fault) = ⊥
+SaysOpen (Err Want) = ⊥
 
 module _ {D : Type 0} {disk : Ghosts D} where
   -- The device of a walk.
@@ -53,6 +63,15 @@ module _ {D : Type 0} {disk : Ghosts D} where
   -- The piece holds the extent at the walk's gate, which has this head.
   abbrev pub HoldsNext : LogWalk D disk → Head → Type 0
   HoldsNext w head = HoldsExtent (log_blocks w.log) w.place.gate w.piece head
+
+  -- What is found at the walk's gate was read ahead, and is what the device has: a closed gate, or the extent with this head, which the
+  -- piece holds. An extent is found only in a store that is not sealed. Nothing more was read.
+  pub record IsAhead (old new : LogWalk D disk) (found_there : Option Head) : Type 0 where
+    pub place : new.place ≡ old.place
+    pub loader : new.loader ≡ old.loader
+    pub holds : IfSome found_there (HoldsNext new)
+    pub unsealed : IfSome found_there (λ head. has_seal old.found ≡ false)
+    pub matches : disk.is_observable → MatchesPiece (walked_bytes old) old.place.gate new.piece found_there
 
   -- The walk is after the extent at the gate where it was. An extent has at least two blocks, and one entry or none.
   pub record IsAfterExtent (old new : LogWalk D disk) : Type 0 where

@@ -1,6 +1,6 @@
 -- What was seen of a log as it was read from its start: the entries, the roots that their extents say, and the checkpoints. And a walk
 -- whose entries keep a rule after those before them.
-use Rattle.std.specs.Prelude.{◌≡◌, ◌⊎◌, ℕ, ◌+◌, ◌<◌, Bool, true, false, List, [], ◌∷◌, ◌++◌, IsSome}
+use Rattle.std.specs.Prelude.{◌≡◌, ◌⊎◌, ℕ, ◌+◌, ◌<◌, min, Bool, true, false, List, [], ◌∷◌, ◌++◌, IsSome}
 use Rattle.btr_disk.specs.Bytes.{Image}
 use Rattle.btr_disk.specs.Gate.{IsClosed}
 use Rattle.btr_log.specs.Extents.{need, first_gate}
@@ -80,9 +80,10 @@ pub record IsDamagedLogBy (May : EntryRule) (image : Image) (s : Super) (block :
 
 -- ---- a log that was read whole
 
--- The superblock as it would be if the log were read from its first gate.
+-- The superblock as it would be if the log were read from its first gate. It has no seal, or no extent might follow that gate: for format 4
+-- it has 3, under which the same bodies may stand.
 abbrev pub first_reading : Super → Super
-first_reading s = record { seq = 1; side = s.side; blocks = s.blocks; tail = first_gate; checkpoint = 0; format = s.format }
+first_reading s = record { seq = 1; side = s.side; blocks = s.blocks; tail = first_gate; checkpoint = 0; format = min s.format 3 }
 
 -- The log of a superblock was read whole: a walk leads to the closed gate at its end, and its entries keep the rule. The judge has seen
 -- them, and the trees are those of all pages of the log.

@@ -26,10 +26,10 @@ pub record IsMadeWithin (entries : ℕ) (s : RollStreamValue) : Type 0 where
   pub versions : AllByRecursion (λ v. (1 ≤ v.entry) × (v.entry ≤ entries)) s.versions
 
 -- The body is that of a checkpoint at a gate, after this number of entries, with these streams and their versions. Each entry has an extent
--- of two blocks or more before the gate, and made what the streams say. The format of the body is 1 to 3.
+-- of two blocks or more before the gate, and made what the streams say. The format of the body is 1 to 4.
 pub record HasRoll (gate entries : ℕ) (roll : List RollStreamValue) (body : List ℕ) : Type 0 where
   pub format : ℕ
-  pub known : (1 ≤ format) × (format ≤ 3)
+  pub known : (1 ≤ format) × (format ≤ 4)
   pub is_roll : IsRoll format roll
   pub bound : 2 * entries + 4 ≤ gate
   pub made : AllByRecursion (IsMadeWithin entries) roll
@@ -54,8 +54,8 @@ abbrev pub HaveRootPages : Pages → List RollStreamValue → Type 0
 HaveRootPages pages roll =
     (stream k : ℕ) (v : RollVersion) → HasVersionAt roll stream k v → (v.root ≡ 0) ⊎ HasRootPage pages stream (k + 1) v.root
 
--- What is before the superblock's tail, as its checkpoint says, whose format is no greater than that of the superblock. No entry was read.
--- The pages to which the roots lead stand rightly below the checkpoint.
+-- What is before the superblock's tail, as its checkpoint says, whose body may stand under the superblock. No entry was read. The pages to
+-- which the roots lead stand rightly below the checkpoint.
 pub record IsCheckpointStart (image : Image) (s : Super) (start : Reached) : Type 0 where
   pub body : List ℕ
   pub extent : IsCheckpointExtent image s body
@@ -84,8 +84,8 @@ pub record IsNoCheckpoint (image : Image) (s : Super) (block : ℕ) : Type 0 whe
       × ((head.kind ≡ 2 → ⊥) ⊎ (s.tail ≡ s.checkpoint + need body → ⊥)))
   pub of : block ≡ 2 * s.side + 1
 
--- The body of the checkpoint has a greater format than the superblock, or no streams that a checkpoint can have. Its first block breaks the
--- format.
+-- The body of the checkpoint may not stand under the superblock, since its format is greater, or it has no streams that a checkpoint can
+-- have. Its first block breaks the format.
 pub record HasNoRoll (image : Image) (s : Super) (block : ℕ) : Type 0 where
   pub body : List ℕ
   pub extent : IsCheckpointExtent image s body

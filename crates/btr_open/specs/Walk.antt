@@ -1,13 +1,15 @@
 -- A walk over the log of a device: the extents from the start to a gate, each of which may follow those before it; and the block after
 -- them that breaks the format.
-use Rattle.std.specs.Prelude.{◌≡◌, ◌⊎◌, ℕ, ◌+◌, ◌*◌, ◌^◌, ◌<◌, ◌≤◌, List, [], ◌∷◌, take, length, None}
+use Rattle.std.specs.Prelude.{◌≡◌, ◌⊎◌, ℕ, ◌+◌, ◌*◌, ◌^◌, ◌<◌, ◌≤◌, true, false, List, [], ◌∷◌, take, length, None}
 use Rattle.std.specs.List.{flat_map, AllByRecursion}
 use Rattle.btr_disk.specs.Bytes.{Image}
+use Rattle.btr_disk.specs.Gate.{IsOpen}
 use Rattle.btr_log.specs.declared.head.Head.{Head}
 use Rattle.btr_log.specs.Head.{content_blocks}
 use Rattle.btr_log.specs.Extents.{need, IsExtent, Extents}
 use Rattle.btr_log.specs.Found.{IsDamagedExtent}
 use Rattle.btr_super.specs.declared.superblock.Super.{Super}
+use Rattle.btr_super.specs.Super.{has_seal}
 use Rattle.btr_node.specs.Page.{page_bytes, Spells, Fits}
 use Rattle.btr_node.specs.declared.page.NodePage.{NodePage}
 use Rattle.btr_tree.specs.PageNodes.{Pages}
@@ -19,7 +21,7 @@ use Rattle.btr_roll.specs.Roll.{RollStreamValue, roll_bytes}
 use Rattle.btr_engine.specs.Body.{first_page, body_of, MayStandUnder, MayHavePages}
 use Rattle.btr_engine.specs.Mark.{body_of_roll}
 use Rattle.btr_streams.specs.Outline.{outline_in, refusal}
-use Rattle.btr_open.specs.Content.{HasContent, HasNoContent}
+use Rattle.btr_open.specs.Content.{HasContent, HasNoContent, MayHeadStand}
 use Rattle.btr_open.specs.Reached.{Reached, pages_with, with_entry, passed}
 use Rattle.btr_open.specs.RootTest.{MayLead, MayLeadIn, IsNamedRoot}
 use Rattle.btr_open.specs.Below.{StandBelow, pages_joined}
@@ -43,12 +45,12 @@ pub record IsNextBody (before : Reached) (e : Entry) (root : ℕ) (pages : List 
   pub may_lead : MayLead (pages_with before e pages) before.roll e root
   pub allowed : FitsRoll before.roll e
 
--- The body is that of a checkpoint: it has the number of entries, and the streams with their versions. Its format is 1 to 3, and no less
+-- The body is that of a checkpoint: it has the number of entries, and the streams with their versions. Its format is 1 to 4, and no less
 -- than that of an entry that was read.
 pub record IsCheckpointBody (before : Reached) (body : List ℕ) : Type 0 where
   pub format : ℕ
   pub from : (1 ≤ format) × (before.least ≤ format)
-  pub most : format ≤ 3
+  pub most : format ≤ 4
   pub room : content_blocks (length (roll_bytes format before.roll)) < 2 ^ 64
   pub bytes : body ≡ body_of_roll format before.entries before.roll
 
@@ -60,8 +62,8 @@ LeadOn before (body ∷ bodies) after =
     × LeadOn (with_entry before e root pages body) bodies after)
     ⊎ (IsCheckpointBody before body × LeadOn (passed before body) bodies after)
 
--- From the start that the superblock names, extents follow one another and lead to this gate and what is before it. No body has a greater
--- format than the superblock.
+-- From the start that the superblock names, extents follow one another and lead to this gate and what is before it. Each body may stand
+-- under the superblock. In a sealed store no extent follows the start, so the gate is the superblock's tail.
 pub record IsWalk (image : Image) (s : Super) (log : Reached) : Type 0 where
   pub start : Reached
   pub starts : IsReadingStart image s start
@@ -69,6 +71,7 @@ pub record IsWalk (image : Image) (s : Super) (log : Reached) : Type 0 where
   pub extents : Extents image start.gate bodies log.gate
   pub leads : LeadOn start bodies log
   pub formats : AllByRecursion (MayStandUnder s.format) bodies
+  pub sealed : has_seal s ≡ true → bodies ≡ []
 
 -- ---- a body that breaks the format
 
@@ -149,25 +152,39 @@ BreaksBody image limit log body block = BreaksBodyBy (λ e root. FitsRoll log.ro
 
 -- ---- a log that breaks the format
 
--- The format of a body with this head, after the gate at this block, is greater than `limit`. The body's first block breaks the format.
-abbrev pub IsAboveFormat : ℕ → ℕ → Head → ℕ → Type 0
-IsAboveFormat limit gate head block = (limit < head.format) × (block ≡ gate + 1)
+-- The store is sealed, but the gate at its tail is open. The gate's own block breaks the format.
+pub record IsOpenTail (image : Image) (s : Super) (gate block : ℕ) : Type 0 where
+  pub sealed : has_seal s ≡ true
+  pub is_open : IsOpen image gate
+  pub first : block ≡ gate
 
--- The gate is open, and there is an extent inside the log's blocks whose body breaks the format: its format is greater than that of the
--- superblock; or it is not, and the body breaks the format.
+-- The gate is open. In a sealed store this block is the gate's own. In another store it breaks the format of an extent, whatever the
+-- content is.
+abbrev pub IsDamagedGate : Image → Super → ℕ → ℕ → Type 0
+IsDamagedGate image s gate block =
+    IsOpenTail image s gate block ⊎ ((has_seal s ≡ false) × IsDamagedExtent image s.blocks gate block)
+
+-- Under a superblock of the format `limit` a body with this head, after the gate at this block, may not be in the log, since its format is
+-- greater. The body's first block breaks the format.
+abbrev pub IsAboveFormat : ℕ → ℕ → Head → ℕ → Type 0
+IsAboveFormat limit gate head block = (MayHeadStand limit head → ⊥) × (block ≡ gate + 1)
+
+-- The store is not sealed, the gate is open, and there is an extent inside the log's blocks whose body breaks the format: its format is
+-- greater than may stand under the superblock; or it is not, and the body breaks the format.
 pub record IsBrokenExtent (May : Entry → ℕ → Type 0) (image : Image) (s : Super) (log : Reached) (block : ℕ) : Type 0 where
+  pub unsealed : has_seal s ≡ false
   pub head : Head
   pub body : List ℕ
   pub extent : IsExtent image log.gate body head
   pub inside : log.gate + need body < s.blocks
   pub breaks :
       IsAboveFormat s.format log.gate head block
-      ⊎ ((head.format ≤ s.format) × BreaksBodyBy May image s.checkpoint log body block)
+      ⊎ (MayHeadStand s.format head × BreaksBodyBy May image s.checkpoint log body block)
 
--- The gate is open, but this block is the first one that breaks the format of an extent with the next entry or with a checkpoint, if this
--- lets an entry follow.
+-- The gate is open, but this block is the first one that breaks the format there, if this lets an entry follow: that of the gate itself in
+-- a sealed store, or in another one that of an extent with the next entry or with a checkpoint.
 abbrev pub IsDamagedNextBy : (Entry → ℕ → Type 0) → Image → Super → Reached → ℕ → Type 0
-IsDamagedNextBy May image s log block = IsDamagedExtent image s.blocks log.gate block ⊎ IsBrokenExtent May image s log block
+IsDamagedNextBy May image s log block = IsDamagedGate image s log.gate block ⊎ IsBrokenExtent May image s log block
 
 -- The same, as an opening tests it.
 abbrev pub IsDamagedNext : Image → Super → Reached → ℕ → Type 0

@@ -1,5 +1,5 @@
 //! The reading of a whole log from its first gate, with a judge.
-ghost use Rattle.std.specs.Prelude.{IfErr, IfOk};
+ghost use Rattle.std.specs.Prelude.{◌≡◌, IfErr, IfOk};
 ghost use Rattle.btr_super.specs.Super.{IsSuper};
 ghost use Rattle.btr_log.specs.Reads.{OnlyReads};
 ghost use Rattle.btr_open.specs.Reads.{PartCause};
@@ -11,7 +11,7 @@ use crate::log_walk::LogWalk;
 use crate::opening::OpenCause;
 use btr_disk::Disk;
 use btr_pages::Trees;
-use btr_super::{LOG_START, Super};
+use btr_super::{LOG_START, SEALED_FORMAT, Super};
 use std::alloc::Global;
 
 /// A log that was read whole.
@@ -25,7 +25,8 @@ pub struct WholeLog {
 }
 
 /// Reads the log of this superblock from its first gate, whatever checkpoint the superblock names, and has each entry judged. It syncs and
-/// writes nothing.
+/// writes nothing. The log of a sealed store is read on to its first closed gate, as that of any other: whether this is the tail that the
+/// superblock names is not tested.
 ///
 /// Each extent is tested as [`open_store`](crate::open_store) does it; a checkpoint is compared with what is before it. An entry that may
 /// follow but that the judge does not let follow breaks the format in the first block of its body. The device is returned in each case.
@@ -46,15 +47,7 @@ pub fn read_judged<D: Disk, J: Judge>(
     ensures cause { IfErr result.1
         (PartCause ⟦<D as Disk>⟧ (IsDamagedLogBy J.may (D.contents disk) (first_reading found)) disk result.0) }
 {
-    let first = Super {
-        seq: 1,
-        side: found.side,
-        blocks: found.blocks,
-        tail: LOG_START,
-        checkpoint: 0,
-        format: found.format,
-    };
-    let mut walk = LogWalk::new(alloc, disk, first);
+    let mut walk = LogWalk::new(alloc, disk, first_reading(found));
     let read = walk.read_log(judge);
     let LogWalk {
         log,
@@ -70,5 +63,19 @@ pub fn read_judged<D: Disk, J: Judge>(
             (disk, Ok(WholeLog { nodes, tail }))
         }
         Err(cause) => (disk, Err(cause)),
+    }
+}
+
+/// The superblock as it would be if the log were read from its first gate, in a store that is not sealed.
+fn first_reading(found: Super) -> Super
+    ensures { result ≡ first_reading found }
+{
+    Super {
+        seq: 1,
+        side: found.side,
+        blocks: found.blocks,
+        tail: LOG_START,
+        checkpoint: 0,
+        format: found.format.min(SEALED_FORMAT - 1),
     }
 }

@@ -30,6 +30,10 @@ mod loading;
 mod opening;
 // the reading of a whole log, with a judge
 mod judged;
+// a sealed store as a shelf: its opening, and its answers
+mod sealed;
+mod shelf;
+mod shelf_rows;
 // what holds of all devices
 mod laws;
 
@@ -40,3 +44,5 @@ pub use laws::{
     empty_store_holds_nothing, held_is_sound, one_history_is_held, outline_and_points_decide,
 };
 pub use opening::{OpenCause, OpenFault, open_store};
+pub use sealed::{SealedFault, open_sealed};
+pub use shelf::Shelf;

@@ -1,10 +1,13 @@
 //! A walk over the log of a superblock: from the start that the superblock names, extent by extent, up to the first closed gate.
-ghost use Rattle.std.specs.Prelude.{◌≡◌, IfErr, IfNone, IfOk, IfSome, OnOk, false, true};
+ghost use Rattle.std.specs.Prelude.{◌≡◌, ◌↔◌, ◌<◌, IfErr, IfNone, IfOk, IfSome, IsTrue, OnOk, false, true};
 ghost use Rattle.btr_log.specs.Log.{log_device as disk_of};
 ghost use Rattle.btr_super.specs.Super.{IsSuper};
-ghost use Rattle.btr_open.specs.LogWalk.{IsNewWalk, WalksOn, IsWalked, IsAfterExtent, IsAtEnd, WasWalked};
+ghost use Rattle.btr_open.specs.Content.{MayHeadStand};
+ghost use Rattle.btr_open.specs.Walk.{IsDamagedGate};
+ghost use Rattle.btr_open.specs.LogWalk.{IsWalkOver, IsNewWalk, WalksOn, IsAhead, IsWalked, IsAfterExtent, IsAtEnd, WasWalked, SaysOpen};
 ghost use Rattle.btr_open.specs.LogWalk.{HoldsNext, ReadsExtent, BreaksExtent};
 ghost use Rattle.btr_open.specs.Reading.{LogCause, BlockCause};
+ghost use Rattle.btr_open.specs.Reads.{PartCause};
 ghost use Rattle.btr_open.specs.Seen.{nothing_seen};
 
 use crate::below::BlockReader;
@@ -13,8 +16,8 @@ use crate::loading::{Loader, node_blocks};
 use crate::opening::{OpenCause, cause_of};
 use crate::place::Place;
 use btr_disk::Disk;
-use btr_log::{Head, Log, Piece};
-use btr_super::Super;
+use btr_log::{ExtentFault, Head, Log, Piece};
+use btr_super::{SEALED_FORMAT, Super};
 use std::alloc::Global;
 
 /// A walk over the log of a superblock on a device. It only reads.
@@ -78,7 +81,7 @@ impl<D: Disk> LogWalk<D> {
     }
 
     /// Reads the extent at the gate, and goes to the gate after it. It returns whether there is one: `false` exactly if the gate is closed.
-    /// An extent of a greater format than the superblock's is damaged in the first block of its body, before its content is decoded.
+    /// An extent of a greater format than may be in the log is damaged in the first block of its body, before its content is decoded.
     fn read_next<J: Judge>(&mut self, judge: &mut J) -> Result<bool, OpenCause>
         requires walked { IsWalked ⟦<J as Judge>⟧ self.old judge.old }
         ensures walks { WalksOn self.old self.new }
@@ -87,15 +90,11 @@ impl<D: Disk> LogWalk<D> {
         ensures end { IfOk result (λ more. more ≡ false → IsAtEnd ⟦<J as Judge>⟧ self.old self.new judge.old judge.new) }
         ensures cause { IfErr result (LogCause ⟦<D as Disk>⟧ ⟦<J as Judge>⟧ self.old.found (disk_of self.old.log) (disk_of self.new.log)) }
     {
-        let gate = self.place.gate;
-        let found_there = match self.log.read_ahead(gate, &mut self.piece) {
-            Ok(found_there) => found_there,
-            Err(fault) => return Err(cause_of(fault)),
-        };
-        let Some(head) = found_there else {
+        let Some(head) = self.find_next()? else {
             return Ok(false);
         };
-        if head.format > self.found.format {
+        let gate = self.place.gate;
+        if !may_stand(&self.found, &head) {
             return Err(OpenCause::Damaged { block: gate + 1 });
         }
         let next = gate + head.n + 1;
@@ -105,6 +104,28 @@ impl<D: Disk> LogWalk<D> {
                 self.place = self.place.after(next);
                 Ok(true)
             }
+        }
+    }
+
+    /// Reads ahead at the gate, and returns the head of the extent there, or `None` if the gate is closed. A sealed store ends at the tail
+    /// that its superblock names: if the gate there is open, its own block is damaged.
+    fn find_next(&mut self) -> Result<Option<Head>, OpenCause>
+        requires over { IsWalkOver self.old }
+        requires gate { self.old.place.gate < self.old.found.blocks }
+        ensures walks { WalksOn self.old self.new }
+        ensures found { IfOk result (IsAhead self.old self.new) }
+        ensures cause { IfErr result (PartCause ⟦<D as Disk>⟧
+            (IsDamagedGate (D.contents (disk_of self.old.log)) self.old.found self.old.place.gate)
+            (disk_of self.old.log) (disk_of self.new.log)) }
+    {
+        let gate = self.place.gate;
+        let found_there = self.log.read_ahead(gate, &mut self.piece);
+        if self.found.is_sealed() && is_open(&found_there) {
+            return Err(OpenCause::Damaged { block: gate });
+        }
+        match found_there {
+            Ok(head) => Ok(head),
+            Err(fault) => Err(cause_of(fault)),
         }
     }
 
@@ -135,4 +156,20 @@ impl<D: Disk> LogWalk<D> {
         )?;
         Ok(self.loader.add(self.alloc, judge, head, body, gate)?)
     }
+}
+
+/// Returns whether what was found at a gate says that the gate is open: an extent, or a damaged one.
+fn is_open(found_there: &Result<Option<Head>, ExtentFault>) -> bool
+    ensures { IsTrue result ↔ SaysOpen found_there.now }
+{
+    matches!(found_there, Ok(Some(_)) | Err(ExtentFault::Damaged { .. }))
+}
+
+/// Returns whether an extent with this head may be in the log of the superblock's store: its format is no greater than the superblock's, or
+/// that of a sealed store. A crash before the superblock of a seal leaves the seal's checkpoint under a superblock of a lower format. An
+/// entry has a lower format by its content.
+pub(crate) fn may_stand(found: &Super, head: &Head) -> bool
+    ensures { IsTrue result ↔ MayHeadStand found.now.format head.now }
+{
+    head.format <= found.format || head.format == SEALED_FORMAT
 }

@@ -51,7 +51,8 @@ pub struct OpenFault<D> {
 ///
 /// The opening chooses the superblock. If it names a checkpoint, the opening reads that, the pages to which its roots lead, and the extents
 /// after it, up to the first closed gate; what is before the checkpoint is not read, but for pages. If it names none, the opening reads the
-/// extents from block 4 on.
+/// extents from block 4 on. A sealed store has no extent after these: if the gate at the tail that its superblock names is open, that gate
+/// is damaged.
 ///
 /// Each entry is tested against what is before it: the id and the spec of a new stream; of a commit the stream, its times, its size and
 /// the number of versions; of a distillate also what it has read. The trees of all versions are made of the pages: nothing is computed

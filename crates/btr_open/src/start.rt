@@ -7,7 +7,7 @@ ghost use Rattle.btr_open.specs.LogWalk.{IsWalkOver, IsNewWalk, WalksOn};
 ghost use Rattle.btr_open.specs.Reading.{FirstCause, WasStarted, WasReadTo};
 ghost use Rattle.btr_open.specs.Checkpoint.{AreOfSome, IsRollRead, IsLoaded, StartCause};
 
-use crate::log_walk::LogWalk;
+use crate::log_walk::{LogWalk, may_stand};
 use crate::opening::{OpenCause, cause_of};
 use crate::place::Place;
 use crate::roll_content::decode_checkpoint;
@@ -82,7 +82,7 @@ impl<D: Disk> LogWalk<D> {
         if head.kind != 2 || next != found.tail {
             return Err(no_checkpoint(found));
         }
-        if head.format > found.format {
+        if !may_stand(&found, &head) {
             return Err(OpenCause::Damaged {
                 block: found.checkpoint + 1,
             });
@@ -136,7 +136,7 @@ impl<D: Disk> LogWalk<D> {
 }
 
 /// The superblock does not name a checkpoint: the block of its body is damaged.
-fn no_checkpoint(found: Super) -> OpenCause
+pub(crate) fn no_checkpoint(found: Super) -> OpenCause
     requires side { found.side ≤ 1 }
     ensures { result ≡ OpenCause.Damaged (2 * found.side + 1) }
 {

@@ -1,7 +1,7 @@
 //! What is said on standard error of words that are refused.
 
 /// The commands, with their options and numbers, as COMMANDS has them.
-const COMMANDS: [&str; 11] = [
+const COMMANDS: [&str; 12] = [
     "format --blocks N",
     "live [--materialize] [--batch B]",
     "live --group B [--materialize]",
@@ -9,6 +9,7 @@ const COMMANDS: [&str; 11] = [
     "load [--workers K] [--batch B]",
     "distil [--workers K]",
     "checkpoint",
+    "seal",
     "check",
     "sample NUMBER STREAMS POINTS",
     "ship FROM",

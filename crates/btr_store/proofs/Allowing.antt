@@ -103,6 +103,7 @@ pub allows_committed : (start : StoreState) (log : LogState) (p : List Entry) (e
 allows_committed start log p e (Ok receipt) own next computed did =
     allows_added log p e own next did.2 (λ legal. record { accepted = did.0; computed = computed })
 allows_committed start log p e (Err (steps.Stopped entries)) own next computed did = allows_idle log p own next did.1
+allows_committed start log p e (Err steps.Sealed) own next computed did = allows_idle log p own next did.1
 allows_committed start log p e (Err (steps.Rejected why)) own next computed did = allows_idle log p own next did.1
 allows_committed start log p e (Err steps.Want) own next computed did = allows_idle log p own next did.1
 allows_committed start log p e (Err (steps.DeviceFull need left)) own next computed did = allows_idle log p own next did.2
@@ -124,6 +125,7 @@ allows_committed_later start late early p e (Ok receipt) own next on computed di
     omega (arith, same, long, below))
     (allows_added early p e own next did.2 (λ legal. record { accepted = did.0; computed = computed }))
 allows_committed_later start late early p e (Err (steps.Stopped entries)) own next on computed did = allows_idle late p own next did.1
+allows_committed_later start late early p e (Err steps.Sealed) own next on computed did = allows_idle late p own next did.1
 allows_committed_later start late early p e (Err (steps.Rejected why)) own next on computed did = allows_idle late p own next did.1
 allows_committed_later start late early p e (Err steps.Want) own next on computed did = allows_idle late p own next did.1
 allows_committed_later start late early p e (Err (steps.DeviceFull need left)) own next on computed did = allows_idle late p own next did.2
@@ -177,6 +179,7 @@ allows_landed start log q plan result own next of did = by_result result did.3
     by_result (Ok receipt) landed =
         allows_added log p (entry_of plan) own next landed.2 (λ legal. plan_allowed q p plan _ did.1 of landed.0 legal)
     by_result (Err (faults.Stopped entries)) landed = allows_idle log p own next landed.1
+    by_result (Err faults.Sealed) landed = allows_idle log p own next landed.1
     by_result (Err (faults.Superseded version)) landed = allows_idle log p own next landed.3
     by_result (Err faults.VersionLimit) landed = allows_idle log p own next landed.2
     by_result (Err (faults.Crowded at)) landed = allows_idle log p own next landed.3

@@ -76,6 +76,7 @@ says_benign all t says each = record {
 abbrev pub Ran : Result Receipt StepFault → Type 0
 Ran (Ok receipt) = Unit {0}
 Ran (Err (steps.Stopped entries)) = Unit {0}
+Ran (Err steps.Sealed) = Unit {0}
 Ran (Err (steps.Rejected why)) = Unit {0}
 Ran (Err steps.Want) = Unit {0}
 Ran (Err (steps.DeviceFull need left)) = Unit {0}
@@ -103,6 +104,7 @@ rejection_benign id (rejections.TooManyPoints count) = inr (inl refl)
 
 pub step_benign : (fault : StepFault) → HadRoom (Err fault) → Ran (Err fault) → IsBenign (status_of_reason (reason_of_step 0 fault))
 step_benign (steps.Stopped entries) room ran = inr (inl refl)
+step_benign steps.Sealed room ran = inr (inl refl)
 step_benign (steps.Rejected why) room ran = rejection_benign 0 why
 step_benign steps.Want room ran = inr (inr refl)
 step_benign (steps.DeviceFull need left) room ran = absurd room
@@ -146,6 +148,7 @@ abbrev pub IsCalm : Refreshed → Type 0
 IsCalm (results.Landed version) = Unit {0}
 IsCalm (results.Current version) = Unit {0}
 IsCalm (results.Refused (faults.Stopped entries)) = Unit {0}
+IsCalm (results.Refused faults.Sealed) = Unit {0}
 IsCalm (results.Refused (faults.Superseded version)) = Unit {0}
 IsCalm (results.Refused faults.VersionLimit) = Unit {0}
 IsCalm (results.Refused (faults.Crowded start)) = Unit {0}
@@ -156,6 +159,7 @@ IsCalm (results.Refused faults.DeviceFault) = ⊥
 
 pub landing_benign : (fault : LandFault) → IsCalm (results.Refused fault) → IsBenign (status_of_reason (reason_of_landing fault))
 landing_benign (faults.Stopped entries) calm = inr (inl refl)
+landing_benign faults.Sealed calm = inr (inl refl)
 landing_benign (faults.Superseded version) calm = inr (inl refl)
 landing_benign faults.VersionLimit calm = inr (inl refl)
 landing_benign (faults.Crowded start) calm = inr (inl refl)

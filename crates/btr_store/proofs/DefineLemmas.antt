@@ -12,6 +12,7 @@ use Rattle.btr_text.specs.declared.reply.Reason.{Reason}
 use Rattle.btr_text.specs.declared.reply.Reason.TheVariants as reasons
 use Rattle.btr_streams.specs.declared.board.Receipt.{Receipt}
 use Rattle.btr_engine.specs.declared.step.StepFault.{StepFault}
+use Rattle.btr_engine.specs.declared.step.StepFault.TheVariants as steps
 use Rattle.btr_gate.specs.Numbers.{times}
 use Rattle.btr_gate.proofs.NumberLemmas.{times_append}
 use Rattle.btr_hall.specs.declared.look.FoundStream.{FoundStream}
@@ -19,7 +20,7 @@ use Rattle.btr_hall.specs.declared.session.Hall.{Hall}
 use Rattle.btr_hall.specs.declared.session.Session.{Session}
 use Rattle.btr_hall.specs.Found.{IsFound}
 use Rattle.btr_jobs.specs.States.{StoreState, LogState, GoesOn}
-use Rattle.btr_jobs.specs.Turns.{Committed}
+use Rattle.btr_jobs.specs.Turns.{SaysSealed, Committed}
 use Rattle.btr_jobs.specs.TurnLaws.{committed_still}
 use Rattle.btr_jobs.specs.Jobs.{IsAt, Does}
 use Rattle.btr_jobs.proofs.DoesLemmas.{does_implied, does_then}
@@ -33,7 +34,7 @@ use Rattle.btr_store.proofs.Allowing.{allows_nothing, allows_both, allows_commit
 over_lasts : (start : StoreState) (late early : LogState) (p : List Entry) (id : ℕ) (input : Option ℕ) (refused : Option Reason) (own : List ℕ) (next : List Entry) → GoesOn start late early → DefinesOver start early p id input refused own next → DefinesOver start late p id input refused own next
 over_lasts start late early p id None refused own next on is = is
 over_lasts start late early p id (Some input) refused own next on is =
-    (is.0, committed_still start late early p (entries.Define id (mean_of input)) is.0 own next on is.1, is.2)
+    (is.0, committed_still start late early p (entries.Define id (mean_of input)) is.0 own next on is.1, is.2, is.3)
 
 over_allowed : (start : StoreState) (late early : LogState) (p : List Entry) (id : ℕ) (input : Option ℕ) (refused : Option Reason) (own : List ℕ) (next : List Entry) → GoesOn start late early → DefinesOver start early p id input refused own next → AddsAllowed late own
 over_allowed start late early p id None refused own next on is = allows_nothing late own is.1.own
@@ -127,21 +128,21 @@ module _ {D : Type 0} {disk : Ghosts D} where
       does
 
   -- The input was found, and the output defined over it.
-  pub defines_some : (hall : Hall D disk) (old mid new : Session D disk) (stream id number : ℕ) (found : FoundStream) (result : Result Receipt StepFault) (refused : Option Reason) → id ≡ output_id stream → number ≡ stream + 1 → refused ≡ refusal_of result → IsAt hall new → Does hall old mid (λ start log low own. (own ≡ []) × (log.history ≡ low) × IsFound low number (Some found)) → Does hall mid new (λ start log low own. Committed start log low (entries.Define id (mean_of found.stream)) result own log.history) → Does hall old new (λ start log low own. Defines start log low stream (record { id = id; refused = refused }) own log.history)
+  pub defines_some : (hall : Hall D disk) (old mid new : Session D disk) (stream id number : ℕ) (found : FoundStream) (result : Result Receipt StepFault) (refused : Option Reason) → id ≡ output_id stream → number ≡ stream + 1 → refused ≡ refusal_of result → IsAt hall new → Does hall old mid (λ start log low own. (own ≡ []) × (log.history ≡ low) × IsFound low number (Some found)) → Does hall mid new (λ start log low own. Committed start log low (entries.Define id (mean_of found.stream)) result own log.history × SaysSealed start steps.Sealed result) → Does hall old new (λ start log low own. Defines start log low stream (record { id = id; refused = refused }) own log.history)
   defines_some hall old mid new stream id number found result refused named at why is_at look turn =
       does_then hall old mid new
       (λ start log low own. (own ≡ []) × (log.history ≡ low) × IsFound low number (Some found))
-      (λ start log low own. Committed start log low (entries.Define id (mean_of found.stream)) result own log.history)
+      (λ start log low own. Committed start log low (entries.Define id (mean_of found.stream)) result own log.history × SaysSealed start steps.Sealed result)
       (λ start log low own. Defines start log low stream (record { id = id; refused = refused }) own log.history)
       is_at
       (λ start late early low a b on starts first then.
       let here : Committed start late low (entries.Define id (mean_of found.stream)) result b late.history =
-      subst (λ (h : List Entry). Committed start late h (entries.Define id (mean_of found.stream)) result b late.history) first.1 then in
+      subst (λ (h : List Entry). Committed start late h (entries.Define id (mean_of found.stream)) result b late.history) first.1 then.0 in
       let own : b ≡ a ++ b = ap (λ (l : List ℕ). l ++ b) (sym first.0) in (
         named,
         subst (λ (l : List ℕ). DefinesOver start late low (output_id stream) (stream_of low (stream + 1)) refused l late.history) own
             (subst (λ (input : Option ℕ). DefinesOver start late low (output_id stream) input refused b late.history)
             (sym first.2.0 ∙ ap (stream_of low) at)
-            (result, subst (λ (i : ℕ). Committed start late low (entries.Define i (mean_of found.stream)) result b late.history) named here, why)),
+            (result, subst (λ (i : ℕ). Committed start late low (entries.Define i (mean_of found.stream)) result b late.history) named here, why, then.1)),
       ))
       look turn

@@ -89,6 +89,7 @@ module _ (start : StoreState) (log : LogState) (runs : log.failed ≡ None) wher
         entry = sym (last_same at p (entry_of plan) e same whole);
       }
   landed_entry q plan (Err (faults.Stopped entries)) next at p e after of starts is = nothing_listed _ (length p + 1) is.1.own
+  landed_entry q plan (Err faults.Sealed) next at p e after of starts is = nothing_listed _ (length p + 1) is.1.own
   landed_entry q plan (Err (faults.Superseded version)) next at p e after of starts is = nothing_listed _ (length p + 1) is.3.own
   landed_entry q plan (Err faults.VersionLimit) next at p e after of starts is = nothing_listed _ (length p + 1) is.2.own
   landed_entry q plan (Err (faults.Crowded start)) next at p e after of starts is = nothing_listed _ (length p + 1) is.3.own
@@ -208,6 +209,7 @@ module _ (start : StoreState) (log : LogState) (runs : log.failed ≡ None) (low
     refreshed_calm here output (results.Landed version) mine begins others is = tt
     refreshed_calm here output (results.Current version) mine begins others is = tt
     refreshed_calm here output (results.Refused (faults.Stopped entries)) mine begins others is = tt
+    refreshed_calm here output (results.Refused faults.Sealed) mine begins others is = tt
     refreshed_calm here output (results.Refused (faults.Superseded version)) mine begins others is = tt
     refreshed_calm here output (results.Refused faults.VersionLimit) mine begins others is = tt
     refreshed_calm here output (results.Refused (faults.Crowded start)) mine begins others is = tt

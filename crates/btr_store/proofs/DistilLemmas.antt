@@ -1,5 +1,5 @@
 -- Lemmas on the work of bringing each output up to date: what is said of it, and that what it adds is allowed.
-use Rattle.std.specs.Prelude.{◌≡◌, ℕ, ◌<◌, ◌≤◌, List, [], ◌∷◌, length, map, Option, Some, None, Result, Ok, Err, IfOk, IfSome}
+use Rattle.std.specs.Prelude.{◌≡◌, ℕ, ◌<◌, ◌≤◌, false, List, [], ◌∷◌, length, map, Option, Some, None, Result, Ok, Err, IfOk, IfSome}
 use Rattle.std.specs.declared.alloc.AllocError.{AllocError}
 use Rattle.std.proofs.Common.{sym, ap, ◌∙◌, subst, arith}
 use Rattle.btr_disk.specs.declared.disk.Disk.{Ghosts}
@@ -126,6 +126,7 @@ module _ (start : StoreState) where
   refreshed_allowed log low output (Landed version) own is = plan_allowed log low output (Ok is.0) own is.2
   refreshed_allowed log low output (Current version) own is = allows_nothing log own is.none
   refreshed_allowed log low output (Refused (faults.Stopped entries)) own is = plan_allowed log low output (Err (faults.Stopped entries)) own is
+  refreshed_allowed log low output (Refused faults.Sealed) own is = plan_allowed log low output (Err faults.Sealed) own is
   refreshed_allowed log low output (Refused (faults.Superseded version)) own is = plan_allowed log low output (Err (faults.Superseded version)) own is
   refreshed_allowed log low output (Refused faults.VersionLimit) own is = plan_allowed log low output (Err faults.VersionLimit) own is
   refreshed_allowed log low output (Refused (faults.Crowded at)) own is = plan_allowed log low output (Err (faults.Crowded at)) own is
@@ -177,7 +178,7 @@ module _ (start : StoreState) (log : LogState) (own : List ℕ) (each : OwnsEach
   report_in_order (Some report) ran legal turn = λ memory levels are.
       refreshed-in-order start log report own levels ran legal each turn are memory
 
-  store_distils : (workers : ℕ) (said : Result Transcript AllocError) (is : Distils start log start.history said own) → Follows log.history → (Legal start.history → Legal log.history) → (workers ≤ 1 → Legal start.history → log.failed ≡ None → IfSome is.report (λ report. HadMemoryForOutputs report → AreRefreshedInOrder start log report)) → DistilsStore start log workers said own
+  store_distils : (workers : ℕ) (said : Result Transcript AllocError) (is : Distils start log start.history said own) → Follows log.history → (Legal start.history → Legal log.history) → (workers ≤ 1 → Legal start.history → start.sealed ≡ false → log.failed ≡ None → IfSome is.report (λ report. HadMemoryForOutputs report → AreRefreshedInOrder start log report)) → DistilsStore start log workers said own
   store_distils workers said is follows legal order = record {
     did = is;
     current = report_current is.report follows is.refreshes;
@@ -196,4 +197,4 @@ module _ {D : Type 0} (disk : Ghosts D) (old new : D) (start : StoreState) (log 
   pub distils_store_in_order : DistilsInTurn start log start.history said own → DistilsStore start log workers said own
   distils_store_in_order is =
       store_distils start log own works.each_once workers said is.did works.follows legal
-      (λ few before whole. report_in_order start log own works.each_once is.did.report (works_run disk start log own old new works whole) (legal before) is.in_turn)
+      (λ few before unsealed whole. report_in_order start log own works.each_once is.did.report (works_run disk start log own old new works unsealed whole) (legal before) is.in_turn)

@@ -189,6 +189,7 @@ module _ (start : StoreState) (result : ℕ → Refreshed) where
 landed-few : (start : StoreState) (log : LogState) (p : List Entry) (plan : PlanValue) (result : Result Receipt LandFault) (own : List ℕ) (next : List Entry) → Landed start log p plan result own next → length own ≤ 1
 landed-few start log p plan (Ok receipt) own next is = omega (arith, ap (length {A = ℕ}) is.2.own)
 landed-few start log p plan (Err (faults.Stopped entries)) own next is = omega (arith, ap (length {A = ℕ}) is.1.own)
+landed-few start log p plan (Err faults.Sealed) own next is = omega (arith, ap (length {A = ℕ}) is.1.own)
 landed-few start log p plan (Err (faults.Superseded version)) own next is = omega (arith, ap (length {A = ℕ}) is.3.own)
 landed-few start log p plan (Err faults.VersionLimit) own next is = omega (arith, ap (length {A = ℕ}) is.2.own)
 landed-few start log p plan (Err (faults.Crowded at)) own next is = omega (arith, ap (length {A = ℕ}) is.3.own)
@@ -205,6 +206,7 @@ module _ (start : StoreState) (log : LogState) (low : List Entry) (output : ℕ)
   refreshed-few (results.Landed version) is = plan-few (Ok is.0) is.2
   refreshed-few (results.Current version) is = omega (arith, ap (length {A = ℕ}) is.none)
   refreshed-few (results.Refused (faults.Stopped entries)) is = plan-few (Err (faults.Stopped entries)) is
+  refreshed-few (results.Refused faults.Sealed) is = plan-few (Err faults.Sealed) is
   refreshed-few (results.Refused (faults.Superseded version)) is = plan-few (Err (faults.Superseded version)) is
   refreshed-few (results.Refused faults.VersionLimit) is = plan-few (Err faults.VersionLimit) is
   refreshed-few (results.Refused (faults.Crowded at)) is = plan-few (Err (faults.Crowded at)) is

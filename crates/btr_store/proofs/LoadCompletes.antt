@@ -33,6 +33,7 @@ module _ (start : StoreState) (log : LogState) (runs : log.failed ≡ None) wher
   pub committed_ran : (p : List Entry) (e : Entry) (result : Result Receipt StepFault) (own : List ℕ) (next : List Entry) → turns.Committed start log p e result own next → Ran result
   committed_ran p e (Ok receipt) own next is = tt
   committed_ran p e (Err (steps.Stopped count)) own next is = tt
+  committed_ran p e (Err steps.Sealed) own next is = tt
   committed_ran p e (Err (steps.Rejected why)) own next is = tt
   committed_ran p e (Err steps.Want) own next is = tt
   committed_ran p e (Err (steps.DeviceFull need left)) own next is = tt

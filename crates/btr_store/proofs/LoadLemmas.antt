@@ -1,5 +1,5 @@
 -- Lemmas on loads: what is said of them, and that what they add is allowed.
-use Rattle.std.specs.Prelude.{◌≡◌, ℕ, ◌<◌, ◌≤◌, List, [], ◌∷◌, ◌++◌, Option, Some, None, Result, Ok, Err, IfOk, OnErr, IfSome}
+use Rattle.std.specs.Prelude.{◌≡◌, ℕ, ◌<◌, ◌≤◌, false, List, [], ◌∷◌, ◌++◌, Option, Some, None, Result, Ok, Err, IfOk, OnErr, IfSome}
 use Rattle.std.specs.Result.{result_ok}
 use Rattle.std.specs.declared.alloc.AllocError.{AllocError}
 use Rattle.std.proofs.Common.{ap, ◌∙◌, subst, arith, ⊎_elim}
@@ -176,7 +176,7 @@ module _ (start : StoreState) (log : LogState) (rows : RowListValue) (batch : �
   loaded_in_order None ran turn = tt
   loaded_in_order (Some loaded) ran turn = λ memory. loads_in_order start log rows batch loaded own ran each turn memory
 
-  store_loads : (workers : ℕ) (said : Result Transcript AllocError) (is : LoadsRows start log start.history rows batch said own) → (workers ≤ 1 → log.failed ≡ None → IfSome is.loaded (λ loaded. HadMemoryForAll loaded → IsLoadedInOrder start log rows.streams batch loaded.streams)) → LoadsStore start log rows batch workers said own
+  store_loads : (workers : ℕ) (said : Result Transcript AllocError) (is : LoadsRows start log start.history rows batch said own) → (workers ≤ 1 → start.sealed ≡ false → log.failed ≡ None → IfSome is.loaded (λ loaded. HadMemoryForAll loaded → IsLoadedInOrder start log rows.streams batch loaded.streams)) → LoadsStore start log rows batch workers said own
   store_loads workers said is order = record {
     did = is;
     there = λ distinct. loaded_there is.loaded distinct is.loads;
@@ -198,4 +198,4 @@ module _ {D : Type 0} (disk : Ghosts D) (old new : D) (start : StoreState) (log 
   pub loads_store_in_order : LoadsRowsInTurn start log start.history rows batch said own → LoadsStore start log rows batch workers said own
   loads_store_in_order is =
       store_loads start log rows batch own works.each_once begun_follows workers said is.did
-      (λ few whole. loaded_in_order start log rows batch own works.each_once begun_follows is.did.loaded (works_run disk start log own old new works whole) is.in_turn)
+      (λ few unsealed whole. loaded_in_order start log rows batch own works.each_once begun_follows is.did.loaded (works_run disk start log own old new works unsealed whole) is.in_turn)

@@ -96,6 +96,7 @@ module _ (streams : ℕ) (low : List Entry) where
     define_room : (p : List Entry) (stream input : ℕ) (result : Result Receipt StepFault) (own : List ℕ) (next : List Entry) → stream < streams → DefinesSince streams low p → Committed start log p (entries.Define (output_id stream) (mean_of input)) result own next → HadRoom result
     define_room p stream input (Ok receipt) own next inside so_far is = tt
     define_room p stream input (Err (steps.Stopped count)) own next inside so_far is = tt
+    define_room p stream input (Err steps.Sealed) own next inside so_far is = tt
     define_room p stream input (Err (steps.Rejected why)) own next inside so_far is = tt
     define_room p stream input (Err steps.Want) own next inside so_far is = tt
     define_room p stream input (Err (steps.DeviceFull need left)) own next inside so_far is = never_full p stream input need left inside so_far is.0 is.1
@@ -105,6 +106,7 @@ module _ (streams : ℕ) (low : List Entry) where
     define_after : (p : List Entry) (stream input : ℕ) (result : Result Receipt StepFault) (own : List ℕ) (next : List Entry) → stream < streams → DefinesSince streams low p → Committed start log p (entries.Define (output_id stream) (mean_of input)) result own next → DefinesSince streams low next
     define_after p stream input (Ok receipt) own next inside so_far is = subst (DefinesSince streams low) (sym is.2.next) (defines_next p stream input inside is.0 so_far)
     define_after p stream input (Err (steps.Stopped count)) own next inside so_far is = subst (DefinesSince streams low) (sym is.1.next) so_far
+    define_after p stream input (Err steps.Sealed) own next inside so_far is = subst (DefinesSince streams low) (sym is.1.next) so_far
     define_after p stream input (Err (steps.Rejected why)) own next inside so_far is = subst (DefinesSince streams low) (sym is.1.next) so_far
     define_after p stream input (Err steps.Want) own next inside so_far is = subst (DefinesSince streams low) (sym is.1.next) so_far
     define_after p stream input (Err (steps.DeviceFull need left)) own next inside so_far is = subst (DefinesSince streams low) (sym is.2.next) so_far

@@ -72,6 +72,7 @@ idle_none P p own next is n some = absurd (omega (arith, some, ap (times n) is.o
 committed_next : (start : StoreState) (log : LogState) (p : List Entry) (e : Entry) (result : Result Receipt StepFault) (own : List ℕ) (next : List Entry) → Committed start log p e result own next → (n : ℕ) → 1 ≤ times n own → n ≡ length p + 1
 committed_next start log p e (Ok receipt) own next is n some = sym (the_number n (length p + 1) (omega (arith, some, ap (times n) is.2.own)))
 committed_next start log p e (Err (steps.Stopped count)) own next is n some = idle_none _ p own next is.1 n some
+committed_next start log p e (Err steps.Sealed) own next is n some = idle_none _ p own next is.1 n some
 committed_next start log p e (Err (steps.Rejected why)) own next is n some = idle_none _ p own next is.1 n some
 committed_next start log p e (Err steps.Want) own next is n some = idle_none _ p own next is.1 n some
 committed_next start log p e (Err (steps.DeviceFull need left)) own next is n some = idle_none _ p own next is.2 n some
@@ -85,6 +86,7 @@ committed_within start log p e (Ok receipt) own next runs is n some =
     let below : length (p ++ e ∷ []) ≤ length log.history = starts_length log.history (p ++ e ∷ []) is.2.follows in
     omega (arith, at, long, below)
 committed_within start log p e (Err (steps.Stopped count)) own next runs is n some = idle_none _ p own next is.1 n some
+committed_within start log p e (Err steps.Sealed) own next runs is n some = idle_none _ p own next is.1 n some
 committed_within start log p e (Err (steps.Rejected why)) own next runs is n some = idle_none _ p own next is.1 n some
 committed_within start log p e (Err steps.Want) own next runs is n some = idle_none _ p own next is.1 n some
 committed_within start log p e (Err (steps.DeviceFull need left)) own next runs is n some = idle_none _ p own next is.2 n some
@@ -96,6 +98,7 @@ committed_within start log p e (Err steps.DeviceFault) own next runs is n some =
 committed_grows : (start : StoreState) (log : LogState) (p : List Entry) (e : Entry) (result : Result Receipt StepFault) (own : List ℕ) (next : List Entry) → Committed start log p e result own next → length p ≤ length next
 committed_grows start log p e (Ok receipt) own next is = omega (arith, ap (length {A = Entry}) is.2.next, length-append p (e ∷ []))
 committed_grows start log p e (Err (steps.Stopped count)) own next is = omega (arith, ap (length {A = Entry}) is.1.next)
+committed_grows start log p e (Err steps.Sealed) own next is = omega (arith, ap (length {A = Entry}) is.1.next)
 committed_grows start log p e (Err (steps.Rejected why)) own next is = omega (arith, ap (length {A = Entry}) is.1.next)
 committed_grows start log p e (Err steps.Want) own next is = omega (arith, ap (length {A = Entry}) is.1.next)
 committed_grows start log p e (Err (steps.DeviceFull need left)) own next is = omega (arith, ap (length {A = Entry}) is.2.next)

@@ -1,5 +1,5 @@
 -- Lemmas on work at a hall that was opened and closed, which other crates cite: its begin, and what it did on the device.
-use Rattle.std.specs.Prelude.{◌≡◌, ℕ, ◌≤◌, Bool, true, List, [], ◌∷◌, ◌++◌, length, replicate, None, option_to_list, Result, Ok, Err, IfOk}
+use Rattle.std.specs.Prelude.{◌≡◌, ℕ, ◌≤◌, Bool, true, false, List, [], ◌∷◌, ◌++◌, length, replicate, None, option_to_list, Result, Ok, Err, IfOk}
 use Rattle.std.specs.declared.alloc.AllocError.{AllocError}
 use Rattle.std.specs.Option.{is_some}
 use Rattle.std.proofs.Common.{zero, suc, refl, sym, ap, ◌∙◌, subst, arith}
@@ -8,10 +8,13 @@ use Rattle.btr_disk.specs.declared.disk.Disk.{Ghosts}
 use Rattle.btr_disk.specs.Bytes.{Image}
 use Rattle.btr_disk.specs.Causes.{Rose}
 use Rattle.btr_disk.proofs.ByteLemmas.{Same-is}
+use Rattle.btr_super.specs.declared.superblock.Super.{Super}
+use Rattle.btr_super.specs.Choose.{IsChosen}
+use Rattle.btr_super.proofs.ChoiceLemmas.{one_chosen}
 use Rattle.btr_hist.specs.declared.entry.Entry.{Entry}
 use Rattle.btr_hist.specs.Legal.{Legal}
 use Rattle.btr_engine.specs.declared.engine.Engine.{Engine}
-use Rattle.btr_engine.specs.Engine.{device, blocks_of, tail_of, entries_of, faults_at_open, IsEngineOf, IsAtRest, KeepsOpening}
+use Rattle.btr_engine.specs.Engine.{device, super_of, blocks_of, tail_of, entries_of, faults_at_open, IsEngineOf, IsAtRest, KeepsOpening}
 use Rattle.btr_engine.specs.Holds.{HoldsHistoryTo}
 use Rattle.btr_open.specs.Opening.{IsOpenedEngine}
 use Rattle.btr_gate.proofs.PrefixLemmas.{starts_append}
@@ -63,6 +66,16 @@ held_before {D} disk old first opened h rest reported =
     let sized = subst (λ (n : ℕ). HoldsHistoryTo n (disk.contents (device first)) (blocks_of first) (tail_of first) h) opened.kept.counts.same_size rest.holds in
     subst (λ (c : Image). HoldsHistoryTo (disk.size old) c (blocks_of first) (tail_of first) h) bytes sized
 
+-- The superblock on the device is that of the engine that was opened on it.
+pub super_before : {D : Type 0} (disk : Ghosts D) (old : D) (first : Engine D disk) (opened : IsOpenedEngine disk old first) (h : List Entry) (rest : IsAtRest h first) (reported : disk.is_observable) → (held_before disk old first opened h rest reported).super ≡ super_of first
+super_before {D} disk old first opened h rest reported =
+    let bytes : disk.contents (device first) ≡ disk.contents old = Same-is (disk.contents old) (disk.contents (device first)) (opened.kept.unwritten reported).same in
+    let s : Super = rest.holds.super in
+    let holds = held_before disk old first opened h rest reported in
+    let chosen : IsChosen (disk.size old) (disk.contents old) s =
+    subst (λ (c : Image). IsChosen (disk.size old) c s) bytes (subst (λ (n : ℕ). IsChosen n (disk.contents (device first)) s) opened.kept.counts.same_size rest.holds.chosen) in
+    one_chosen (disk.size old) (disk.contents old) holds.super s holds.chosen chosen ∙ rest.under
+
 -- A count that rose since later rose since before.
 pub rose_from : (before old new : ℕ) → before ≤ old → Rose old new → Rose before new
 rose_from before old new le rose = omega (arith, le, rose)
@@ -108,10 +121,11 @@ does_rightly disk What old new hall begun last allows on h of does closes failed
       in_flight = works.in_flight allowed;
     }
 
--- If the device did not fail, the work ran through.
-pub works_run : {D : Type 0} (disk : Ghosts D) (start : StoreState) (log : LogState) (own : List ℕ) (old new : D) → Works disk start log own old new → log.failed ≡ None → RunsThrough start log
-works_run disk start log own old new works whole = record {
+-- If the store is not sealed, and the device did not fail, the work ran through.
+pub works_run : {D : Type 0} (disk : Ghosts D) (start : StoreState) (log : LogState) (own : List ℕ) (old new : D) → Works disk start log own old new → start.sealed ≡ false → log.failed ≡ None → RunsThrough start log
+works_run disk start log own old new works unsealed whole = record {
   runs = works.not_stopped;
+  unsealed = unsealed;
   whole = whole;
   fits =
       let all = log.history ++ option_to_list log.failed in

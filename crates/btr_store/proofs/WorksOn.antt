@@ -36,7 +36,8 @@ use Rattle.btr_jobs.proofs.StateLemmas.{log_at, failed_halt}
 use Rattle.btr_store.specs.Work.{OwnsEachOnce, HoldsPrefix, HoldsLog, AddsAllowed, IsRightInFlight, all_entries, HoldsSafely, KeepsEach, CrashLeavesLog, Works}
 use Rattle.btr_store.proofs.Moments.{steps_leave, steps_end, keeps_each}
 use Rattle.btr_store.proofs.Rooms.{steps_fit}
-use Rattle.btr_store.proofs.WorkLemmas.{log_is, held_before, rose_from}
+use Rattle.btr_super.specs.Super.{has_seal}
+use Rattle.btr_store.proofs.WorkLemmas.{log_is, held_before, super_before, rose_from}
 
 -- ---- legal histories
 
@@ -212,6 +213,7 @@ module _ {D : Type 0} (disk : Ghosts D) (only_now : disk.is_observable → (d : 
             tail = tail_of x;
             holds = held_before disk old x opened h rest reported;
             same_left = refl;
+            same_seal = sym (ap has_seal (super_before disk old x opened h rest reported));
           };
           after = safe;
           failed = faulted;

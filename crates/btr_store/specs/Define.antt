@@ -12,8 +12,9 @@ use Rattle.btr_text.specs.declared.reply.Reason.{Reason}
 use Rattle.btr_text.specs.declared.reply.Reason.TheVariants as reasons
 use Rattle.btr_streams.specs.declared.board.Receipt.{Receipt}
 use Rattle.btr_engine.specs.declared.step.StepFault.{StepFault}
+use Rattle.btr_engine.specs.declared.step.StepFault.TheVariants as steps
 use Rattle.btr_jobs.specs.States.{StoreState, LogState}
-use Rattle.btr_jobs.specs.Turns.{IsIdle, Committed}
+use Rattle.btr_jobs.specs.Turns.{IsIdle, SaysSealed, Committed}
 use Rattle.btr_store.specs.declared.define.DefinedOutput.{DefinedOutput}
 use Rattle.btr_live.specs.Reasons.{reason_of_step}
 
@@ -35,7 +36,7 @@ abbrev pub DefinesOver : StoreState → LogState → List Entry → ℕ → Opti
 DefinesOver start log p id None refused own next = (refused ≡ Some reasons.Stream) × IsIdle p own next
 DefinesOver start log p id (Some input) refused own next =
     (result : Result Receipt StepFault) × Committed start log p (entries.Define id (mean_of input)) result own next
-    × (refused ≡ refusal_of result)
+    × (refused ≡ refusal_of result) × SaysSealed start steps.Sealed result
 
 -- The output of a stream of a sample was defined right after the history p, or refused.
 abbrev pub Defines : StoreState → LogState → List Entry → ℕ → DefinedOutput → List ℕ → List Entry → Type 0

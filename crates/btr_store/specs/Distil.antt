@@ -1,5 +1,5 @@
 -- What bringing each output up to date once does, and what it says of each.
-use Rattle.std.specs.Prelude.{◌≡◌, ℕ, ◌≤◌, List, [], ◌∷◌, map, Option, Some, None, Result, Ok, Err, IfSome}
+use Rattle.std.specs.Prelude.{◌≡◌, ℕ, ◌≤◌, false, List, [], ◌∷◌, map, Option, Some, None, Result, Ok, Err, IfSome}
 use Rattle.std.specs.List.{AllByRecursion}
 use Rattle.std.specs.Option.{unwrap_or}
 use Rattle.std.specs.declared.alloc.AllocError.{AllocError}
@@ -141,8 +141,8 @@ pub record DistilsStore (start : StoreState) (log : LogState) (workers : ℕ) (s
   pub alike : Legal start.history
       → IfSome did.report (λ report. AreUndisturbed report → AreOfOneWorker log.history start.history report)
   -- one worker lands the outputs one after another, each landing if the model accepts it and the blocks that are left suffice: if the
-  -- history was legal, and memory and device did not fail, the history and the results are those
-  pub in_order : workers ≤ 1 → Legal start.history → log.failed ≡ None
+  -- history was legal, the store is not sealed, and memory and device did not fail, the history and the results are those
+  pub in_order : workers ≤ 1 → Legal start.history → start.sealed ≡ false → log.failed ≡ None
       → IfSome did.report (λ report. HadMemoryForOutputs report → AreRefreshedInOrder start log report)
   -- if there was room for all that may be landed, and the device did not fail, no line says that it was full or failed
   pub completes : HasRoomForOutputs start → log.failed ≡ None → SaysBenign said

@@ -1,5 +1,5 @@
 -- What loading rows into a store does, and what it says of them.
-use Rattle.std.specs.Prelude.{◌≡◌, ℕ, ◌≤◌, List, [], Option, Some, None, Result, Ok, Err, IfSome}
+use Rattle.std.specs.Prelude.{◌≡◌, ℕ, ◌≤◌, false, List, [], Option, Some, None, Result, Ok, Err, IfSome}
 use Rattle.std.specs.List.{AllByRecursion}
 use Rattle.std.specs.declared.alloc.AllocError.{AllocError}
 use Rattle.btr_hist.specs.declared.entry.Entry.{Entry}
@@ -62,8 +62,8 @@ pub record LoadsStore (start : StoreState) (log : LogState) (rows : RowListValue
   pub alike : AreDistinct rows.streams
       → IfSome did.loaded (λ loaded. ArePlain loaded → IsAlike log.history start.history rows.streams batch loaded.streams)
   -- one worker makes the creates in order, and then commits the batches stream by stream, each entry if the model accepts it and the
-  -- blocks that are left suffice: if memory and device did not fail, the history and the results are those
-  pub in_order : workers ≤ 1 → log.failed ≡ None
+  -- blocks that are left suffice: if the store is not sealed, and memory and device did not fail, the history and the results are those
+  pub in_order : workers ≤ 1 → start.sealed ≡ false → log.failed ≡ None
       → IfSome did.loaded (λ loaded. HadMemoryForAll loaded → IsLoadedInOrder start log rows.streams batch loaded.streams)
   -- if there was room for the rows, and the device did not fail, no line says that it was full or failed
   pub completes : AreDistinct rows.streams → HasRoomForRows start rows batch → log.failed ≡ None → SaysBenign said

@@ -9,6 +9,7 @@ use Rattle.btr_disk.specs.Images.{Only}
 use Rattle.btr_disk.specs.Causes.{Rose}
 use Rattle.btr_disk.specs.Moments.{Leaves, IsUnwritten}
 use Rattle.btr_log.specs.Extents.{left}
+use Rattle.btr_super.specs.Super.{has_seal}
 use Rattle.btr_hist.specs.declared.entry.Entry.{Entry}
 use Rattle.btr_hist.specs.Legal.{Legal, Follows, Allowed}
 use Rattle.btr_hist.specs.Laws.{Right}
@@ -65,12 +66,13 @@ abbrev pub HoldsLog : ℕ → LogState → Image → Type 0
 HoldsLog size log image = HoldsHistory size image log.history ⊎ HoldsOneMore size log image
 
 module _ {D : Type 0} (disk : Ghosts D) where
-  -- The device, as it reads, holds the history of this start, with the blocks that are left.
+  -- The device, as it reads, holds the history of this start, with the blocks that are left, and is sealed exactly if the start is.
   pub record HoldsStart (d : D) (first : StoreState) : Type 0 where
     pub blocks : ℕ
     pub tail : ℕ
     pub holds : HoldsHistoryTo (disk.size d) (disk.contents d) blocks tail first.history
     pub same_left : first.left ≡ left blocks tail
+    pub same_seal : first.sealed ≡ has_seal holds.super
 
   -- The device, as it reads, holds the history, and a crash leaves nothing else.
   pub record HoldsSafely (d : D) (h : List Entry) : Type 0 where

@@ -9,8 +9,6 @@ use Rattle.btr_base.specs.declared.point.Point.{Point}
 use Rattle.btr_base.specs.Range.{RangeValue}
 use Rattle.btr_base.specs.Agg.{agg, agg_within}
 use Rattle.btr_base.proofs.WithinLemmas.{within-all}
-use Rattle.btr_tree.specs.History as tree
-use Rattle.btr_tree.specs.Root.{TreeValue}
 use Rattle.btr_base.specs.Point.{AreInDomain}
 use Rattle.btr_hist.specs.declared.entry.Entry.{Entry}
 use Rattle.btr_hist.specs.declared.answer.Answer.TheVariants.{Found, Refused}
@@ -20,10 +18,8 @@ use Rattle.btr_hist.specs.declared.answer.StreamRow.{StreamRow}
 use Rattle.btr_hist.specs.declared.kernel.Spec.{Spec}
 use Rattle.btr_hist.specs.History.{ids, is_output, latest, bag, earliest}
 use Rattle.btr_hist.specs.Answer.{answer_from, answer_at, is_range, is_power, is_width, rows_from}
-use Rattle.btr_streams.specs.Past.{commits_to}
 use Rattle.btr_streams.specs.Board.{Versions, Kept, IsBoardOf}
 use Rattle.btr_streams.specs.Answering.{IsVersion, IsPresentVersion, IsAskedRange}
-use Rattle.btr_streams.proofs.BoardTrees.{bag-commits_to}
 use Rattle.btr_streams.proofs.BoardNext.{kept-stream}
 
 -- ---- a version that a stream has
@@ -47,7 +43,7 @@ module _ (h : List Entry) (stream asked least : ℕ) (is_there : stream < length
   pub answer-retired : least < earliest h stream → (good : Bool) (rows : List Point → Rows) → answer_from h stream least asked good rows ≡ Refused (Retired least (earliest h stream))
   answer-retired late good rows = answer-made true (lt-ltb least (earliest h stream) late) good rows
 
-module _ (h : List Entry) (stream version asked : ℕ) (t : TreeValue) (there : IsVersion h stream asked version t) (least : ℕ) (present : earliest h stream ≤ least) where
+module _ (h : List Entry) (stream version asked : ℕ) (there : IsVersion h stream asked version) (least : ℕ) (present : earliest h stream ≤ least) where
   good_or_bad : (good : Bool) (rows : List Point → Rows) → answer_from h stream least asked good rows ≡ cond good (Found asked (rows (bag h stream asked))) (Refused BadRange)
   good_or_bad good rows =
       answer-there h stream asked least there.known (omega (arith, there.made, there.same)) present good rows
@@ -57,24 +53,23 @@ module _ (h : List Entry) (stream version asked : ℕ) (t : TreeValue) (there : 
   refused-from good rows bad =
       sym (good_or_bad good rows ∙ ap (λ t. cond t (Found asked (rows (bag h stream asked))) (Refused BadRange)) bad)
 
-  -- The rows of a good question are those of the version's tree.
-  pub found-from : (good : Bool) (rows : List Point → Rows) (x : Rows) → good ≡ true → x ≡ rows (tree.bag (commits_to h stream version)) → Found version x ≡ answer_from h stream least asked good rows
+  -- The rows of a good question are those of the version's points.
+  pub found-from : (good : Bool) (rows : List Point → Rows) (x : Rows) → good ≡ true → x ≡ rows (bag h stream version) → Found version x ≡ answer_from h stream least asked good rows
   found-from good rows x is_good is =
-      let read : x ≡ rows (bag h stream version) = is ∙ ap rows (bag-commits_to h stream version) in
-      ap (Found version) read
+      ap (Found version) is
       ∙ ap (λ v. Found v (rows (bag h stream v))) there.same
       ∙ sym (good_or_bad good rows ∙ ap (λ t. cond t (Found asked (rows (bag h stream asked))) (Refused BadRange)) is_good)
 
 -- The same of a question about one version.
-module _ (h : List Entry) (stream version asked : ℕ) (t : TreeValue) (there : IsPresentVersion h stream asked version t) where
+module _ (h : List Entry) (stream version asked : ℕ) (there : IsPresentVersion h stream asked version) where
   present_asked : earliest h stream ≤ asked
   present_asked = omega (arith, there.present, there.has.same)
 
   pub refused : (good : Bool) (rows : List Point → Rows) → good ≡ false → Refused BadRange ≡ answer_at h stream asked good rows
-  refused good rows bad = refused-from h stream version asked t there.has asked present_asked good rows bad
+  refused good rows bad = refused-from h stream version asked there.has asked present_asked good rows bad
 
-  pub found : (good : Bool) (rows : List Point → Rows) (x : Rows) → good ≡ true → x ≡ rows (tree.bag (commits_to h stream version)) → Found version x ≡ answer_at h stream asked good rows
-  found good rows x is_good is = found-from h stream version asked t there.has asked present_asked good rows x is_good is
+  pub found : (good : Bool) (rows : List Point → Rows) (x : Rows) → good ≡ true → x ≡ rows (bag h stream version) → Found version x ≡ answer_at h stream asked good rows
+  found good rows x is_good is = found-from h stream version asked there.has asked present_asked good rows x is_good is
 
 -- ---- ranges
 

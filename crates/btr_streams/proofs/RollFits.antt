@@ -493,7 +493,7 @@ module _ (h : List Entry) (roots : List ℕ) where
       let step : (n + 1) + i ≡ n + suc i = omega arith in
       roll-at (n + 1) xs i id at ∙ ap (λ (k : ℕ). Some (rolled_stream h roots k id)) step
 
-  versions-length : (s v : ℕ) (ns : List ℕ) → length (rolled_versions h roots s v ns) ≡ length ns
+  pub versions-length : (s v : ℕ) (ns : List ℕ) → length (rolled_versions h roots s v ns) ≡ length ns
   versions-length s v [] = refl
   versions-length s v (n ∷ ns) = ap (λ (k : ℕ). suc k) (versions-length s (v + 1) ns)
 
@@ -516,7 +516,7 @@ module _ (h : List Entry) (roots : List ℕ) where
       ((low.0, get-each (λ r. r < 2 ^ 64) roots (n - 1) 0 none fit), numbers-fit s (v + 1) ns low.1 fit)
 
   -- A stream has the versions of the history, which have read what the history says.
-  versions-counted : (s : ℕ) → s < length (ids h) → length (drop 1 (stream_numbers h s)) ≡ latest h s
+  pub versions-counted : (s : ℕ) → s < length (ids h) → length (drop 1 (stream_numbers h s)) ≡ latest h s
   versions-counted s low = go (stream_numbers h s) (numbers-counted h s low)
     where
       go : (ns : List ℕ) → length ns ≡ latest h s + 1 → length (drop 1 ns) ≡ latest h s

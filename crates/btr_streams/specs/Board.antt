@@ -36,6 +36,15 @@ pub record Kept : Type 0 where
 abbrev pub tree_at : List Versions → ℕ → ℕ → Option TreeValue
 tree_at streams stream version = option_and_then (λ s. slice_get s.trees version) (slice_get streams stream)
 
+-- The number of versions of a stream, with version 0; 0 if there is no stream.
+abbrev pub trees_count : Option Versions → ℕ
+trees_count None = 0
+trees_count (Some s) = length s.trees
+
+-- The number of versions of the stream with this number.
+abbrev pub versions_in : List Versions → ℕ → ℕ
+versions_in streams stream = trees_count (slice_get streams stream)
+
 -- The place of an id among ids: that of the first that is equal.
 abbrev pub place_of : List ℕ → ℕ → Option ℕ
 place_of ids id = position_from (nat_eq id) 0 ids

@@ -9,6 +9,8 @@ pub mod Rolling
 pub mod Restoring
 -- what shows of a history beside its points
 pub mod Outline
+-- what a question asks for that is not refused
+pub mod Wanted
 -- what the private functions promise
 pub mod Stage
 pub mod Answering

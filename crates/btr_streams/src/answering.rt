@@ -1,19 +1,19 @@
 //! The answers to questions, which a board reads from the trees of its streams.
-ghost use Rattle.std.specs.Prelude.{◌≡◌, ◌<◌, ◌≤◌, List, length, slice_get, IfOk, IfErr, IsNone, MatchOption, Some};
+ghost use Rattle.std.specs.Prelude.{◌≡◌, ◌<◌, ◌≤◌, ◌^◌, List, length, slice_get, IfOk, IsNone, MatchOption, Some, Option};
+ghost use Rattle.btr_base.specs.Range.{RangeValue};
 ghost use Rattle.btr_hist.specs.declared.entry.Entry.{Entry as EntrySpec};
 ghost use Rattle.btr_hist.specs.declared.query.Query.TheVariants as ask;
-ghost use Rattle.btr_hist.specs.declared.answer.Refusal.TheVariants.{Retired};
-ghost use Rattle.btr_hist.specs.History.{ids, earliest};
-ghost use Rattle.btr_hist.specs.Answer.{answer, version_of, rows_from};
-ghost use Rattle.btr_streams.specs.Board.{IsBoardOf};
-ghost use Rattle.btr_streams.specs.Answering.{IsVersion, IsPresentVersion, IsAskedRange, RefusesEach, RefusesVersion, RefusesRange};
+ghost use Rattle.btr_hist.specs.History.{ids};
+ghost use Rattle.btr_hist.specs.Answer.{answer, rows_from};
+ghost use Rattle.btr_streams.specs.declared.asking.Wanted.TheVariants as want;
+ghost use Rattle.btr_streams.specs.Board.{IsBoardOf, IsTreeOf, versions_in};
+ghost use Rattle.btr_streams.specs.Wanted.{answer_to, MayBeRead};
 
+use crate::asking::{StreamFacts, Wanted, test_query};
 use crate::board::Board;
-use btr_base::{MAX_EXPONENT, MAX_WIDTH, Range, Toward};
+use btr_base::{Range, Toward};
 use btr_diff::changes;
-use btr_hist::{
-    Answer, At, CellList, PointList, Query, Refusal, Rows, StreamList, StreamRow, VersionAsked,
-};
+use btr_hist::{Answer, CellList, PointList, Query, Reads, Rows, StreamList, StreamRow};
 use btr_scan::{nearest, range};
 use btr_tree::{Label, Steps, Tree};
 use btr_window::{aligned, windows};
@@ -24,47 +24,87 @@ struct AnswerWalk;
 
 impl Label for AnswerWalk {}
 
+impl StreamFacts for Board {
+    ghost use Rattle.btr_streams.specs.Board.{IsBoardOf, versions_in};
+
+    ghost IsOf = { IsBoardOf };
+
+    ghost versions = { λ b. versions_in b.streams };
+
+    fn latest_version(&self, stream: u32) -> Option<u64> {
+        self.latest(stream)
+    }
+
+    fn earliest_version(&self, stream: u32) -> u64 {
+        match self.streams.get(stream as usize) {
+            Some(kept) => kept.earliest,
+            None => 0,
+        }
+    }
+
+    fn is_output(&self, stream: u32) -> bool {
+        self.spec(stream).is_some()
+    }
+
+    fn versions_read(&self, stream: u32, version: u64) -> Option<Reads> {
+        self.reads(stream, version)
+    }
+}
+
 impl Board {
     /// Answers a question. It costs the nodes of the tree that the question needs, and its rows. The list of all streams costs
     /// their number. An `Err` means out of memory.
     pub fn answer(&self, alloc: Global, query: &Query) -> Result<Answer, AllocError>
         ensures { (h : List EntrySpec) → IsBoardOf h self.now → IfOk result (λ a. a ≡ answer h query.now) }
     {
-        match *query {
-            Query::Points {
+        match test_query(self, query) {
+            Ok(wanted) => self.read(alloc, wanted),
+            Err(refusal) => Ok(Answer::Refused(refusal)),
+        }
+    }
+
+    /// Answers with what is wanted.
+    fn read(&self, alloc: Global, wanted: Wanted) -> Result<Answer, AllocError>
+        requires { MayBeRead (versions_in self.now.streams) wanted }
+        ensures { (h : List EntrySpec) → IsBoardOf h self.now → IfOk result (λ a. a ≡ answer_to h wanted) }
+    {
+        match wanted {
+            Wanted::Points {
                 stream,
-                from,
-                to,
-                at,
-            } => self.points(alloc, VersionAsked { stream, at }, from, to),
-            Query::Nearest {
+                version,
+                range,
+            } => self.points(alloc, stream, version, range),
+            Wanted::Nearest {
                 stream,
+                version,
                 time,
                 toward,
-                at,
-            } => self.nearest(alloc, VersionAsked { stream, at }, time, toward),
-            Query::Aligned {
+            } => self.nearest(alloc, stream, version, time, toward),
+            Wanted::Aligned {
                 stream,
-                from,
-                to,
+                version,
+                range,
                 p,
-                at,
-            } => self.aligned(alloc, VersionAsked { stream, at }, from, to, p),
-            Query::Windows {
+            } => self.aligned(alloc, stream, version, range, p),
+            Wanted::Windows {
                 stream,
-                from,
-                to,
+                version,
+                range,
                 width,
-                at,
-            } => self.windows(alloc, VersionAsked { stream, at }, from, to, width),
-            Query::Changes {
+            } => self.windows(alloc, stream, version, range, width),
+            Wanted::Changes {
                 stream,
                 old,
                 new,
                 p,
             } => self.changes(alloc, stream, old, new, p),
-            Query::Info { stream, at } => Ok(self.info(VersionAsked { stream, at })),
-            Query::Streams => self.all_streams(alloc),
+            Wanted::Info {
+                stream,
+                version,
+                output,
+                reads,
+            } => Ok(self.info(stream, version, output, reads)),
+            Wanted::Streams => self.all_streams(alloc),
         }
     }
 
@@ -72,17 +112,14 @@ impl Board {
     fn points(
         &self,
         alloc: Global,
-        asked: VersionAsked,
-        from: i64,
-        to: i64,
+        stream: u32,
+        version: u64,
+        between: Range,
     ) -> Result<Answer, AllocError>
-        ensures { (h : List EntrySpec) → IsBoardOf h self.now → IfOk result (λ a. a ≡ answer h (ask.Points asked.stream from to asked.at)) }
+        requires { version < versions_in self.now.streams stream }
+        ensures { (h : List EntrySpec) → IsBoardOf h self.now → IfOk result (λ a. a ≡ answer_to h (want.Points stream version between)) }
     {
-        let (version, tree, between) = match self.range_at(asked, from, to) {
-            Ok(there) => there,
-            Err(refusal) => return Ok(Answer::Refused(refusal)),
-        };
-        let found = range(alloc, tree, between)?;
+        let found = range(alloc, self.tree_of(stream, version), between)?;
         Ok(Answer::Found {
             version,
             rows: Rows::Points(PointList::from_points(found)),
@@ -93,20 +130,18 @@ impl Board {
     fn nearest(
         &self,
         alloc: Global,
-        asked: VersionAsked,
+        stream: u32,
+        version: u64,
         time: i64,
         toward: Toward,
     ) -> Result<Answer, AllocError>
-        ensures { (h : List EntrySpec) → IsBoardOf h self.now →
-            IfOk result (λ a. a ≡ answer h (ask.Nearest asked.stream time toward asked.at)) }
+        requires { version < versions_in self.now.streams stream }
+        ensures { (h : List EntrySpec) → IsBoardOf h self.now
+            → IfOk result (λ a. a ≡ answer_to h (want.Nearest stream version time toward)) }
     {
-        let (version, tree) = match self.version_at(asked) {
-            Ok(there) => there,
-            Err(refusal) => return Ok(Answer::Refused(refusal)),
-        };
         let mut steps = Steps::<AnswerWalk>::new();
         let mut found = Vec::new(alloc);
-        if let Some(point) = nearest(tree, time, toward, &mut steps) {
+        if let Some(point) = nearest(self.tree_of(stream, version), time, toward, &mut steps) {
             found.push(point)?;
         }
         Ok(Answer::Found {
@@ -119,22 +154,17 @@ impl Board {
     fn aligned(
         &self,
         alloc: Global,
-        asked: VersionAsked,
-        from: i64,
-        to: i64,
+        stream: u32,
+        version: u64,
+        between: Range,
         p: u8,
     ) -> Result<Answer, AllocError>
-        ensures { (h : List EntrySpec) → IsBoardOf h self.now →
-            IfOk result (λ a. a ≡ answer h (ask.Aligned asked.stream from to p asked.at)) }
+        requires there { version < versions_in self.now.streams stream }
+        requires power { p ≤ 62 }
+        ensures { (h : List EntrySpec) → IsBoardOf h self.now
+            → IfOk result (λ a. a ≡ answer_to h (want.Aligned stream version between p)) }
     {
-        let (version, tree, between) = match self.range_at(asked, from, to) {
-            Ok(there) => there,
-            Err(refusal) => return Ok(Answer::Refused(refusal)),
-        };
-        if p > MAX_EXPONENT {
-            return Ok(Answer::Refused(Refusal::BadRange));
-        }
-        let found = aligned(alloc, tree, between, p)?;
+        let found = aligned(alloc, self.tree_of(stream, version), between, p)?;
         Ok(Answer::Found {
             version,
             rows: Rows::Cells(CellList::from_cells(found)),
@@ -145,22 +175,18 @@ impl Board {
     fn windows(
         &self,
         alloc: Global,
-        asked: VersionAsked,
-        from: i64,
-        to: i64,
+        stream: u32,
+        version: u64,
+        between: Range,
         width: u64,
     ) -> Result<Answer, AllocError>
-        ensures { (h : List EntrySpec) → IsBoardOf h self.now →
-            IfOk result (λ a. a ≡ answer h (ask.Windows asked.stream from to width asked.at)) }
+        requires there { version < versions_in self.now.streams stream }
+        requires some { 1 ≤ width }
+        requires most { width ≤ 2 ^ 62 }
+        ensures { (h : List EntrySpec) → IsBoardOf h self.now
+            → IfOk result (λ a. a ≡ answer_to h (want.Windows stream version between width)) }
     {
-        let (version, tree, between) = match self.range_at(asked, from, to) {
-            Ok(there) => there,
-            Err(refusal) => return Ok(Answer::Refused(refusal)),
-        };
-        if width == 0 || width > MAX_WIDTH {
-            return Ok(Answer::Refused(Refusal::BadRange));
-        }
-        let found = windows(alloc, tree, between, width)?;
+        let found = windows(alloc, self.tree_of(stream, version), between, width)?;
         Ok(Answer::Found {
             version,
             rows: Rows::Cells(CellList::from_cells(found)),
@@ -176,49 +202,34 @@ impl Board {
         new: u64,
         p: u8,
     ) -> Result<Answer, AllocError>
-        ensures { (h : List EntrySpec) → IsBoardOf h self.now → IfOk result (λ a. a ≡ answer h (ask.Changes stream old new p)) }
+        requires there { new < versions_in self.now.streams stream }
+        requires order { old ≤ new }
+        requires power { p ≤ 62 }
+        ensures { (h : List EntrySpec) → IsBoardOf h self.now → IfOk result (λ a. a ≡ answer_to h (want.Changes stream old new p)) }
     {
-        let newest = At::Number(old.max(new));
-        let (version, newer) = match self.kept_version_at(VersionAsked { stream, at: newest }) {
-            Ok(there) => there,
-            Err(refusal) => return Ok(Answer::Refused(refusal)),
-        };
-        if let Some(refusal) = self.retired_at(stream, old.min(new)) {
-            return Ok(Answer::Refused(refusal));
-        }
-        if old > new || p > MAX_EXPONENT {
-            return Ok(Answer::Refused(Refusal::BadRange));
-        }
-        let (_, older) = match self.kept_version_at(VersionAsked {
-            stream,
-            at: At::Number(old),
-        }) {
-            Ok(there) => there,
-            Err(refusal) => return Ok(Answer::Refused(refusal)),
-        };
         let mut steps = Steps::<AnswerWalk>::new();
+        let older = self.tree_of(stream, old);
+        let newer = self.tree_of(stream, new);
         let older = older.uncounted::<AnswerWalk>();
         let found = changes(alloc, older, newer, old, p, &mut steps)?;
         Ok(Answer::Found {
-            version,
+            version: new,
             rows: Rows::Ranges(found),
         })
     }
 
-    /// Answers with the kind of the stream, the aggregate of a whole version, and what the version has read.
-    fn info(&self, asked: VersionAsked) -> Answer
-        ensures { (h : List EntrySpec) → IsBoardOf h self.now → result ≡ answer h (ask.Info asked.stream asked.at) }
+    /// Answers with the aggregate of a whole version, the kind of the stream, and what the version has read.
+    fn info(&self, stream: u32, version: u64, output: bool, reads: Option<Reads>) -> Answer
+        requires { version < versions_in self.now.streams stream }
+        ensures { (h : List EntrySpec) → IsBoardOf h self.now → result ≡ answer_to h (want.Info stream version output reads) }
     {
-        match self.version_at(asked) {
-            Ok((version, tree)) => Answer::Found {
-                version,
-                rows: Rows::Info {
-                    output: self.spec(asked.stream).is_some(),
-                    agg: tree.root_agg(),
-                    reads: self.reads(asked.stream, version),
-                },
+        Answer::Found {
+            version,
+            rows: Rows::Info {
+                output,
+                agg: self.tree_of(stream, version).root_agg(),
+                reads,
             },
-            Err(refusal) => Answer::Refused(refusal),
         }
     }
 
@@ -253,78 +264,14 @@ impl Board {
         })
     }
 
-    /// Returns the version that a question asks for, its tree, and the range, or why the question is refused.
-    fn range_at(
-        &self,
-        asked: VersionAsked,
-        from: i64,
-        to: i64,
-    ) -> Result<(u64, &Tree, Range), Refusal>
-        ensures there { (h : List EntrySpec) → IsBoardOf h self.now
-            → IfOk result (λ r. IsPresentVersion h asked.stream (version_of h asked.stream asked.at) r.0 r.1.now) }
-        ensures range { IfOk result (λ r. IsAskedRange from to r.2) }
-        ensures refused { (h : List EntrySpec) → IsBoardOf h self.now → IfErr result (RefusesRange h asked.stream from to asked.at) }
+    /// Returns the tree of a version that the stream has. It costs logarithmic time and takes no memory.
+    fn tree_of(&self, stream: u32, version: u64) -> &Tree
+        requires { version < versions_in self.now.streams stream }
+        ensures { (h : List EntrySpec) → IsBoardOf h self.now → IsTreeOf h stream version result.now }
     {
-        let (version, tree) = match self.version_at(asked) {
-            Ok(there) => there,
-            Err(refusal) => return Err(refusal),
-        };
-        match Range::new(from, to) {
-            Some(between) => Ok((version, tree, between)),
-            None => Err(Refusal::BadRange),
-        }
-    }
-
-    /// Returns the number of the version that a question asks for, and its tree, or why the question is refused.
-    fn version_at(&self, asked: VersionAsked) -> Result<(u64, &Tree), Refusal>
-        ensures there { (h : List EntrySpec) → IsBoardOf h self.now
-            → IfOk result (λ r. IsPresentVersion h asked.stream (version_of h asked.stream asked.at) r.0 r.1.now) }
-        ensures refused { (h : List EntrySpec) → IsBoardOf h self.now → IfErr result (RefusesVersion h asked.stream asked.at) }
-    {
-        let (version, tree) = match self.kept_version_at(asked) {
-            Ok(there) => there,
-            Err(refusal) => return Err(refusal),
-        };
-        match self.retired_at(asked.stream, version) {
-            Some(refusal) => Err(refusal),
-            None => Ok((version, tree)),
-        }
-    }
-
-    /// Returns why a question about this version of a stream is refused if it is retired, or `None` if it is not.
-    fn retired_at(&self, stream: u32, asked: u64) -> Option<Refusal>
-        ensures { (h : List EntrySpec) → IsBoardOf h self.now
-            → MatchOption result (earliest h stream ≤ asked) (λ r. (asked < earliest h stream) × (r ≡ Retired asked (earliest h stream))) }
-    {
-        let Some(kept) = self.streams.get(stream as usize) else {
-            return None;
-        };
-        if asked < kept.earliest {
-            return Some(Refusal::Retired {
-                asked,
-                first: kept.earliest,
-            });
-        }
-        None
-    }
-
-    /// Returns the number of the version that a question asks for, which may be retired, and its tree, or why the question is refused.
-    fn kept_version_at(&self, asked: VersionAsked) -> Result<(u64, &Tree), Refusal>
-        ensures there { (h : List EntrySpec) → IsBoardOf h self.now
-            → IfOk result (λ r. IsVersion h asked.stream (version_of h asked.stream asked.at) r.0 r.1.now) }
-        ensures refused { (h : List EntrySpec) → IsBoardOf h self.now → IfErr result (RefusesEach h asked.stream asked.at) }
-    {
-        let VersionAsked { stream, at } = asked;
-        let Some(latest) = self.latest(stream) else {
-            return Err(Refusal::NoStream);
-        };
-        let asked = match at {
-            At::Number(number) => number,
-            At::Latest => latest,
-        };
-        match self.tree(stream, asked) {
-            Some(tree) => Ok((asked, tree)),
-            None => Err(Refusal::NoVersion { asked, latest }),
+        match self.tree(stream, version) {
+            Some(tree) => tree,
+            None => unreachable!(),
         }
     }
 }

@@ -1,9 +1,10 @@
 //! The board: what an engine keeps of a history in memory, for its calls and questions.
-ghost use Rattle.std.specs.Prelude.{◌≡◌, ◌-◌, ◌^◌, ◌<◌, List, [], length, slice_get, IfOk, IfSome, MatchOption, option_map};
+ghost use Rattle.std.specs.Prelude.{◌≡◌, ◌+◌, ◌-◌, ◌^◌, ◌<◌, ◌≤◌, List, [], length, slice_get};
+ghost use Rattle.std.specs.Prelude.{IfOk, IfSome, IsNone, MatchOption, option_map};
 ghost use Rattle.btr_hist.specs.declared.entry.Entry.{Entry as EntrySpec};
 ghost use Rattle.btr_hist.specs.History.{ids, stream_of, spec_of, read_by};
 ghost use Rattle.btr_streams.specs.Past.{stream_numbers};
-ghost use Rattle.btr_streams.specs.Board.{IsBoardOf, HasStreamsOf, HasVersion, IsTreeOf, latest_of, read_at};
+ghost use Rattle.btr_streams.specs.Board.{IsBoardOf, HasStreamsOf, HasVersion, IsTreeOf, latest_of, read_at, versions_in};
 ghost use Rattle.btr_streams.specs.Snapshot.{IsSnapshotOf};
 
 use crate::snapshot::Snapshot;
@@ -188,6 +189,7 @@ impl Board {
         ensures known { (h : List EntrySpec) → HasStreamsOf h self.now → result ≡ latest_of h stream }
         ensures kept { result ≡ option_map (λ s. length s.trees - 1) (slice_get self.now.streams stream) }
         ensures few { IfSome result (λ version. version < 2 ^ 32) }
+        ensures counted { IfSome result (λ version. versions_in self.now.streams stream ≡ version + 1) }
     {
         let kept = self.streams.get(stream as usize)?;
         Some((kept.trees.len() - 1) as u64)
@@ -196,7 +198,8 @@ impl Board {
     /// Returns the tree of a version of a stream, or `None` if there is no such stream or version. A retired version has its tree.
     /// It costs logarithmic time and takes no memory.
     pub fn tree(&self, stream: u32, version: u64) -> Option<&Tree>
-        ensures { (h : List EntrySpec) → IsBoardOf h self.now
+        ensures past { IsNone result → versions_in self.now.streams stream ≤ version }
+        ensures of { (h : List EntrySpec) → IsBoardOf h self.now
             → MatchOption result (HasVersion h stream version → ⊥) (λ t. IsTreeOf h stream version t.now) }
     {
         let kept = self.streams.get(stream as usize)?;

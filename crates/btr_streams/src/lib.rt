@@ -7,6 +7,7 @@
 
 // a board, and its questions
 mod answering;
+mod asking;
 mod board;
 mod snapshot;
 // an entry more
@@ -21,6 +22,7 @@ mod staging;
 mod restoring;
 mod rolling;
 
+pub use asking::{StreamFacts, Wanted, test_query};
 pub use board::{Board, PushFault, Receipt, Staged};
 pub use making::{Alone, Crew, TreeMaker};
 pub use snapshot::Snapshot;

@@ -8,7 +8,7 @@ use Rattle.std.specs.Int.{w32, w64, to_be_bytes, from_be_bytes}
 use Rattle.btr_disk.specs.Gate.{zeros}
 use Rattle.btr_disk.proofs.GateLemmas.{length-zeros}
 use Rattle.btr_super.specs.declared.superblock.Super.{Super}
-use Rattle.btr_super.specs.Super.{super_bytes, IsLogStart, is_log_start, IsSuper, FitsFields}
+use Rattle.btr_super.specs.Super.{super_bytes, seal_word, IsLogStart, is_log_start, IsSuper, FitsFields}
 
 -- a field after a prefix
 field_at : (prefix x rest : List ℕ) (at n : ℕ) → length prefix ≡ at → length x ≡ n → take n (drop at (prefix ++ (x ++ rest))) ≡ x
@@ -65,12 +65,15 @@ read-super_bytes s side f q b t k block fits spelled on_side ef eq eb et ek =
     let B : List ℕ = to_be_bytes w64 s.blocks in
     let T : List ℕ = to_be_bytes w64 s.tail in
     let K : List ℕ = to_be_bytes w64 s.checkpoint in
+    let W : List ℕ = to_be_bytes w64 (seal_word s) in
+    let E : List ℕ = W ++ zeros 4040 in
+    let spelled : block ≡ M ++ F ++ zeros 4 ++ Q ++ B ++ T ++ K ++ E = spelled ∙ append_assoc (M ++ F ++ zeros 4 ++ Q ++ B ++ T ++ K) W (zeros 4040) in
     let lz : length (zeros 4) ≡ 4 = length-zeros 4 in
-    let pf : f ≡ s.format = ef ∙ ap (λ x. from_be_bytes w32 (take 4 (drop 8 x))) spelled ∙ ap (from_be_bytes w32) (format_at M F (zeros 4) Q B T K (zeros 4048) refl refl lz refl refl refl refl) ∙ from_be_bytes-to_be_bytes_4 s.format fits.format in
-    let pq : q ≡ s.seq = eq ∙ ap (λ x. from_be_bytes w64 (take 8 (drop 16 x))) spelled ∙ ap (from_be_bytes w64) (seq_at M F (zeros 4) Q B T K (zeros 4048) refl refl lz refl refl refl refl) ∙ from_be_bytes-to_be_bytes_8 s.seq fits.seq in
-    let pb : b ≡ s.blocks = eb ∙ ap (λ x. from_be_bytes w64 (take 8 (drop 24 x))) spelled ∙ ap (from_be_bytes w64) (blocks_at M F (zeros 4) Q B T K (zeros 4048) refl refl lz refl refl refl refl) ∙ from_be_bytes-to_be_bytes_8 s.blocks fits.blocks in
-    let pt : t ≡ s.tail = et ∙ ap (λ x. from_be_bytes w64 (take 8 (drop 32 x))) spelled ∙ ap (from_be_bytes w64) (tail_at M F (zeros 4) Q B T K (zeros 4048) refl refl lz refl refl refl refl) ∙ from_be_bytes-to_be_bytes_8 s.tail fits.tail in
-    let pk : k ≡ s.checkpoint = ek ∙ ap (λ x. from_be_bytes w64 (take 8 (drop 40 x))) spelled ∙ ap (from_be_bytes w64) (checkpoint_at M F (zeros 4) Q B T K (zeros 4048) refl refl lz refl refl refl refl) ∙ from_be_bytes-to_be_bytes_8 s.checkpoint fits.checkpoint in
+    let pf : f ≡ s.format = ef ∙ ap (λ x. from_be_bytes w32 (take 4 (drop 8 x))) spelled ∙ ap (from_be_bytes w32) (format_at M F (zeros 4) Q B T K E refl refl lz refl refl refl refl) ∙ from_be_bytes-to_be_bytes_4 s.format fits.format in
+    let pq : q ≡ s.seq = eq ∙ ap (λ x. from_be_bytes w64 (take 8 (drop 16 x))) spelled ∙ ap (from_be_bytes w64) (seq_at M F (zeros 4) Q B T K E refl refl lz refl refl refl refl) ∙ from_be_bytes-to_be_bytes_8 s.seq fits.seq in
+    let pb : b ≡ s.blocks = eb ∙ ap (λ x. from_be_bytes w64 (take 8 (drop 24 x))) spelled ∙ ap (from_be_bytes w64) (blocks_at M F (zeros 4) Q B T K E refl refl lz refl refl refl refl) ∙ from_be_bytes-to_be_bytes_8 s.blocks fits.blocks in
+    let pt : t ≡ s.tail = et ∙ ap (λ x. from_be_bytes w64 (take 8 (drop 32 x))) spelled ∙ ap (from_be_bytes w64) (tail_at M F (zeros 4) Q B T K E refl refl lz refl refl refl refl) ∙ from_be_bytes-to_be_bytes_8 s.tail fits.tail in
+    let pk : k ≡ s.checkpoint = ek ∙ ap (λ x. from_be_bytes w64 (take 8 (drop 40 x))) spelled ∙ ap (from_be_bytes w64) (checkpoint_at M F (zeros 4) Q B T K E refl refl lz refl refl refl refl) ∙ from_be_bytes-to_be_bytes_8 s.checkpoint fits.checkpoint in
     let ps : side ≡ s.side = sym on_side in
     λ i. record { seq = pq i; side = ps i; blocks = pb i; tail = pt i; checkpoint = pk i; format = pf i }
 
@@ -89,7 +92,11 @@ length-super_bytes s =
     let B : List ℕ = to_be_bytes w64 s.blocks in
     let T : List ℕ = to_be_bytes w64 s.tail in
     let K : List ℕ = to_be_bytes w64 s.checkpoint in
-    length_of M F (zeros 4) Q B T K (zeros 4048) refl refl (length-zeros 4) refl refl refl refl (length-zeros 4048)
+    let W : List ℕ = to_be_bytes w64 (seal_word s) in
+    let E : List ℕ = W ++ zeros 4040 in
+    let all : length E ≡ 4048 = omega (arith, length-append W (zeros 4040), length-zeros 4040) in
+    ap length (append_assoc (M ++ F ++ zeros 4 ++ Q ++ B ++ T ++ K) W (zeros 4040))
+    ∙ length_of M F (zeros 4) Q B T K E refl refl (length-zeros 4) refl refl refl refl all
 
 -- the table keeps each field small enough
 pub FitsFields-from_table : (size : ℕ) (s : Super) → IsSuper size s → FitsFields s

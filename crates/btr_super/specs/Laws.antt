@@ -1,8 +1,8 @@
 -- The law of the formats, as numerals.
 use Rattle.std.specs.Prelude.{◌≡◌}
-use Rattle.btr_super.specs.declared.superblock.TheConstants.{FORMAT, MAX_FORMAT}
+use Rattle.btr_super.specs.declared.superblock.TheConstants.{FORMAT, SEALED_FORMAT}
 
 -- The formats of superblocks that keep the table, from the least to the greatest.
 pub record FormatLimits : Type 0 where
   pub least : FORMAT ≡ 1
-  pub greatest : MAX_FORMAT ≡ 3
+  pub greatest : SEALED_FORMAT ≡ 4

@@ -1,8 +1,17 @@
 -- Superblocks: the bytes of one, and the table that it keeps.
-use Rattle.std.specs.Prelude.{◌≡◌, ◌⊎◌, ℕ, ◌+◌, ◌-◌, ◌^◌, ◌<◌, ◌≤◌, nat_eq, nat_le, nat_lt, Bool, ◌&&◌, ◌||◌, List, ◌++◌, codes}
+use Rattle.std.specs.Prelude.{◌≡◌, ◌⊎◌, ℕ, ◌+◌, ◌-◌, ◌^◌, ◌<◌, ◌≤◌, nat_eq, nat_le, nat_lt, Bool, ◌&&◌, ◌||◌, if◌then◌else◌}
+use Rattle.std.specs.Prelude.{List, ◌++◌, codes}
 use Rattle.std.specs.Int.{w32, w64, to_be_bytes}
 use Rattle.btr_disk.specs.Gate.{zeros}
 use Rattle.btr_super.specs.declared.superblock.Super.{Super}
+
+-- The store is sealed: its superblock has format 4, and no other store's has.
+abbrev pub has_seal : Super → Bool
+has_seal s = nat_eq s.format 4
+
+-- The number in a superblock's body that says so.
+abbrev pub seal_word : Super → ℕ
+seal_word s = if has_seal s then 1 else 0
 
 -- The 4096 bytes of a superblock's body; numbers have their highest byte first.
 unfoldable pub super_bytes : Super → List ℕ
@@ -14,7 +23,8 @@ super_bytes s =
     ++ to_be_bytes w64 s.blocks
     ++ to_be_bytes w64 s.tail
     ++ to_be_bytes w64 s.checkpoint
-    ++ zeros 4048
+    ++ to_be_bytes w64 (seal_word s)
+    ++ zeros 4040
 
 -- The log is read from its beginning, or from a gate after that of a checkpoint.
 abbrev pub IsLogStart : ℕ → ℕ → Type 0
@@ -26,7 +36,7 @@ is_log_start checkpoint tail = (nat_eq checkpoint 0 && nat_eq tail 4) || (nat_le
 
 -- The table that a superblock keeps on a device of `size` blocks.
 pub record IsSuper (size : ℕ) (s : Super) : Type 0 where
-  pub known_format : (1 ≤ s.format) × (s.format ≤ 3)
+  pub known_format : (1 ≤ s.format) × (s.format ≤ 4)
   pub has_side : s.side ≤ 1
   pub seq_from : 1 ≤ s.seq
   pub seq_to : s.seq ≤ s.tail - 4 + s.format

@@ -1,9 +1,11 @@
 //! The codec of a superblock's body: from superblock to block and back, and the table that it keeps.
 ghost use Rattle.std.specs.Prelude.{◌≡◌, ◌↔◌, ◌≤◌, length, IsTrue, IfSome};
 ghost use Rattle.btr_super.specs.declared.superblock.Super.{Super};
-ghost use Rattle.btr_super.specs.Super.{super_bytes, IsLogStart, IsSuper, FitsFields};
+ghost use Rattle.btr_super.specs.Super.{super_bytes, seal_word, IsLogStart, IsSuper, FitsFields};
 
-use crate::superblock::{FORMAT, LOG_START, MAX_BLOCKS, MAX_FORMAT, MIN_BLOCKS, SUPER_MARK, Super};
+use crate::superblock::{
+    FORMAT, LOG_START, MAX_BLOCKS, MIN_BLOCKS, SEALED_FORMAT, SUPER_MARK, Super,
+};
 use btr_disk::BLOCK;
 use btr_disk::bytes::{put, u32_at, u64_at};
 
@@ -18,7 +20,15 @@ pub(crate) fn encode(s: &Super) -> [u8; BLOCK]
     put(&mut block, 24, &s.blocks.to_be_bytes());
     put(&mut block, 32, &s.tail.to_be_bytes());
     put(&mut block, 40, &s.checkpoint.to_be_bytes());
+    put(&mut block, 48, &seal_word(s).to_be_bytes());
     block
+}
+
+/// The number in a superblock's body that says whether the store is sealed.
+fn seal_word(s: &Super) -> u64
+    ensures { result ≡ seal_word s.now }
+{
+    if s.is_sealed() { 1 } else { 0 }
 }
 
 /// The superblock of this side that a block spells. A superblock has one spelling, and a block that differs
@@ -49,7 +59,7 @@ pub(crate) fn keeps_table(s: &Super, size: u64) -> bool
     ensures { IsTrue result ↔ IsSuper size s.now }
 {
     FORMAT <= s.format
-        && s.format <= MAX_FORMAT
+        && s.format <= SEALED_FORMAT
         && MIN_BLOCKS <= s.blocks
         && s.blocks <= MAX_BLOCKS
         && s.blocks <= size

@@ -17,4 +17,4 @@ pub use choosing::{ChooseFault, choose};
 pub use formatting::{FormatFault, format};
 pub use laws::formats_are_these;
 pub use replacing::{ReplaceFault, replace};
-pub use superblock::{FORMAT, LOG_START, MAX_BLOCKS, MAX_FORMAT, MIN_BLOCKS, SUPER_MARK, Super};
+pub use superblock::{FORMAT, LOG_START, MAX_BLOCKS, MIN_BLOCKS, SEALED_FORMAT, SUPER_MARK, Super};

@@ -1,10 +1,12 @@
 //! Superblocks: what one says, and the limits of its fields.
+ghost use Rattle.std.specs.Prelude.{◌≡◌};
+ghost use Rattle.btr_super.specs.Super.{has_seal};
 
 /// The format of a superblock that [`format`](crate::format) writes: the least one. [`crate::formats_are_these`] states it as a numeral.
 pub const FORMAT: u32 = 1;
 
-/// The greatest format of a superblock. [`crate::formats_are_these`] states it as a numeral.
-pub const MAX_FORMAT: u32 = 3;
+/// The greatest format of a superblock: that of a sealed store. [`crate::formats_are_these`] states it as a numeral.
+pub const SEALED_FORMAT: u32 = 4;
 
 /// The block at which the log begins: a gate.
 pub const LOG_START: u64 = 4;
@@ -36,6 +38,15 @@ pub struct Super {
     /// The gate of the checkpoint from which the log is read, less than `tail`, or 0 if there is no checkpoint.
     pub checkpoint: u64,
 
-    /// The format of the device: [`FORMAT`] to [`MAX_FORMAT`].
+    /// The format of the device: [`FORMAT`] to [`SEALED_FORMAT`].
     pub format: u32,
+}
+
+impl Super {
+    /// Returns whether the store is sealed, which its format says. A sealed store takes no more entries.
+    pub fn is_sealed(&self) -> bool
+        ensures { result ≡ has_seal self.now }
+    {
+        self.format == SEALED_FORMAT
+    }
 }

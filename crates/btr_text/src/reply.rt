@@ -100,6 +100,9 @@ pub enum Reason {
         entries: u64,
     },
 
+    /// The store is sealed, so it takes no more commits.
+    Sealed,
+
     /// The output has been brought up to date by another commit since, and this is its version now.
     Superseded {
         version: u64,

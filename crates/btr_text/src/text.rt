@@ -106,6 +106,7 @@ pub fn append_reason(out: &mut Vec<u8>, reason: Reason) -> Result<(), AllocError
         Reason::Full { need, left } => append_refusal2(out, b"full", need, left),
         Reason::Device => append_refusal(out, b"device"),
         Reason::Stopped { entries } => append_refusal1(out, b"stopped", entries),
+        Reason::Sealed => append_refusal(out, b"sealed"),
         Reason::Superseded { version } => append_refusal1(out, b"superseded", version),
         Reason::Group => append_refusal(out, b"group"),
         Reason::Busy => append_refusal(out, b"busy"),

@@ -34,6 +34,8 @@ const COMMANDS: &[Words] = &[
     Words(&["ask", "--"], Some(Command::Ask)),
     Words(&["checkpoint"], Some(Command::Checkpoint)),
     Words(&["checkpoint", "--"], Some(Command::Checkpoint)),
+    Words(&["seal"], Some(Command::Seal)),
+    Words(&["seal", "--"], Some(Command::Seal)),
     Words(&["check"], Some(Command::Check)),
     Words(&["check", "--"], Some(Command::Check)),
     Words(
@@ -480,6 +482,12 @@ const WRONG_CHECKPOINTS: &[Words] = &[
     Words(&["Checkpoint"], None),
     Words(&["--checkpoint"], None),
     Words(&["--", "checkpoint"], None),
+    // those of a seal
+    Words(&["seal", "1"], None),
+    Words(&["seal", "--", "--"], None),
+    Words(&["seal", "--batch=8"], None),
+    Words(&["seals"], None),
+    Words(&["sealed"], None),
 ];
 
 #[test]

@@ -126,6 +126,7 @@ module _ (threshold rounds : ℕ) (script : List ScriptLine) (start : StoreState
             calm = λ never. inl refl;
           }
       batch_serves (Refused (steps.Stopped entries)) is = absurd (not_stopped start log running sound follows low is.3.0.stopped)
+      batch_serves (Refused steps.Sealed) is = idle (Refused steps.Sealed) is.0 is.1 is.3.1 (inr (inl refl))
       batch_serves (Refused (steps.Rejected why)) is = idle (Refused (steps.Rejected why)) is.0 is.1 is.3.1 (calm_rejection why)
       batch_serves (Refused steps.Want) is = idle (Refused steps.Want) is.0 is.1 is.3.1 (inr (inr refl))
       batch_serves (Refused (steps.DeviceFull need left)) is =

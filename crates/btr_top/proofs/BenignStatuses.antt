@@ -43,7 +43,7 @@ use Rattle.btr_store.specs.Status.{status_rank, code_of, greater}
 use Rattle.btr_store.specs.Replies.{greatest_of_replies, status_of_reply, status_of_replies}
 use Rattle.btr_top.specs.Ask.{AnswersEach}
 use Rattle.btr_top.specs.Run.{IsPlainStatus}
-use Rattle.btr_live.proofs.ScriptLemmas.{ran_all, left_after, need_of_done, none_not_done, line_is}
+use Rattle.btr_live.proofs.ScriptLemmas.{ran_all, left_after, need_of_done, seal_stays, sealed_if_not_done, line_is}
 use Rattle.btr_jobs.specs.States.{StoreState}
 
 pub benign_code : (s : Status) → IsBenign s → IsPlainStatus (code_of s)
@@ -189,7 +189,7 @@ benign_reply s t m reply replied benign room runs =
     ⊎_elim
     (λ model. along reply (model_reply s.history m) model.replied benign)
     (λ h. ⊎_elim
-    (λ h. absurd (none_not_done s t m reply room runs h))
+    (λ h. along reply (No reasons.Sealed) (sealed_if_not_done s t m reply room runs h).replied (inr (inl refl)))
     (λ lacks. along reply (No reasons.Memory) lacks.replied (inr (inr refl)))
     h)
     replied
@@ -223,7 +223,10 @@ within_not_done s t (Commits e) reply runs h =
     (λ full. within_reply reply (No (reasons.Full (need_of s.history e) s.left)) full.replied refl)
     (λ h. ⊎_elim
     (λ fault. absurd (apart t.stopped (ap (λ (x : StoreState). x.stopped) fault.store) runs))
+    (λ h. ⊎_elim
     (λ stopped. absurd (apart t.stopped (ap (λ (x : StoreState). x.stopped) stopped.store ∙ stopped.stopped) runs))
+    (λ sealed. within_reply reply (No reasons.Sealed) sealed.replied refl)
+    h)
     h)
     h
 within_not_done s t (Asks query) reply runs h = absurd h
@@ -256,6 +259,51 @@ memory_next status benign =
     (λ h. ⊎_elim (λ e. subst (λ s. greater s OutOfMemory ≡ OutOfMemory) (sym e) refl) (λ e. subst (λ s. greater s OutOfMemory ≡ OutOfMemory) (sym e) refl) h)
     benign
 
+-- ---- sealed stores
+
+-- A sealed store that runs refuses each commit for that.
+sealed_not_done : (s t : StoreState) (m : Meaning) (reply : LineReply) → s.sealed ≡ true → t.stopped ≡ false → IsNotDone s m reply t → IsBenign (status_of_reply reply)
+sealed_not_done s t (Commits e) reply sealed runs h =
+    ⊎_elim
+    (λ full. absurd (apart s.sealed sealed full.not_sealed))
+    (λ h. ⊎_elim
+    (λ fault. absurd (apart s.sealed sealed fault.not_sealed))
+    (λ h. ⊎_elim
+    (λ stopped. absurd (apart t.stopped (ap (λ (x : StoreState). x.stopped) stopped.store ∙ stopped.stopped) runs))
+    (λ is. along reply (No reasons.Sealed) is.replied (inr (inl refl)))
+    h)
+    h)
+    h
+sealed_not_done s t (Asks query) reply sealed runs h = absurd h
+sealed_not_done s t (Holds count) reply sealed runs h = absurd h
+sealed_not_done s t (Current version) reply sealed runs h = absurd h
+sealed_not_done s t (Refuses reason) reply sealed runs h = absurd h
+
+sealed_reply : (s t : StoreState) (m : Meaning) (reply : LineReply) → RepliesTo s m reply t → IsBenign (status_of_reply (model_reply s.history m)) → s.sealed ≡ true → t.stopped ≡ false → IsBenign (status_of_reply reply)
+sealed_reply s t m reply replied benign sealed runs =
+    ⊎_elim
+    (λ model. along reply (model_reply s.history m) model.replied benign)
+    (λ h. ⊎_elim
+    (λ h. sealed_not_done s t m reply sealed runs h)
+    (λ lacks. along reply (No reasons.Memory) lacks.replied (inr (inr refl)))
+    h)
+    replied
+
+-- The lines of a sealed store need no room.
+sealed_from : (batch : ℕ) (status : Status) (s t : State) (lines : List ScriptLine) (replies : List LineReply) → IsBenign status → RunsScript batch s lines replies t → s.store.sealed ≡ true → t.store.stopped ≡ false → IsBenign (greatest_of_replies status replies)
+sealed_from batch status s t [] [] benign script sealed runs = benign
+sealed_from batch status s t [] (reply ∷ replies) benign script sealed runs = absurd script
+sealed_from batch status s t (line ∷ lines) [] benign script sealed runs = absurd script
+sealed_from batch status s t (line ∷ lines) (reply ∷ replies) benign script sealed runs =
+    let u : State = script.0 in
+    let m : Meaning = script.1 in
+    let is : RepliesToLine batch s line.line m reply u = script.2 in
+    let running : u.store.stopped ≡ false = ran_all batch u t lines replies script.3 runs in
+    let one : IsBenign (status_of_reply reply) = sealed_reply s.store u.store m reply is.replied (benign_means batch s line.line m reply u is) sealed running in
+    sealed_from batch (greater status (status_of_reply reply)) u t lines replies (benign_greater status (status_of_reply reply) benign one) script.3 (seal_stays s.store u.store m reply is.replied ∙ sealed) runs
+
+-- ---- lines with room
+
 benign_from : (batch : ℕ) (status : Status) (s t : State) (lines : List ScriptLine) (replies : List LineReply) → IsBenign status → RunsScript batch s lines replies t → script_needs batch s lines ≤ s.store.left → t.store.stopped ≡ false → IsBenign (greatest_of_replies status replies)
 benign_from batch status s t [] [] benign script room runs = benign
 benign_from batch status s t [] (reply ∷ replies) benign script room runs = absurd script
@@ -274,7 +322,10 @@ benign_from batch status s t (line ∷ lines) (reply ∷ replies) benign script 
     benign_from batch (greater status (status_of_reply reply)) u t lines replies (benign_greater status (status_of_reply reply) benign one) script.3 left runs)
     (λ h. ⊎_elim
     (λ memory. inr (inr (ap (λ r. greatest_of_replies (greater status (status_of_reply r)) replies) memory ∙ ap (λ x. greatest_of_replies x replies) (memory_next status benign) ∙ ran_out_from batch u t lines replies script.3 runs)))
-    (λ not. absurd (none_not_done s.store u.store m reply (subst (λ (x : Meaning). need_of_meaning s.store.history x ≤ s.store.left) (sym not.0) (omega (arith, room))) running not.1))
+    (λ not.
+    let was = sealed_if_not_done s.store u.store m reply (subst (λ (x : Meaning). need_of_meaning s.store.history x ≤ s.store.left) (sym not.0) (omega (arith, room))) running not.1 in
+    let one : IsBenign (status_of_reply reply) = along reply (No reasons.Sealed) was.replied (inr (inl refl)) in
+    sealed_from batch (greater status (status_of_reply reply)) u t lines replies (benign_greater status (status_of_reply reply) benign one) script.3 (seal_stays s.store u.store m reply is.replied ∙ was.sealed) runs)
     h)
     (line_is batch s u line.line m reply is)
 

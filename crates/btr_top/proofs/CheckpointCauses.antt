@@ -1,5 +1,5 @@
--- Why `checkpoint` ends so: from what the opening says of the engine, and what the checkpoint of the engine says of its answer.
-use Rattle.std.specs.Prelude.{◌≡◌, ◌⊎◌, ℕ, ◌+◌, ◌≤◌, List, length}
+-- Why `checkpoint` or `seal` ends so: from what the opening says of the engine, and what the checkpoint of the engine says of its answer.
+use Rattle.std.specs.Prelude.{◌≡◌, ◌⊎◌, ℕ, ◌+◌, ◌≤◌, Bool, true, false, List, length, Result, Err}
 use Rattle.std.proofs.Common.{refl, sym, ◌∙◌, ap, subst, inl, inr, arith}
 use Rattle.btr_disk.specs.declared.disk.Disk.{Ghosts}
 use Rattle.btr_disk.specs.Bytes.{Image}
@@ -9,22 +9,24 @@ use Rattle.btr_disk.proofs.ByteLemmas.{Same-is}
 use Rattle.btr_disk.proofs.MomentLemmas.{composes, weakens, left_now}
 use Rattle.btr_log.specs.Extents.{left}
 use Rattle.btr_log.specs.Head.{content_blocks}
-use Rattle.btr_super.specs.declared.superblock.Super.{Super}
+use Rattle.btr_super.specs.Super.{has_seal}
 use Rattle.btr_hist.specs.declared.entry.Entry.{Entry}
 use Rattle.btr_roll.specs.Roll.{RollStreamValue, roll_bytes}
 use Rattle.btr_engine.specs.declared.engine.Engine.{Engine}
+use Rattle.btr_engine.specs.declared.step.StepFault.{StepFault}
 use Rattle.btr_engine.specs.declared.step.StepFault.TheVariants as faults
 use Rattle.btr_engine.specs.Holds.{HoldsHistory, HoldsHistoryTo}
-use Rattle.btr_engine.specs.Engine.{device, super_of, board_of, tail_of, blocks_of, room_of, IsAtRest, EngineLeaves, KeepsOpening}
+use Rattle.btr_engine.specs.Engine.{device, super_of, board_of, is_sealed, is_stopped, tail_of, blocks_of, room_of, IsAtRest, EngineLeaves, KeepsOpening}
 use Rattle.btr_engine.specs.Mark as mark
 use Rattle.btr_engine.specs.Mark.{need_of_board, IsNamed, IsCheckpointed}
 use Rattle.btr_streams.proofs.RollingLemmas.{rolled-is}
 use Rattle.btr_streams.proofs.StreamsLemmas.{has-streams}
 use Rattle.btr_open.specs.Opening.{IsOpenedEngine}
+use Rattle.btr_top.specs.declared.checkpoint.CheckpointKind.{CheckpointKind}
 use Rattle.btr_top.specs.declared.ending.Ending.{Ending}
-use Rattle.btr_top.specs.declared.ending.Ending.TheVariants.{Usage, NoSource, TooLong, OutOfMemory, NoDevice, NoStore, Damaged, Occupied, TooSmall, Formatted, Checkpointed, Stands, Full, Shipped, CutShort, Replied}
+use Rattle.btr_top.specs.declared.ending.Ending.TheVariants.{Usage, NoSource, TooLong, OutOfMemory, NoDevice, NoStore, Damaged, Occupied, TooSmall, Formatted, Checkpointed, Sealed, Stands, Full, Shipped, CutShort, Replied}
 use Rattle.btr_top.specs.Command.{IsKept, OpeningCause}
-use Rattle.btr_top.specs.Checkpoint.{need_of_checkpoint, Lasts, AddsCheckpoint, CheckpointEnds}
+use Rattle.btr_top.specs.Checkpoint.{checkpoint_format, need_of_checkpoint, Lasts, AddsCheckpoint, CheckpointEnds}
 use Rattle.btr_top.proofs.OneStore.{AreOne, one_store, one_super}
 
 -- A fault after others is one since then.
@@ -41,9 +43,9 @@ module _ {D : Type 0} (disk : Ghosts D) where
   abbrev pub LeftSince : List Entry → D → Image → Type 0
   LeftSince h old c = disk.images_now old c ⊎ HoldsHistory (disk.size old) c h
 
-  module _ (old new : D) where
+  module _ (kind : CheckpointKind) (old new : D) where
     -- The store was not opened.
-    pub refused_cause : (e : Ending) → OpeningCause disk old new e → IsKept disk old new → CheckpointEnds disk old new e
+    pub refused_cause : (e : Ending) → OpeningCause disk old new e → IsKept disk old new → CheckpointEnds disk kind old new e
     refused_cause Usage why kept = absurd why
     refused_cause NoSource why kept = absurd why
     refused_cause TooLong why kept = absurd why
@@ -54,14 +56,23 @@ module _ {D : Type 0} (disk : Ghosts D) where
     refused_cause Occupied why kept = absurd why
     refused_cause (TooSmall asked has) why kept = absurd why
     refused_cause (Formatted made) why kept = absurd why
-    refused_cause (Checkpointed entries) why kept = absurd why
+    refused_cause (Checkpointed done entries) why kept = absurd why
+    refused_cause Sealed why kept = absurd why
     refused_cause (Stands entries) why kept = absurd why
     refused_cause (Full need room) why kept = absurd why
     refused_cause (Shipped frames) why kept = absurd why
     refused_cause (CutShort cut) why kept = absurd why
     refused_cause (Replied transcript) why kept = absurd why
 
-module _ {D : Type 0} (disk : Ghosts D) (counts_now : CountsNow disk) (old : D) (engine : Engine D disk) (opened : IsOpenedEngine disk old engine) where
+-- What is marked on an engine that runs is not sealed, unless the answer is that it is.
+unsealed_unless : {D : Type 0} {disk : Ghosts D} (engine new : Engine D disk) (format : ℕ) (result : Result ℕ StepFault) → is_stopped engine ≡ false → mark.Marks format engine new result → (result ≡ Err faults.Sealed → ⊥) → is_sealed engine ≡ false
+unsealed_unless engine new format result runs did other = go (is_sealed engine) refl
+  where
+    go : (b : Bool) → is_sealed engine ≡ b → is_sealed engine ≡ false
+    go false is = is
+    go true is = absurd (other (did.sealed runs is).returned)
+
+module _ {D : Type 0} (disk : Ghosts D) (kind : CheckpointKind) (counts_now : CountsNow disk) (old : D) (engine : Engine D disk) (opened : IsOpenedEngine disk old engine) where
   -- A crash at any moment of the checkpoint leaves the history.
   abbrev pub LeavesHistory : Engine D disk → Type 0
   LeavesHistory new =
@@ -84,11 +95,20 @@ module _ {D : Type 0} (disk : Ghosts D) (counts_now : CountsNow disk) (old : D) 
         (sym (Same-is (disk.contents old) (disk.contents (device engine)) (opened.kept.unwritten reported).same)) (blocks_of engine) (tail_of engine) h rests.holds
         ∙ rests.under
 
-    need_is : need_of_board (super_of engine).format (board_of engine) ≡ need_of_checkpoint holds.super.format h holds.leads.roots
+    abbrev format : ℕ
+    format = checkpoint_format kind (super_of engine)
+
+    format_is : checkpoint_format kind holds.super ≡ format
+    format_is = ap (checkpoint_format kind) same_super
+
+    sealed_is : has_seal holds.super ≡ is_sealed engine
+    sealed_is = ap has_seal same_super
+
+    need_is : need_of_board format (board_of engine) ≡ need_of_checkpoint (checkpoint_format kind holds.super) h holds.leads.roots
     need_is =
-        ap (λ (roll : List RollStreamValue). content_blocks (length (roll_bytes (super_of engine).format roll)) + 1) (rolled-is h rests.holds.leads.roots (board_of engine) (has-streams h (board_of engine) rests.of) rests.roots)
-        ∙ ap (λ (roots : List ℕ). need_of_checkpoint (super_of engine).format h roots) (sym same_store.same_roots)
-        ∙ ap (λ (s : Super). need_of_checkpoint s.format h holds.leads.roots) (sym same_super)
+        ap (λ (roll : List RollStreamValue). content_blocks (length (roll_bytes format roll)) + 1) (rolled-is h rests.holds.leads.roots (board_of engine) (has-streams h (board_of engine) rests.of) rests.roots)
+        ∙ ap (λ (roots : List ℕ). need_of_checkpoint format h roots) (sym same_store.same_roots)
+        ∙ ap (λ (f : ℕ). need_of_checkpoint f h holds.leads.roots) (sym format_is)
 
     room_is : room_of engine ≡ left blocks tail
     room_is =
@@ -116,26 +136,33 @@ module _ {D : Type 0} (disk : Ghosts D) (counts_now : CountsNow disk) (old : D) 
           now = left_now calls images start end Held (disk.images_now end) (counts_now reported end) each;
         }
 
-    adds : (new : Engine D disk) (entries : ℕ) → IsCheckpointed engine new entries → KeepsOpening engine new → IsAtRest h new → ((c : Image) → disk.images_now (device new) c → IsNamed (disk.size (device new)) c (blocks_of new) (tail_of new) h) → LeavesHistory new → AddsCheckpoint disk entries old (device new) h (need_of_checkpoint holds.super.format h holds.leads.roots) blocks tail
+    abbrev needed : ℕ
+    needed = need_of_checkpoint (checkpoint_format kind holds.super) h holds.leads.roots
+
+    adds : (new : Engine D disk) (entries : ℕ) → IsCheckpointed format engine new entries → KeepsOpening engine new → IsAtRest h new → ((c : Image) → disk.images_now (device new) c → IsNamed (disk.size (device new)) c (blocks_of new) (tail_of new) h format) → LeavesHistory new → AddsCheckpoint disk kind entries old (device new) h holds.super needed blocks tail
     adds new entries is kept after named leaves =
-        let need : ℕ = need_of_checkpoint holds.super.format h holds.leads.roots in
-        let tails : tail_of new ≡ tail + need =
-        is.tail ∙ ap (λ (t : ℕ). t + need_of_board (super_of engine).format (board_of engine)) (sym same_store.same_tail) ∙ ap (λ (n : ℕ). tail + n) need_is in
-        let image : Image = disk.contents (device new) in
+        let tails : tail_of new ≡ tail + needed =
+        is.tail ∙ ap (λ (t : ℕ). t + need_of_board format (board_of engine)) (sym same_store.same_tail) ∙ ap (λ (n : ℕ). tail + n) need_is in
         record {
           counted = is.entries ∙ rests.of.entries;
-          fits = subst (λ (n : ℕ). n ≤ left blocks tail) need_is (subst (λ (r : ℕ). need_of_board (super_of engine).format (board_of engine) ≤ r) room_is is.fits);
+          unsealed = sealed_is ∙ is.unsealed;
+          fits = subst (λ (n : ℕ). n ≤ left blocks tail) need_is (subst (λ (r : ℕ). need_of_board format (board_of engine) ≤ r) room_is is.fits);
           lasts = lasts_through new leaves;
           safely = record { holds = record { blocks = blocks_of new; tail = tail_of new; holds = after.holds }; only = after.only };
-          named =
-              subst (λ (b : ℕ). IsNamed (disk.size (device new)) image b (tail + need) h) (kept.blocks ∙ sym same_store.same_blocks)
-              (subst (λ (t : ℕ). IsNamed (disk.size (device new)) image (blocks_of new) t h) tails (named image (after.only.itself image (λ k. refl))));
+          named = λ c now.
+              subst (λ (f : ℕ). IsNamed (disk.size (device new)) c blocks (tail + needed) h f) (sym format_is)
+              (subst (λ (b : ℕ). IsNamed (disk.size (device new)) c b (tail + needed) h format) (kept.blocks ∙ sym same_store.same_blocks)
+              (subst (λ (t : ℕ). IsNamed (disk.size (device new)) c (blocks_of new) t h format) tails (named c now)));
         }
 
+  abbrev its_format : ℕ
+  its_format = checkpoint_format kind (super_of engine)
+
   -- The checkpoint was added.
-  pub added_cause : (new : Engine D disk) (end : D) (entries : ℕ) → end ≡ device new → IsCheckpointed engine new entries → KeepsOpening engine new → (disk.is_observable → (h : List Entry) → IsAtRest h engine → IsAtRest h new) → (disk.is_observable → (h : List Entry) → IsAtRest h engine → (c : Image) → disk.images_now (device new) c → IsNamed (disk.size (device new)) c (blocks_of new) (tail_of new) h) → LeavesHistory new → CheckpointEnds disk old end (Checkpointed entries)
+  pub added_cause : (new : Engine D disk) (end : D) (entries : ℕ) → end ≡ device new → IsCheckpointed its_format engine new entries → KeepsOpening engine new → (disk.is_observable → (h : List Entry) → IsAtRest h engine → IsAtRest h new) → (disk.is_observable → (h : List Entry) → IsAtRest h engine → (c : Image) → disk.images_now (device new) c → IsNamed (disk.size (device new)) c (blocks_of new) (tail_of new) h its_format) → LeavesHistory new → CheckpointEnds disk kind old end (Checkpointed kind entries)
   added_cause new end entries same is kept after named leaves =
-      subst (λ (d : D). CheckpointEnds disk old d (Checkpointed entries)) (sym same) (
+      subst (λ (d : D). CheckpointEnds disk kind old d (Checkpointed kind entries)) (sym same) (
+        refl,
         opened.sound,
         λ reported h blocks tail holds.
             let before = rests reported h blocks tail holds in
@@ -147,26 +174,40 @@ module _ {D : Type 0} (disk : Ghosts D) (counts_now : CountsNow disk) (old : D) 
   unchanged new end same as_before =
       subst (λ (d : D). IsKept disk old d) (sym (same ∙ ap (λ (e : Engine D disk). device e) as_before)) opened.kept.unwritten
 
+  -- The store is sealed.
+  pub sealed_cause : (new : Engine D disk) (end : D) → end ≡ device new → mark.CheckpointCause its_format engine new faults.Sealed → CheckpointEnds disk kind old end Sealed
+  sealed_cause new end same why =
+      (opened.sound, unchanged new end same why.2, λ reported h blocks tail holds. sealed_is reported h blocks tail holds ∙ why.1)
+
   -- There was no memory for it.
-  pub want_cause : (new : Engine D disk) (end : D) → end ≡ device new → mark.CheckpointCause engine new faults.Want → CheckpointEnds disk old end OutOfMemory
+  pub want_cause : (new : Engine D disk) (end : D) → end ≡ device new → mark.CheckpointCause its_format engine new faults.Want → CheckpointEnds disk kind old end OutOfMemory
   want_cause new end same why = unchanged new end same why.1
 
   -- There was no room for it.
-  pub full_cause : (new : Engine D disk) (end : D) (need room : ℕ) → end ≡ device new → mark.CheckpointCause engine new (faults.DeviceFull need room) → CheckpointEnds disk old end (Full need room)
-  full_cause new end need room same why = (
-    opened.sound,
-    why.3,
-    unchanged new end same why.4,
-    λ reported h blocks tail holds. (why.1 ∙ need_is reported h blocks tail holds, why.2 ∙ room_is reported h blocks tail holds),
-  )
+  pub full_cause : (new : Engine D disk) (end : D) (need room : ℕ) → end ≡ device new → mark.Marks its_format engine new (Err (faults.DeviceFull need room)) → CheckpointEnds disk kind old end (Full need room)
+  full_cause new end need room same did =
+      let why = did.cause in
+      let unsealed = unsealed_unless engine new its_format (Err (faults.DeviceFull need room)) why.0 did (λ other. absurd (cc)) in (
+        opened.sound,
+        why.3,
+        unchanged new end same why.4,
+        λ reported h blocks tail holds. (
+          sealed_is reported h blocks tail holds ∙ unsealed,
+          why.1 ∙ need_is reported h blocks tail holds,
+          why.2 ∙ room_is reported h blocks tail holds,
+        ),
+      )
 
   -- The device failed.
-  pub fault_cause : (new : Engine D disk) (end : D) → end ≡ device new → mark.CheckpointCause engine new faults.DeviceFault → LeavesHistory new → CheckpointEnds disk old end NoDevice
-  fault_cause new end same why leaves =
-      subst (λ (d : D). CheckpointEnds disk old d NoDevice) (sym same) (
+  pub fault_cause : (new : Engine D disk) (end : D) → end ≡ device new → mark.Marks its_format engine new (Err faults.DeviceFault) → CheckpointEnds disk kind old end NoDevice
+  fault_cause new end same did =
+      let why = did.cause in
+      let unsealed = unsealed_unless engine new its_format (Err faults.DeviceFault) why.0 did (λ other. absurd (cc)) in
+      subst (λ (d : D). CheckpointEnds disk kind old d NoDevice) (sym same) (
         rose_since (disk.faults old) (disk.faults (device engine)) (disk.faults (device new)) opened.kept.counts.more_faults why.2.rose,
         inr (record {
           sound = opened.sound;
-          lasts = λ reported h blocks tail holds. lasts_through reported h blocks tail holds new leaves;
+          lasts = λ reported h blocks tail holds.
+              (sealed_is reported h blocks tail holds ∙ unsealed, lasts_through reported h blocks tail holds new did.moments);
         }),
       )

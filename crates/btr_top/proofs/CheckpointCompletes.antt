@@ -4,17 +4,18 @@ use Rattle.btr_disk.specs.declared.disk.Disk.{Ghosts}
 use Rattle.btr_disk.specs.Causes.{Rose}
 use Rattle.btr_engine.specs.Holds.{HoldsHistory}
 use Rattle.btr_open.specs.Laws.{HeldIsSound}
+use Rattle.btr_top.specs.declared.checkpoint.CheckpointKind.{CheckpointKind}
 use Rattle.btr_top.specs.declared.ending.Ending.{Ending}
-use Rattle.btr_top.specs.declared.ending.Ending.TheVariants.{Usage, NoSource, TooLong, OutOfMemory, NoDevice, NoStore, Damaged, Occupied, TooSmall, Formatted, Checkpointed, Stands, Full, Shipped, CutShort, Replied}
+use Rattle.btr_top.specs.declared.ending.Ending.TheVariants.{Usage, NoSource, TooLong, OutOfMemory, NoDevice, NoStore, Damaged, Occupied, TooSmall, Formatted, Checkpointed, Sealed, Stands, Full, Shipped, CutShort, Replied}
 use Rattle.btr_top.specs.Ending.{status_of}
 use Rattle.btr_top.specs.Checkpoint.{CheckpointEnds, CanCheckpoint}
 use Rattle.btr_top.specs.Run.{IsPlainStatus}
 
-module _ {D : Type 0} (disk : Ghosts D) (old new : D) (sound : HeldIsSound) (can : CanCheckpoint disk old) (reported : disk.is_observable) (device_works : Rose (disk.faults old) (disk.faults new) → ⊥) where
+module _ {D : Type 0} (disk : Ghosts D) (kind : CheckpointKind) (old new : D) (sound : HeldIsSound) (can : CanCheckpoint disk kind old) (reported : disk.is_observable) (device_works : Rose (disk.faults old) (disk.faults new) → ⊥) where
   held : HoldsHistory (disk.size old) (disk.contents old) can.history
   held = record { blocks = can.blocks; tail = can.tail; holds = can.holds }
 
-  pub benign_checkpoint : (e : Ending) → CheckpointEnds disk old new e → IsPlainStatus (status_of e)
+  pub benign_checkpoint : (e : Ending) → CheckpointEnds disk kind old new e → IsPlainStatus (status_of e)
   benign_checkpoint Usage why = absurd why.0
   benign_checkpoint NoSource why = absurd why.0
   benign_checkpoint TooLong why = absurd why.0
@@ -25,11 +26,12 @@ module _ {D : Type 0} (disk : Ghosts D) (old new : D) (sound : HeldIsSound) (can
   benign_checkpoint Occupied why = absurd why.0
   benign_checkpoint (TooSmall asked has) why = absurd why.0
   benign_checkpoint (Formatted blocks) why = absurd why.0
-  benign_checkpoint (Checkpointed entries) why = inl refl
+  benign_checkpoint (Checkpointed done entries) why = inl refl
+  benign_checkpoint Sealed why = inr (inl refl)
   benign_checkpoint (Stands entries) why = absurd why.0
   benign_checkpoint (Full need room) why =
       let is = why.3 reported can.history can.blocks can.tail can.holds in
-      absurd (omega (arith, why.1, is.0, is.1, can.fits))
+      absurd (omega (arith, why.1, is.1, is.2, can.fits))
   benign_checkpoint (Shipped frames) why = absurd why.0
   benign_checkpoint (CutShort cut) why = absurd why.0
   benign_checkpoint (Replied transcript) why = absurd why.0

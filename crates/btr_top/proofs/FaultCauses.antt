@@ -6,7 +6,7 @@ use Rattle.btr_io.specs.declared.sink.Sink.{Ghosts as SinkGhosts}
 use Rattle.btr_disk.specs.declared.disk.Disk.{Ghosts}
 use Rattle.btr_disk.specs.Causes.{Rose}
 use Rattle.btr_words.specs.declared.command.Command.{Command}
-use Rattle.btr_words.specs.declared.command.Command.TheVariants.{Format, Load, Ask, Distil, Live, LiveGroups, Sample, Checkpoint, Check, Ship, Hear}
+use Rattle.btr_words.specs.declared.command.Command.TheVariants.{Format, Load, Ask, Distil, Live, LiveGroups, Sample, Checkpoint, Seal, Check, Ship, Hear}
 use Rattle.btr_rows.specs.Rows.{rows_of}
 use Rattle.btr_rows.specs.Streams.{list_of}
 use Rattle.btr_text.specs.Input.{questions_of, script_of}
@@ -21,8 +21,10 @@ use Rattle.btr_store.specs.Shared.{SharesStore}
 use Rattle.btr_top.specs.declared.live.FeedKind.TheVariants.{Own, Shared}
 use Rattle.btr_store.specs.Distil.{DistilsStore}
 use Rattle.btr_store.specs.SampleLaw.{SamplesStore}
+use Rattle.btr_top.specs.declared.checkpoint.CheckpointKind.{CheckpointKind}
+use Rattle.btr_top.specs.declared.checkpoint.CheckpointKind.TheVariants as kinds
 use Rattle.btr_top.specs.declared.ending.Ending.{Ending}
-use Rattle.btr_top.specs.declared.ending.Ending.TheVariants.{Usage, NoSource, TooLong, OutOfMemory, NoDevice, NoStore, Damaged, Occupied, TooSmall, Formatted, Checkpointed, Stands, Full, Shipped, CutShort, Replied}
+use Rattle.btr_top.specs.declared.ending.Ending.TheVariants.{Usage, NoSource, TooLong, OutOfMemory, NoDevice, NoStore, Damaged, Occupied, TooSmall, Formatted, Checkpointed, Sealed, Stands, Full, Shipped, CutShort, Replied}
 use Rattle.btr_top.specs.Ending.{status_of, text_of, Writes, Shows}
 use Rattle.btr_top.specs.Command.{InputCause, CommandCause}
 use Rattle.btr_top.specs.Format.{FormatCause}
@@ -80,7 +82,8 @@ module _ {D : Type 0} (disk : Ghosts D) (old new : D) where
   work_fault What Occupied why five = absurd why.0
   work_fault What (TooSmall asked has) why five = absurd why.0
   work_fault What (Formatted made) why five = absurd why.0
-  work_fault What (Checkpointed entries) why five = absurd why.0
+  work_fault What (Checkpointed kind entries) why five = absurd why.0
+  work_fault What Sealed why five = absurd why.0
   work_fault What (Stands entries) why five = absurd why.0
   work_fault What (Full need room) why five = absurd why.0
   work_fault What (Shipped frames) why five = absurd why.0
@@ -98,7 +101,8 @@ module _ {D : Type 0} (disk : Ghosts D) (old new : D) where
   asked_fault lines Occupied why five = absurd why.0
   asked_fault lines (TooSmall asked has) why five = absurd why.0
   asked_fault lines (Formatted made) why five = absurd why.0
-  asked_fault lines (Checkpointed entries) why five = absurd why.0
+  asked_fault lines (Checkpointed kind entries) why five = absurd why.0
+  asked_fault lines Sealed why five = absurd why.0
   asked_fault lines (Stands entries) why five = absurd why.0
   asked_fault lines (Full need room) why five = absurd why.0
   asked_fault lines (Shipped frames) why five = absurd why.0
@@ -116,30 +120,32 @@ module _ {D : Type 0} (disk : Ghosts D) (old new : D) where
   format_fault blocks Occupied why five = absurd (omega (arith, five))
   format_fault blocks (TooSmall asked has) why five = absurd (omega (arith, five))
   format_fault blocks (Formatted made) why five = absurd (omega (arith, five))
-  format_fault blocks (Checkpointed entries) why five = absurd why
+  format_fault blocks (Checkpointed kind entries) why five = absurd why
+  format_fault blocks Sealed why five = absurd why
   format_fault blocks (Stands entries) why five = absurd why
   format_fault blocks (Full need room) why five = absurd why
   format_fault blocks (Shipped frames) why five = absurd why
   format_fault blocks (CutShort cut) why five = absurd why
   format_fault blocks (Replied transcript) why five = absurd why
 
-  checkpoint_fault : (e : Ending) → CheckpointEnds disk old new e → status_of e ≡ 5 → Failed
-  checkpoint_fault Usage why five = absurd why.0
-  checkpoint_fault NoSource why five = absurd why.0
-  checkpoint_fault TooLong why five = absurd why.0
-  checkpoint_fault OutOfMemory why five = absurd (omega (arith, five))
-  checkpoint_fault NoDevice why five = why.0
-  checkpoint_fault NoStore why five = absurd (omega (arith, five))
-  checkpoint_fault (Damaged block) why five = absurd (omega (arith, five))
-  checkpoint_fault Occupied why five = absurd why.0
-  checkpoint_fault (TooSmall asked has) why five = absurd why.0
-  checkpoint_fault (Formatted made) why five = absurd why.0
-  checkpoint_fault (Checkpointed entries) why five = absurd (omega (arith, five))
-  checkpoint_fault (Stands entries) why five = absurd why.0
-  checkpoint_fault (Full need room) why five = absurd (omega (arith, five))
-  checkpoint_fault (Shipped frames) why five = absurd why.0
-  checkpoint_fault (CutShort cut) why five = absurd why.0
-  checkpoint_fault (Replied transcript) why five = absurd why.0
+  checkpoint_fault : (kind : CheckpointKind) (e : Ending) → CheckpointEnds disk kind old new e → status_of e ≡ 5 → Failed
+  checkpoint_fault kind Usage why five = absurd why.0
+  checkpoint_fault kind NoSource why five = absurd why.0
+  checkpoint_fault kind TooLong why five = absurd why.0
+  checkpoint_fault kind OutOfMemory why five = absurd (omega (arith, five))
+  checkpoint_fault kind NoDevice why five = why.0
+  checkpoint_fault kind NoStore why five = absurd (omega (arith, five))
+  checkpoint_fault kind (Damaged block) why five = absurd (omega (arith, five))
+  checkpoint_fault kind Occupied why five = absurd why.0
+  checkpoint_fault kind (TooSmall asked has) why five = absurd why.0
+  checkpoint_fault kind (Formatted made) why five = absurd why.0
+  checkpoint_fault kind (Checkpointed done entries) why five = absurd (omega (arith, five))
+  checkpoint_fault kind Sealed why five = absurd (omega (arith, five))
+  checkpoint_fault kind (Stands entries) why five = absurd why.0
+  checkpoint_fault kind (Full need room) why five = absurd (omega (arith, five))
+  checkpoint_fault kind (Shipped frames) why five = absurd why.0
+  checkpoint_fault kind (CutShort cut) why five = absurd why.0
+  checkpoint_fault kind (Replied transcript) why five = absurd why.0
 
   check_fault : (e : Ending) → CheckCause disk old new e → status_of e ≡ 5 → Failed
   check_fault Usage why five = absurd why
@@ -152,7 +158,8 @@ module _ {D : Type 0} (disk : Ghosts D) (old new : D) where
   check_fault Occupied why five = absurd why
   check_fault (TooSmall asked has) why five = absurd why
   check_fault (Formatted made) why five = absurd why
-  check_fault (Checkpointed entries) why five = absurd why
+  check_fault (Checkpointed kind entries) why five = absurd why
+  check_fault Sealed why five = absurd why
   check_fault (Stands entries) why five = absurd (omega (arith, five))
   check_fault (Full need room) why five = absurd why
   check_fault (Shipped frames) why five = absurd why
@@ -171,7 +178,8 @@ input_five source given rest (Damaged block) why five = why
 input_five source given rest Occupied why five = why
 input_five source given rest (TooSmall asked has) why five = why
 input_five source given rest (Formatted made) why five = why
-input_five source given rest (Checkpointed entries) why five = why
+input_five source given rest (Checkpointed kind entries) why five = why
+input_five source given rest Sealed why five = why
 input_five source given rest (Stands entries) why five = why
 input_five source given rest (Full need room) why five = why
 input_five source given rest (Shipped frames) why five = why
@@ -215,7 +223,8 @@ module _ {S K D : Type 0} (source : SourceGhosts S) (sink : SinkGhosts K) (disk 
       work_fault disk old new (λ said start log own. DistilsStore start log workers said own) e why.1.0 five
   cause_fault (Some (Sample number streams points)) e why five =
       work_fault disk old new (λ said start log own. SamplesStore number streams points start log said own) e why.1.0 five
-  cause_fault (Some Checkpoint) e why five = checkpoint_fault disk old new e why.1 five
+  cause_fault (Some Checkpoint) e why five = checkpoint_fault disk old new kinds.Plain e why.1 five
+  cause_fault (Some Seal) e why five = checkpoint_fault disk old new kinds.Seal e why.1 five
   cause_fault (Some Check) e why five = check_fault disk old new e why.1.cause five
   cause_fault (Some (Ship from)) e why five = ship_fault sink disk from before sent old new e why.1 five
   cause_fault (Some Hear) e why five = read_fault (HearingCause disk) e (λ input. heard_fault input e) why five

@@ -32,9 +32,12 @@ benign_said : (frames : Frames) (start : StoreState) (log : LogState) (t : Trans
 benign_said frames start log t room hears =
     ⊎_elim
     (λ says. subst IsBenign (sym says.same_status) (benign_heard (counts_of hears.answers) frames.rest))
+    (λ h. ⊎_elim
     (λ lacks.
     let fits = room hears.answers log.history lacks.entry hears.heard lacks.next in
     absurd (omega (arith, fits, lacks.same_room, lacks.less)))
+    (λ sealed. subst IsBenign (sym sealed.1.same_status) (inr (inl refl)))
+    h)
     hears.says.1
 
 module _ {S D : Type 0} (source : SourceGhosts S) (disk : Ghosts D) (given rest : S) (old new : D) (sound : HeldIsSound) (one : OneHistoryIsHeld) (can : CanHear source disk given old) (source_reported : source.is_observable) (reported : disk.is_observable) (source_works : StreamRose (source.faults given) (source.faults rest) → ⊥) (device_works : Rose (disk.faults old) (disk.faults new) → ⊥) where

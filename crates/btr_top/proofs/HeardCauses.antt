@@ -43,7 +43,7 @@ use Rattle.btr_top.specs.declared.hear.FrameCounts.{FrameCounts}
 use Rattle.btr_top.specs.declared.ending.Ending.{Ending}
 use Rattle.btr_top.specs.declared.ending.Ending.TheVariants.{OutOfMemory, NoDevice, Replied}
 use Rattle.btr_top.specs.Work.{ending_of}
-use Rattle.btr_top.specs.Hear.{heard_line, heard_status, HearsAll, HearsFirst, FailsInNext, HearsFrames, SaysHearing, SaysHeard, SaysFull, SaysSomeHearing, SaysCounts, EndsHearing, FramesCause, is_device_fault, HeardAfter, HeardEach}
+use Rattle.btr_top.specs.Hear.{heard_line, heard_status, HearsAll, HearsFirst, FailsInNext, HearsFrames, SaysHearing, SaysHeard, SaysFull, SaysStoreSealed, SaysSomeHearing, SaysCounts, EndsHearing, FramesCause, is_device_fault, HeardAfter, HeardEach}
 use Rattle.btr_top.proofs.WorkCauses.{work_cause, says_if}
 
 -- ---- numbers
@@ -143,6 +143,9 @@ calm_counts n rest is = calm_of (n.early == 0 && (n.bad == 0 && rest == 0)) is
 calm_full : status.Full ≡ status.DeviceFault → ⊥
 calm_full is = absurd (cc)
 
+calm_refused : status.Refused ≡ status.DeviceFault → ⊥
+calm_refused is = absurd (cc)
+
 or_true : (a b : Bool) → b ≡ true → (a || b) ≡ true
 or_true true b is = refl
 or_true false b is = is
@@ -199,7 +202,7 @@ module _ {D : Type 0} (disk : Ghosts D) (only_now : disk.is_observable → (d : 
         log = log_at h l;
         own = own;
         works = works;
-        what = record { answers = heard.answers; heard = after.heard; failed = after.failed; says = says };
+        what = record { answers = heard.answers; heard = after.heard; sealed = after.unstepped; failed = after.failed; says = says };
         same_failed = halt ∙ sym (failed_halt l);
         legal = works.legal adds;
         right = works.right adds;
@@ -252,16 +255,24 @@ module _ {D : Type 0} (disk : Ghosts D) (only_now : disk.is_observable → (d : 
       (λ h after.
       let full = after.full need left refl in (
         none_failed heard.items heard.halted,
-        inr (record {
+        inr (inl (record {
+          unsealed = full.unsealed;
           entry = full.entry;
           next = full.next;
           room = left;
           same_room = full.same_room;
           less = subst (λ (k : ℕ). left < k) full.needs full.less;
           says = subst (λ (k : ℕ). SaysFull k left t) full.needs says;
-        }),
+        })),
       ))
-      (inr (need, left, says))
+      (inr (inl (need, left, says)))
+
+  -- The line of a sealed store is said.
+  said_sealed : (heard : HeardEach frames.frames first last (Err steps.Sealed)) → (t : Transcript) → SaysStoreSealed t → FramesCause disk frames old end (Replied t)
+  said_sealed heard t says =
+      caused (Err steps.Sealed) heard (Ok t) false refl (λ fault. absurd (calm_refused (sym says.same_status ∙ fault))) (Replied t) refl
+      (λ h after. (none_failed heard.items heard.halted, inr (inr (after.sealed refl, says))))
+      (inr (inr says))
 
   -- Nothing is said, since there was no memory for it.
   no_memory : (result : Result FrameCounts StepFault) → HeardEach frames.frames first last result → is_device_fault result ≡ false → FramesCause disk frames old end OutOfMemory
@@ -277,6 +288,11 @@ module _ {D : Type 0} (disk : Ghosts D) (only_now : disk.is_observable → (d : 
       ⊎_elim
       (λ (none : e ≡ OutOfMemory). subst (FramesCause disk frames old end) (sym none) (no_memory (Err (steps.DeviceFull need left)) heard refl))
       (λ (said : (t : Transcript) × (e ≡ Replied t) × SaysFull need left t). subst (FramesCause disk frames old end) (sym said.1) (said_full need left heard said.0 said.2))
+      ends
+  by_result (Err steps.Sealed) heard e ends =
+      ⊎_elim
+      (λ (none : e ≡ OutOfMemory). subst (FramesCause disk frames old end) (sym none) (no_memory (Err steps.Sealed) heard refl))
+      (λ (said : (t : Transcript) × (e ≡ Replied t) × SaysStoreSealed t). subst (FramesCause disk frames old end) (sym said.1) (said_sealed heard said.0 said.2))
       ends
   by_result (Err steps.DeviceFault) heard e ends =
       subst (FramesCause disk frames old end) (sym ends) (unsaid (Err steps.DeviceFault) heard (Err no_error) true refl tt no_error refl NoDevice refl)

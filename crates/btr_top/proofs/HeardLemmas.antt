@@ -1,6 +1,7 @@
 -- What a follower heard of frames, one after another: the steps that its engine made are the items of a list, as those of a hall.
 use Rattle.std.specs.Prelude.{◌≡◌, ℕ, ◌+◌, ◌≤◌, ◌<◌, Bool, true, false, ◌||◌, List, [], ◌∷◌, ◌++◌, length, take, drop, get_or, slice_get, replicate}
 use Rattle.std.specs.Prelude.{Option, Some, None, option_to_list, Result, Ok, Err}
+use Rattle.std.specs.List.{AllByRecursion}
 use Rattle.std.proofs.Common.{zero, suc, refl, sym, ap, subst, ◌∙◌, arith, append-nil, append_assoc, length-append}
 use Rattle.std.proofs.Math.Seq.{take-append_seam, split_at}
 use Rattle.std.proofs.lemmas.List.{take_more, take_all}
@@ -10,9 +11,9 @@ use Rattle.btr_hist.specs.Legal.{Allowed}
 use Rattle.btr_engine.specs.declared.engine.Engine.{Engine}
 use Rattle.btr_streams.specs.declared.board.Receipt.{Receipt}
 use Rattle.btr_engine.specs.declared.step.StepFault.{StepFault}
-use Rattle.btr_engine.specs.declared.step.StepFault.TheVariants.{Stopped, Rejected, Want, DeviceFull, DeviceFault}
+use Rattle.btr_engine.specs.declared.step.StepFault.TheVariants.{Stopped, Sealed, Rejected, Want, DeviceFull, DeviceFault}
 use Rattle.btr_engine.specs.Body.{needs_of, needs_after}
-use Rattle.btr_engine.specs.Engine.{entries_of, room_of, IsEngineOf}
+use Rattle.btr_engine.specs.Engine.{entries_of, room_of, is_sealed, IsEngineOf}
 use Rattle.btr_engine.specs.Step.{IsStep}
 use Rattle.btr_engine.proofs.NeedLemmas.{needs-append}
 use Rattle.btr_hall.specs.declared.item.Item.{Item}
@@ -20,7 +21,7 @@ use Rattle.btr_hall.specs.declared.item.Item.TheVariants.{Earlier, Added, Halted
 use Rattle.btr_hall.specs.Trace.{IsTraceOf, engine_after, entries_in, has_halt, history_of}
 use Rattle.btr_hall.specs.Commit.{item_by}
 use Rattle.btr_hall.specs.StoreLaws.{engine_earlier, halt_earlier}
-use Rattle.btr_hall.proofs.TraceLemmas.{engine_append, entries_append, halt_append, engine_of_list, room_of_list, item_engine, list_push}
+use Rattle.btr_hall.proofs.TraceLemmas.{engine_append, entries_append, halt_append, engine_of_list, room_of_list, sealed_of_list, item_engine, list_push}
 use Rattle.btr_jobs.specs.States.{start_with, failed_in}
 use Rattle.btr_jobs.proofs.StateLemmas.{failed_append}
 use Rattle.btr_follow.specs.declared.frame.Frame.{Frame}
@@ -31,7 +32,7 @@ use Rattle.btr_follow.specs.Hears.{Brings, Hears}
 use Rattle.btr_follow.specs.Follower.{engine_of, IsFollowerOf, IsFullFor, HasHeard, HearCause, IsHearing}
 use Rattle.btr_follow.proofs.Delivering.{entry-once}
 use Rattle.btr_top.specs.declared.hear.FrameCounts.{FrameCounts}
-use Rattle.btr_top.specs.Hear.{no_frames, count_frame, counts_after, counts_of, HearsAll, HearsFirst, BringsNext, FailsInNext, IsFullForNext, is_device_fault, HeardEach}
+use Rattle.btr_top.specs.Hear.{no_frames, count_frame, counts_after, counts_of, HearsAll, HearsFirst, BringsNext, FailsInNext, IsFullForNext, IsSealedAnswer, MeetsSeal, is_device_fault, HeardEach}
 
 -- ---- lists
 
@@ -95,6 +96,14 @@ hears-first : (h after : List Entry) (frames front rest : List Frame) (answers :
 hears-first h after frames front rest answers is long all =
     subst (λ (l : List Frame). HearsAll h l answers after) (sym (take-seam frames front rest answers is long)) all
 
+-- One answer more of a sealed store.
+sealed-push : (answers : List Heard) (a : Heard) → AllByRecursion IsSealedAnswer answers → IsSealedAnswer a → AllByRecursion IsSealedAnswer (answers ++ a ∷ [])
+sealed-push [] a all last = (last, tt)
+sealed-push (b ∷ answers) a all last = (all.0, sealed-push answers a all.1 last)
+
+not_both : (b : Bool) → b ≡ true → b ≡ false → ⊥
+not_both b is other = absurd (cc)
+
 -- ---- the steps of a follower
 
 module _ {D : Type 0} {disk : Ghosts D} where
@@ -108,6 +117,7 @@ module _ {D : Type 0} {disk : Ghosts D} where
     pub engine : engine_of new ≡ engine_after (engine_of old) items
     pub runs : has_halt items ≡ false
     pub heard : (h : List Entry) → IsFollowerOf h old → HearsAll h frames answers (history_of h items)
+    pub unstepped : (h : List Entry) → IsFollowerOf h old → is_sealed (engine_of old) ≡ true → AllByRecursion IsSealedAnswer answers
 
   -- Without a halt no step failed.
   none_in : (l : List (Item D disk)) → has_halt l ≡ false → failed_in l ≡ None
@@ -131,6 +141,7 @@ module _ {D : Type 0} {disk : Ghosts D} where
         engine = sym (engine_earlier n (engine_of x) []);
         runs = halt_earlier n [];
         heard = λ h of. ap (λ (m : List Entry). h ++ m) (no_entries n (replicate n Earlier ++ []) refl) ∙ append-nil h;
+        unstepped = λ h of is. tt;
       }
 
   -- The engine after some frames is of the history of their items.
@@ -138,9 +149,14 @@ module _ {D : Type 0} {disk : Ghosts D} where
   mid_of frames old mid n some h of =
       subst (λ (e : Engine D disk). IsEngineOf (history_of h some.items) e) (sym some.engine) (engine_of_list h (engine_of old) some.items of some.trace)
 
+  -- The store is sealed exactly if it was before the frames.
+  same_seal : (frames : List Frame) (old mid : Follower D disk) (n : FrameCounts) (some : HeardAll frames old mid n) → is_sealed (engine_of mid) ≡ is_sealed (engine_of old)
+  same_seal frames old mid n some =
+      ap (λ (e : Engine D disk). is_sealed e) some.engine ∙ sealed_of_list (engine_of old) some.items some.trace
+
   -- One frame more that changed nothing.
-  same_push : (frames : List Frame) (old mid new : Follower D disk) (n : FrameCounts) (f : Frame) (a : Heard) (some : HeardAll frames old mid n) → engine_of new ≡ engine_of mid → ((h : List Entry) → IsFollowerOf h mid → Hears h f a h) → HeardAll (frames ++ f ∷ []) old new (count_frame n a)
-  same_push frames old mid new n f a some same hears = record {
+  same_push : (frames : List Frame) (old mid new : Follower D disk) (n : FrameCounts) (f : Frame) (a : Heard) (some : HeardAll frames old mid n) → engine_of new ≡ engine_of mid → ((h : List Entry) → IsFollowerOf h mid → Hears h f a h) → ((h : List Entry) → IsFollowerOf h mid → is_sealed (engine_of mid) ≡ true → IsSealedAnswer a) → HeardAll (frames ++ f ∷ []) old new (count_frame n a)
+  same_push frames old mid new n f a some same hears unstepped = record {
     answers = some.answers ++ a ∷ [];
     items = some.items;
     all = length-append some.answers (a ∷ []) ∙ ap (λ (k : ℕ). k + 1) some.all ∙ sym (length-append frames (f ∷ []));
@@ -151,6 +167,9 @@ module _ {D : Type 0} {disk : Ghosts D} where
     heard = λ h of.
         let k : List Entry = history_of h some.items in
         hears-push h k k frames some.answers f a (some.heard h of) (hears k (mid_of frames old mid n some h of));
+    unstepped = λ h of is.
+        sealed-push some.answers a (some.unstepped h of is)
+        (unstepped (history_of h some.items) (mid_of frames old mid n some h of) (same_seal frames old mid n some ∙ is));
   }
 
   -- The items with that of one step more.
@@ -172,16 +191,17 @@ module _ {D : Type 0} {disk : Ghosts D} where
   pub heard-push : (frames : List Frame) (old mid new : Follower D disk) (n : FrameCounts) (f : Frame) (a : Heard) → HeardAll frames old mid n → IsHearing mid new f (Ok a) → ((h : List Entry) → IsFollowerOf h mid → HasHeard h mid new f a) → HeardAll (frames ++ f ∷ []) old new (count_frame n a)
   heard-push frames old mid new n f (answered.Stale entries) some did heard =
       same_push frames old mid new n f (answered.Stale entries) some did
-      (λ h of. let has = heard h of in (has.hears.0, has.hears.1, refl))
+      (λ h of. let has = heard h of in (has.hears.0, has.hears.1, refl)) (λ h of is. tt)
   heard-push frames old mid new n f (answered.Early entries) some did heard =
       same_push frames old mid new n f (answered.Early entries) some did
-      (λ h of. let has = heard h of in (has.hears.0, has.hears.1, refl))
+      (λ h of. let has = heard h of in (has.hears.0, has.hears.1, refl)) (λ h of is. tt)
   heard-push frames old mid new n f answered.Garbled some did heard =
       same_push frames old mid new n f answered.Garbled some did
-      (λ h of. let has = heard h of in (has.hears.0, has.hears.1, refl))
+      (λ h of. let has = heard h of in (has.hears.0, has.hears.1, refl)) (λ h of is. tt)
   heard-push frames old mid new n f answered.Foreign some did heard =
       same_push frames old mid new n f answered.Foreign some did
       (λ h of. let has = heard h of in (has.hears.0, refl))
+      (λ h of is. absurd (not_both (is_sealed (engine_of mid)) is (heard h of).runs.1))
   heard-push frames old mid new n f (answered.Taken number) some did heard =
       let a : Heard = answered.Taken number in
       let e : Entry = did.0 in
@@ -206,6 +226,9 @@ module _ {D : Type 0} {disk : Ghosts D} where
             ∙ ap (λ (m : List Entry). h ++ m) (sym (entries_append some.items (option_to_list (item_by (Ok receipt) e (engine_of new))))) in
             hears-push h k (history_of h (some.items ++ option_to_list (item_by (Ok receipt) e (engine_of new)))) frames some.answers f a (some.heard h of)
             (subst (λ (m : List Entry). Hears k f a m) after has.hears);
+        unstepped = λ h of is.
+            let has = heard (history_of h some.items) (mid_of frames old mid n some h of) in
+            absurd (not_both (is_sealed (engine_of mid)) (same_seal frames old mid n some ∙ is) has.runs.1);
       }
 
   -- Each frame is counted once.
@@ -232,8 +255,10 @@ module _ {D : Type 0} {disk : Ghosts D} where
     halted = some.runs;
     heard = λ h of. record {
       heard = hears-first h (history_of h some.items) frames (take i frames) [] some.answers (sym (take_all i frames whole) ∙ sym (append-nil (take i frames))) some.all (some.heard h of);
+      unstepped = some.unstepped h of;
       failed = subst (λ (o : Option Entry). FailsInNext frames some.answers (history_of h some.items) o) (sym (none_in some.items some.runs)) tt;
       full = λ need room is_full. absurd (cc);
+      sealed = λ is_sealed. absurd (cc);
     };
   }
 
@@ -253,8 +278,8 @@ module _ {D : Type 0} {disk : Ghosts D} where
     next_of h e brings allowed = record { frame = f; at = at_place; brings = brings; allowed = allowed }
 
     -- Nothing was done with the frame.
-    unanswered : (fault : StepFault) → is_device_fault (Err fault) ≡ false → engine_of new ≡ engine_of mid → ((h : List Entry) → IsFollowerOf h old → (need room : ℕ) → ◌≡◌ {A = Result FrameCounts StepFault} (Err fault) (Err (DeviceFull need room)) → IsFullForNext frames some.answers (start_with h (engine_of old)) (history_of h some.items) need room) → HeardEach frames old new (Err fault)
-    unanswered fault calm same is_full = record {
+    unanswered : (fault : StepFault) → is_device_fault (Err fault) ≡ false → engine_of new ≡ engine_of mid → ((h : List Entry) → IsFollowerOf h old → (need room : ℕ) → ◌≡◌ {A = Result FrameCounts StepFault} (Err fault) (Err (DeviceFull need room)) → IsFullForNext frames some.answers (start_with h (engine_of old)) (history_of h some.items) need room) → ((h : List Entry) → IsFollowerOf h old → ◌≡◌ {A = Result FrameCounts StepFault} (Err fault) (Err Sealed) → MeetsSeal frames some.answers (start_with h (engine_of old)) (history_of h some.items)) → HeardEach frames old new (Err fault)
+    unanswered fault calm same is_full meets = record {
       answers = some.answers;
       items = some.items;
       counted = tt;
@@ -263,8 +288,10 @@ module _ {D : Type 0} {disk : Ghosts D} where
       halted = some.runs ∙ sym calm;
       heard = λ h of. record {
         heard = first_of h of;
+        unstepped = some.unstepped h of;
         failed = subst (λ (o : Option Entry). FailsInNext frames some.answers (history_of h some.items) o) (sym (none_in some.items some.runs)) tt;
         full = is_full h of;
+        sealed = meets h of;
       };
     }
 
@@ -278,6 +305,7 @@ module _ {D : Type 0} {disk : Ghosts D} where
         let same : room_of (engine_of mid) ≡ room_of (engine_after (engine_of old) some.items) = ap (λ (e : Engine D disk). room_of e) some.engine in
         let needs : needs_of k ≡ needs_of h + needs_after h (entries_in some.items) = needs-append h (entries_in some.items) in
         record {
+          unsealed = sym (same_seal front old mid n some) ∙ taken.1.unsealed;
           entry = why.0;
           next = next_of k why.0 why.1 taken.0;
           needs = taken.1.needs;
@@ -285,16 +313,24 @@ module _ {D : Type 0} {disk : Ghosts D} where
           less = taken.1.less;
         }
 
+    -- The store is sealed.
+    meets_seal : ((h : List Entry) → IsFollowerOf h mid → HearCause h mid new f Sealed) → (h : List Entry) → IsFollowerOf h old → MeetsSeal frames some.answers (start_with h (engine_of old)) (history_of h some.items)
+    meets_seal cause h of =
+        let why = cause (history_of h some.items) (mid_of front old mid n some h of) in
+        record { sealed = sym (same_seal front old mid n some) ∙ why.2.1; frame = f; at = at_place; entry = why.0; brings = why.1 }
+
     heard-stop : (fault : StepFault) → IsHearing mid new f (Err fault) → ((h : List Entry) → IsFollowerOf h mid → HearCause h mid new f fault) → HeardEach frames old new (Err fault)
-    heard-stop (Stopped entries) did cause = unanswered (Stopped entries) refl did (λ h of need room other. absurd (cc))
+    heard-stop (Stopped entries) did cause = unanswered (Stopped entries) refl did (λ h of need room other. absurd (cc)) (λ h of other. absurd (cc))
+    heard-stop Sealed did cause = unanswered Sealed refl did (λ h of need room other. absurd (cc)) (λ h of same. meets_seal cause h of)
     heard-stop (Rejected why) did cause = absurd did
-    heard-stop Want did cause = unanswered Want refl did (λ h of need room other. absurd (cc))
+    heard-stop Want did cause = unanswered Want refl did (λ h of need room other. absurd (cc)) (λ h of other. absurd (cc))
     heard-stop (DeviceFull need left) did cause =
         unanswered (DeviceFull need left) refl did (λ h of need' room same.
         let needs : need ≡ need' = full_need need need' left room same in
         let leaves : left ≡ room = full_left need need' left room same in
         subst (λ (x : ℕ). IsFullForNext frames some.answers (start_with h (engine_of old)) (history_of h some.items) x room) needs
         (subst (λ (x : ℕ). IsFullForNext frames some.answers (start_with h (engine_of old)) (history_of h some.items) need x) leaves (full_for need left cause h of)))
+        (λ h of other. absurd (cc))
     heard-stop DeviceFault did cause =
         let e : Entry = did.0 in
         let step : IsStep (engine_of mid) (engine_of new) e (Err DeviceFault) = did.2 in
@@ -314,9 +350,11 @@ module _ {D : Type 0} {disk : Ghosts D} where
               let failed : failed_in (some.items ++ more) ≡ Some e = failed_append some.items more some.runs in
               let next : BringsNext frames some.answers k e = subst (λ (x : Entry). BringsNext frames some.answers k x) same (next_of k why.0 why.1 why.2.0) in record {
                 heard = subst (λ (m : List Entry). HearsFirst h frames some.answers m) still (first_of h of);
+                unstepped = some.unstepped h of;
                 failed = subst (λ (o : Option Entry). FailsInNext frames some.answers (history_of h (some.items ++ more)) o) (sym failed)
                     (subst (λ (m : List Entry). BringsNext frames some.answers m e) still next);
                 full = λ need room other. absurd (cc);
+                sealed = λ other. absurd (cc);
               };
         }
 

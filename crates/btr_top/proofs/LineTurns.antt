@@ -103,6 +103,8 @@ module _ (start : StoreState) (log : LogState) (running : start.stopped ≡ fals
   committed_turn : (a p : List Entry) (e : Entry) (result : Result Receipt StepFault) (reply : LineReply) (own : List ℕ) (next : List Entry) → StartsWith p a → StartsWith log.history p → Lands p e → reply ≡ reply_of_step p result → Committed start log p e result own next → Turned a e reply own next
   committed_turn a p e (Ok receipt) reply own next after there lands replied is = added a p e reply own next after receipt.version replied lands is.2
   committed_turn a p e (Err (steps.Stopped entries)) reply own next after there lands replied is = absurd (not_stopped is.0.stopped)
+  committed_turn a p e (Err steps.Sealed) reply own next after there lands replied is =
+      refused a p e reply own next after (reason_of_step 0 steps.Sealed) replied there (inl (along reply _ replied (inr (inl refl)))) is.1
   committed_turn a p e (Err (steps.Rejected why)) reply own next after there lands replied is =
       refused a p e reply own next after (reason_of_step (holder p why) (steps.Rejected why)) replied there (inl (along reply _ replied (benign_rejection p e why))) is.1
   committed_turn a p e (Err steps.Want) reply own next after there lands replied is =
@@ -137,6 +139,8 @@ module _ (start : StoreState) (log : LogState) (running : start.stopped ≡ fals
       added a p (entry_of plan) reply own next after receipt.version replied
       (lands_here a p plan since after planned (current_plan p plan _ (plan_here a p plan after there planned) is.0)) is.2
   landed_turn a p plan (Err (faults.Stopped entries)) reply own next since after there planned replied is = absurd (not_stopped is.0.stopped)
+  landed_turn a p plan (Err faults.Sealed) reply own next since after there planned replied is =
+      refused a p (entry_of plan) reply own next after (reason_of_landing faults.Sealed) replied there (inl (along reply _ replied (inr (inl refl)))) is.1
   landed_turn a p plan (Err (faults.Superseded version)) reply own next since after there planned replied is =
       refused a p (entry_of plan) reply own next after (reason_of_landing (faults.Superseded version)) replied there (inl (along reply _ replied (inr (inl refl)))) is.3
   landed_turn a p plan (Err faults.VersionLimit) reply own next since after there planned replied is =

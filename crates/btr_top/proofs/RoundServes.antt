@@ -263,6 +263,7 @@ module _ (feeds : FeedKind) (rounds : ℕ) (script : List ScriptLine) (start : S
     refreshed_serves (results.Landed version) is = landed_serves version is.0 is.2
     refreshed_serves (results.Current version) is = nothing (results.Current version) tt is.none
     refreshed_serves (results.Refused (faults.Stopped entries)) is = nothing (results.Refused (faults.Stopped entries)) (inr (inl refl)) is.landed.3.1.own
+    refreshed_serves (results.Refused faults.Sealed) is = nothing (results.Refused faults.Sealed) (inr (inl refl)) is.landed.3.1.own
     refreshed_serves (results.Refused (faults.Superseded version)) is = nothing (results.Refused (faults.Superseded version)) (inr (inl refl)) is.landed.3.3.own
     refreshed_serves (results.Refused faults.VersionLimit) is = nothing (results.Refused faults.VersionLimit) (inr (inl refl)) is.landed.3.2.own
     refreshed_serves (results.Refused (faults.Crowded at)) is = nothing (results.Refused (faults.Crowded at)) (inr (inl refl)) is.landed.3.3.own

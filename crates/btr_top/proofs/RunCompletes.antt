@@ -7,8 +7,9 @@ use Rattle.btr_io.specs.Faults.{Rose as StreamRose}
 use Rattle.btr_disk.specs.declared.disk.Disk.{Ghosts}
 use Rattle.btr_disk.specs.Causes.{Rose}
 use Rattle.btr_words.specs.declared.command.Command.{Command}
-use Rattle.btr_words.specs.declared.command.Command.TheVariants.{Format, Load, Ask, Distil, Live, LiveGroups, Sample, Checkpoint, Check, Ship, Hear}
+use Rattle.btr_words.specs.declared.command.Command.TheVariants.{Format, Load, Ask, Distil, Live, LiveGroups, Sample, Checkpoint, Seal, Check, Ship, Hear}
 use Rattle.btr_open.specs.Laws.{HeldIsSound, OneHistoryIsHeld}
+use Rattle.btr_top.specs.declared.checkpoint.CheckpointKind.TheVariants as kinds
 use Rattle.btr_top.specs.declared.ending.Ending.{Ending}
 use Rattle.btr_top.specs.Ending.{status_of}
 use Rattle.btr_top.specs.declared.live.FeedKind.TheVariants.{Own, Shared}
@@ -36,7 +37,8 @@ module _ {S K D : Type 0} (source : SourceGhosts S) (sink : SinkGhosts K) (disk 
   plain_cause (Some (Distil workers)) can e why = benign_distil disk workers old new sound one can reported device_works e why.1
   plain_cause (Some (Sample number streams points)) can e why =
       benign_sample disk number streams points old new sound one can reported device_works e why.1
-  plain_cause (Some Checkpoint) can e why = benign_checkpoint disk old new sound can reported device_works e why.1
+  plain_cause (Some Checkpoint) can e why = benign_checkpoint disk kinds.Plain old new sound can reported device_works e why.1
+  plain_cause (Some Seal) can e why = benign_checkpoint disk kinds.Seal old new sound can reported device_works e why.1
   plain_cause (Some Check) can e why = benign_check disk old new can reported device_works e why.1
   plain_cause (Some (Ship from)) can e why = benign_ship sink disk from before sent old new can reported sink_works device_works e why.1
   plain_cause (Some Hear) can e why =

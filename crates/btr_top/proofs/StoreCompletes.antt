@@ -13,11 +13,12 @@ use Rattle.btr_store.specs.declared.transcript.Transcript.{Transcript}
 use Rattle.btr_store.specs.Completes.{IsBenign}
 use Rattle.btr_store.specs.Work.{HoldsStart, DoesRightly}
 use Rattle.btr_top.specs.declared.ending.Ending.{Ending}
-use Rattle.btr_top.specs.declared.ending.Ending.TheVariants.{Usage, NoSource, TooLong, OutOfMemory, NoDevice, NoStore, Damaged, Occupied, TooSmall, Formatted, Checkpointed, Stands, Full, Shipped, CutShort, Replied}
+use Rattle.btr_top.specs.declared.ending.Ending.TheVariants.{Usage, NoSource, TooLong, OutOfMemory, NoDevice, NoStore, Damaged, Occupied, TooSmall, Formatted, Checkpointed, Sealed, Stands, Full, Shipped, CutShort, Replied}
 use Rattle.btr_top.specs.Ending.{status_of}
 use Rattle.btr_top.specs.Work.{WorkSays, WorkCause}
 use Rattle.btr_top.specs.Run.{IsPlainStatus}
-use Rattle.btr_top.proofs.OneStore.{one_store}
+use Rattle.btr_super.specs.Super.{has_seal}
+use Rattle.btr_top.proofs.OneStore.{one_store, one_super}
 use Rattle.btr_top.proofs.BenignStatuses.{benign_code}
 
 none_if : {A : Type 0} (o : Option A) → (is_some o ≡ true → ⊥) → o ≡ None
@@ -34,20 +35,27 @@ module _ {D : Type 0} (disk : Ghosts D) (old new : D) (history : List Entry) (bl
       let one_of = one_store (disk.size old) (disk.contents old) is.blocks is.tail first.history is.holds (disk.size old) (disk.contents old) refl refl blocks tail history holds in
       is.same_left ∙ ap (λ (b : ℕ). left b is.tail) one_of.same_blocks ∙ ap (λ (t : ℕ). left blocks t) one_of.same_tail
 
+  -- It is sealed exactly if the work found it so.
+  same_seal : (first : StoreState) → HoldsStart disk old first → first.sealed ≡ has_seal holds.super
+  same_seal first is =
+      is.same_seal
+      ∙ ap has_seal (one_super (disk.size old) (disk.contents old) is.blocks is.tail first.history is.holds (disk.size old) (disk.contents old) refl refl blocks tail history holds)
+
   -- The store that the device holds.
   abbrev pub opened : StoreState
-  opened = record { history = history; left = left blocks tail; stopped = false }
+  opened = record { history = history; left = left blocks tail; stopped = false; sealed = has_seal holds.super }
 
   pub same_start : (first : StoreState) → first.stopped ≡ false → HoldsStart disk old first → first ≡ opened
   same_start first not_stopped is =
       let before : HoldsHistory (disk.size old) (disk.contents old) first.history = record { blocks = is.blocks; tail = is.tail; holds = is.holds } in
       let histories : first.history ≡ history = one (disk.size old) (disk.contents old) first.history history before held in
-      ap (λ (h : List Entry). with_parts h first.left first.stopped) histories
-      ∙ ap (λ (n : ℕ). with_parts history n first.stopped) (same_room first is)
-      ∙ ap (λ (b : Bool). with_parts history (left blocks tail) b) not_stopped
+      ap (λ (h : List Entry). with_parts h first.left first.stopped first.sealed) histories
+      ∙ ap (λ (n : ℕ). with_parts history n first.stopped first.sealed) (same_room first is)
+      ∙ ap (λ (b : Bool). with_parts history (left blocks tail) b first.sealed) not_stopped
+      ∙ ap (λ (b : Bool). with_parts history (left blocks tail) false b) (same_seal first is)
     where
-      with_parts : List Entry → ℕ → Bool → StoreState
-      with_parts h n b = record { history = h; left = n; stopped = b }
+      with_parts : List Entry → ℕ → Bool → Bool → StoreState
+      with_parts h n b s = record { history = h; left = n; stopped = b; sealed = s }
 
   -- Work began with this store.
   pub began : (What : StoreState → LogState → List ℕ → Type 0) (failed : Bool) (does : DoesRightly disk What failed old new) → does.first ≡ opened
@@ -69,7 +77,8 @@ module _ {D : Type 0} (disk : Ghosts D) (old new : D) (history : List Entry) (bl
   plain_work What benign Occupied why = absurd why.0
   plain_work What benign (TooSmall asked has) why = absurd why.0
   plain_work What benign (Formatted made) why = absurd why.0
-  plain_work What benign (Checkpointed entries) why = absurd why.0
+  plain_work What benign (Checkpointed kind entries) why = absurd why.0
+  plain_work What benign Sealed why = absurd why.0
   plain_work What benign (Stands entries) why = absurd why.0
   plain_work What benign (Full need room) why = absurd why.0
   plain_work What benign (Shipped frames) why = absurd why.0

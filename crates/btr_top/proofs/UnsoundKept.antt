@@ -20,9 +20,11 @@ use Rattle.btr_top.specs.declared.live.FeedKind.TheVariants.{Own, Shared}
 use Rattle.btr_store.specs.Distil.{DistilsStore}
 use Rattle.btr_store.specs.SampleLaw.{SamplesStore}
 use Rattle.btr_words.specs.declared.command.Command.{Command}
-use Rattle.btr_words.specs.declared.command.Command.TheVariants.{Format, Load, Ask, Distil, Live, LiveGroups, Sample, Checkpoint, Check, Ship, Hear}
+use Rattle.btr_words.specs.declared.command.Command.TheVariants.{Format, Load, Ask, Distil, Live, LiveGroups, Sample, Checkpoint, Seal, Check, Ship, Hear}
+use Rattle.btr_top.specs.declared.checkpoint.CheckpointKind.{CheckpointKind}
+use Rattle.btr_top.specs.declared.checkpoint.CheckpointKind.TheVariants as kinds
 use Rattle.btr_top.specs.declared.ending.Ending.{Ending}
-use Rattle.btr_top.specs.declared.ending.Ending.TheVariants.{Usage, NoSource, TooLong, OutOfMemory, NoDevice, NoStore, Damaged, Occupied, TooSmall, Formatted, Checkpointed, Stands, Full, Shipped, CutShort, Replied}
+use Rattle.btr_top.specs.declared.ending.Ending.TheVariants.{Usage, NoSource, TooLong, OutOfMemory, NoDevice, NoStore, Damaged, Occupied, TooSmall, Formatted, Checkpointed, Sealed, Stands, Full, Shipped, CutShort, Replied}
 use Rattle.btr_top.specs.Ending.{status_of, text_of, Writes, Shows}
 use Rattle.btr_top.specs.Command.{InputCause, CommandCause, IsKept}
 use Rattle.btr_top.specs.Checkpoint.{CheckpointEnds}
@@ -83,7 +85,8 @@ input_refused source given rest (Damaged block) why = absurd why
 input_refused source given rest Occupied why = absurd why
 input_refused source given rest (TooSmall asked has) why = absurd why
 input_refused source given rest (Formatted made) why = absurd why
-input_refused source given rest (Checkpointed entries) why = absurd why
+input_refused source given rest (Checkpointed kind entries) why = absurd why
+input_refused source given rest Sealed why = absurd why
 input_refused source given rest (Stands entries) why = absurd why
 input_refused source given rest (Full need room) why = absurd why
 input_refused source given rest (Shipped frames) why = absurd why
@@ -116,7 +119,8 @@ module _ {D : Type 0} (disk : Ghosts D) (only_now : disk.is_observable → (d : 
   work_refused What Occupied why = absurd why.0
   work_refused What (TooSmall asked has) why = absurd why.0
   work_refused What (Formatted made) why = absurd why.0
-  work_refused What (Checkpointed entries) why = absurd why.0
+  work_refused What (Checkpointed kind entries) why = absurd why.0
+  work_refused What Sealed why = absurd why.0
   work_refused What (Stands entries) why = absurd why.0
   work_refused What (Full need room) why = absurd why.0
   work_refused What (Shipped frames) why = absurd why.0
@@ -134,30 +138,32 @@ module _ {D : Type 0} (disk : Ghosts D) (only_now : disk.is_observable → (d : 
   asked_refused lines Occupied why = absurd why.0
   asked_refused lines (TooSmall asked has) why = absurd why.0
   asked_refused lines (Formatted made) why = absurd why.0
-  asked_refused lines (Checkpointed entries) why = absurd why.0
+  asked_refused lines (Checkpointed kind entries) why = absurd why.0
+  asked_refused lines Sealed why = absurd why.0
   asked_refused lines (Stands entries) why = absurd why.0
   asked_refused lines (Full need room) why = absurd why.0
   asked_refused lines (Shipped frames) why = absurd why.0
   asked_refused lines (CutShort cut) why = absurd why.0
   asked_refused lines (Replied transcript) why = absurd (unsound (why.plain.sound reported))
 
-  checkpoint_refused : (e : Ending) → CheckpointEnds disk old new e → Refused e
-  checkpoint_refused Usage why = absurd why.0
-  checkpoint_refused NoSource why = absurd why.0
-  checkpoint_refused TooLong why = absurd why.0
-  checkpoint_refused OutOfMemory why = (why, without_memory)
-  checkpoint_refused NoDevice why = (⊎_elim (λ kept. kept) (λ lasts. absurd (unsound (lasts.sound reported))) why.1, without_device)
-  checkpoint_refused NoStore why = (why.1, without_store)
-  checkpoint_refused (Damaged block) why = (why.1, with_damage)
-  checkpoint_refused Occupied why = absurd why.0
-  checkpoint_refused (TooSmall asked has) why = absurd why.0
-  checkpoint_refused (Formatted made) why = absurd why.0
-  checkpoint_refused (Checkpointed entries) why = absurd (unsound (why.0 reported))
-  checkpoint_refused (Stands entries) why = absurd why.0
-  checkpoint_refused (Full need room) why = absurd (unsound (why.0 reported))
-  checkpoint_refused (Shipped frames) why = absurd why.0
-  checkpoint_refused (CutShort cut) why = absurd why.0
-  checkpoint_refused (Replied transcript) why = absurd why.0
+  checkpoint_refused : (kind : CheckpointKind) (e : Ending) → CheckpointEnds disk kind old new e → Refused e
+  checkpoint_refused kind Usage why = absurd why.0
+  checkpoint_refused kind NoSource why = absurd why.0
+  checkpoint_refused kind TooLong why = absurd why.0
+  checkpoint_refused kind OutOfMemory why = (why, without_memory)
+  checkpoint_refused kind NoDevice why = (⊎_elim (λ kept. kept) (λ lasts. absurd (unsound (lasts.sound reported))) why.1, without_device)
+  checkpoint_refused kind NoStore why = (why.1, without_store)
+  checkpoint_refused kind (Damaged block) why = (why.1, with_damage)
+  checkpoint_refused kind Occupied why = absurd why.0
+  checkpoint_refused kind (TooSmall asked has) why = absurd why.0
+  checkpoint_refused kind (Formatted made) why = absurd why.0
+  checkpoint_refused kind (Checkpointed done entries) why = absurd (unsound (why.1 reported))
+  checkpoint_refused kind Sealed why = absurd (unsound (why.0 reported))
+  checkpoint_refused kind (Stands entries) why = absurd why.0
+  checkpoint_refused kind (Full need room) why = absurd (unsound (why.0 reported))
+  checkpoint_refused kind (Shipped frames) why = absurd why.0
+  checkpoint_refused kind (CutShort cut) why = absurd why.0
+  checkpoint_refused kind (Replied transcript) why = absurd why.0
 
   -- ---- runs
 
@@ -196,7 +202,8 @@ module _ {D : Type 0} (disk : Ghosts D) (only_now : disk.is_observable → (d : 
         work_refused (λ said start log own. DistilsStore start log workers said own) e why.1.0
     cause_refused (Some (Sample number streams points)) e opens why =
         work_refused (λ said start log own. SamplesStore number streams points start log said own) e why.1.0
-    cause_refused (Some Checkpoint) e opens why = checkpoint_refused e why.1
+    cause_refused (Some Checkpoint) e opens why = checkpoint_refused kinds.Plain e why.1
+    cause_refused (Some Seal) e opens why = checkpoint_refused kinds.Seal e why.1
     cause_refused (Some Check) e opens why = absurd opens
     cause_refused (Some (Ship from)) e opens why = absurd opens
     cause_refused (Some Hear) e opens why = read_refused (HearingCause disk) e (λ input. heard_refused input e) why

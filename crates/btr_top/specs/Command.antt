@@ -7,6 +7,7 @@ use Rattle.btr_disk.specs.declared.disk.Disk.{Ghosts}
 use Rattle.btr_disk.specs.Causes.{Rose}
 use Rattle.btr_disk.specs.Moments.{IsUnwritten}
 use Rattle.btr_super.specs.Choose.{HasNoSuper}
+use Rattle.btr_super.specs.Super.{has_seal}
 use Rattle.btr_open.specs.Damage.{IsDamaged}
 use Rattle.btr_top.specs.declared.command.TheConstants.{MAX_INPUT}
 use Rattle.btr_top.specs.declared.ending.Ending.{Ending}
@@ -58,7 +59,7 @@ module _ {D : Type 0} (disk : Ghosts D) where
     pub blocks : ℕ
     pub tail : ℕ
     pub holds : HoldsHistoryTo (disk.size old) (disk.contents old) blocks tail history
-    pub room : Room (record { history = history; left = left blocks tail; stopped = false })
+    pub room : Room (record { history = history; left = left blocks tail; stopped = false; sealed = has_seal holds.super })
 
 -- Why a command ends so that reads its whole input and then does something with it, for which `cause` says why it ends so. The device
 -- is not called before all of the input is read.

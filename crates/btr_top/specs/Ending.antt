@@ -5,8 +5,9 @@ use Rattle.btr_io.specs.Faults.{Rose}
 use Rattle.btr_text.specs.Text.{line_text}
 use Rattle.btr_top.specs.declared.ending.Ending.{Ending}
 use Rattle.btr_top.specs.declared.ending.Ending.TheVariants.{Usage, NoSource, TooLong, OutOfMemory, NoDevice, NoStore}
-use Rattle.btr_top.specs.declared.ending.Ending.TheVariants.{Damaged, Occupied, TooSmall, Formatted, Checkpointed, Stands, Full}
+use Rattle.btr_top.specs.declared.ending.Ending.TheVariants.{Damaged, Occupied, TooSmall, Formatted, Checkpointed, Sealed, Stands, Full}
 use Rattle.btr_top.specs.declared.ending.Ending.TheVariants.{Shipped, CutShort, Replied}
+use Rattle.btr_top.specs.declared.checkpoint.CheckpointKind.TheVariants.{Plain, Seal}
 use Rattle.btr_top.specs.declared.command.TheConstants.{MAX_INPUT}
 use Rattle.btr_store.specs.Status.{code_of}
 use Rattle.btr_follow.specs.declared.shipping.ShipFault.{ShipFault}
@@ -32,12 +33,17 @@ status_of (Damaged block) = 7
 status_of Occupied = 6
 status_of (TooSmall asked blocks) = 8
 status_of (Formatted blocks) = 0
-status_of (Checkpointed entries) = 0
+status_of (Checkpointed kind entries) = 0
+status_of Sealed = 1
 status_of (Stands entries) = 0
 status_of (Full need left) = 8
 status_of (Shipped frames) = 0
 status_of (CutShort why) = status_of_cut why
 status_of (Replied transcript) = code_of transcript.status
+
+-- The line of a sealed store.
+abbrev pub sealed_line : List ℕ
+sealed_line = line_text (codes "no" ∷ codes "sealed" ∷ [])
 
 -- The text of an ending: one line, or the replies, or nothing after frames.
 abbrev pub text_of : Ending → List ℕ
@@ -51,7 +57,9 @@ text_of (Damaged block) = line_text (codes "no" ∷ codes "damaged" ∷ decimal 
 text_of Occupied = line_text (codes "no" ∷ codes "occupied" ∷ [])
 text_of (TooSmall asked blocks) = line_text (codes "no" ∷ codes "small" ∷ decimal asked ∷ decimal blocks ∷ [])
 text_of (Formatted blocks) = line_text (codes "formatted" ∷ decimal blocks ∷ [])
-text_of (Checkpointed entries) = line_text (codes "checkpoint" ∷ decimal entries ∷ [])
+text_of (Checkpointed Plain entries) = line_text (codes "checkpoint" ∷ decimal entries ∷ [])
+text_of (Checkpointed Seal entries) = line_text (codes "sealed" ∷ decimal entries ∷ [])
+text_of Sealed = sealed_line
 text_of (Stands entries) = line_text (codes "stands" ∷ decimal entries ∷ [])
 text_of (Full need left) = line_text (codes "no" ∷ codes "full" ∷ decimal need ∷ decimal left ∷ [])
 text_of (Shipped frames) = []

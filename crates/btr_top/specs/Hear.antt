@@ -1,15 +1,17 @@
 -- The command `hear`: what it does with the frames of its input, what it says of them, and why it ends so.
 use Rattle.std.specs.Prelude.{◌≡◌, ◌⊎◌, ℕ, ◌+◌, ◌<◌, ◌≤◌, ◌==◌, ◌&&◌, List, [], ◌∷◌, length, take, slice_get, codes, decimal}
 use Rattle.std.specs.Prelude.{Bool, true, false, if◌then◌else◌, Option, Some, None, Result, Ok, Err, IfOk}
+use Rattle.std.specs.List.{AllByRecursion}
 use Rattle.std.specs.declared.alloc.AllocError.{AllocError}
 use Rattle.btr_io.specs.declared.source.Source.{Ghosts as SourceGhosts}
 use Rattle.btr_disk.specs.declared.disk.Disk.{Ghosts}
 use Rattle.btr_hist.specs.declared.entry.Entry.{Entry}
 use Rattle.btr_hist.specs.Legal.{Allowed}
 use Rattle.btr_engine.specs.declared.step.StepFault.{StepFault}
-use Rattle.btr_engine.specs.declared.step.StepFault.TheVariants.{DeviceFull, DeviceFault}
+use Rattle.btr_engine.specs.declared.step.StepFault.TheVariants.{Sealed, DeviceFull, DeviceFault}
 use Rattle.btr_engine.specs.declared.engine.Engine.{Engine}
 use Rattle.btr_engine.specs.Body.{need_of, needs_of}
+use Rattle.btr_engine.specs.Engine.{is_sealed}
 use Rattle.btr_text.specs.Text.{line_text}
 use Rattle.btr_hall.specs.declared.item.Item.{Item}
 use Rattle.btr_hall.specs.Trace.{IsTraceOf, engine_after, has_halt, history_of}
@@ -28,6 +30,7 @@ use Rattle.btr_follow.specs.Hears.{Brings, Hears}
 use Rattle.btr_top.specs.declared.hear.FrameCounts.{FrameCounts}
 use Rattle.btr_top.specs.declared.ending.Ending.{Ending}
 use Rattle.btr_top.specs.declared.ending.Ending.TheVariants.{OutOfMemory, NoDevice, Replied}
+use Rattle.btr_top.specs.Ending.{sealed_line}
 use Rattle.btr_top.specs.Command.{HoldsStoreWith, IsWithinLimit, IsKept, CommandCause}
 use Rattle.btr_top.specs.Work.{IfReplied, WorkCause}
 
@@ -80,6 +83,14 @@ HearsAll h (f ∷ frames) (answer ∷ answers) after = (mid : List Entry) × Hea
 abbrev pub HearsFirst : List Entry → List Frame → List Heard → List Entry → Type 0
 HearsFirst h frames answers after = HearsAll h (take (length answers) frames) answers after
 
+-- The answers that a sealed store has: it answers no frame that another store would take, or find not allowed.
+abbrev pub IsSealedAnswer : Heard → Type 0
+IsSealedAnswer (Stale entries) = Unit {0}
+IsSealedAnswer (Early entries) = Unit {0}
+IsSealedAnswer Garbled = Unit {0}
+IsSealedAnswer Foreign = ⊥
+IsSealedAnswer (Taken number) = ⊥
+
 -- The frame after those that were answered brings this entry, which is allowed after this history.
 pub record BringsNext (frames : List Frame) (answers : List Heard) (h : List Entry) (e : Entry) : Type 0 where
   pub frame : Frame
@@ -91,6 +102,14 @@ pub record BringsNext (frames : List Frame) (answers : List Heard) (h : List Ent
 abbrev pub FailsInNext : List Frame → List Heard → List Entry → Option Entry → Type 0
 FailsInNext frames answers h None = Unit {0}
 FailsInNext frames answers h (Some e) = BringsNext frames answers h e
+
+-- The store was sealed, and the frame after those that were answered brings an entry, which may be one that is not allowed.
+pub record MeetsSeal (frames : List Frame) (answers : List Heard) (start : StoreState) (h : List Entry) : Type 0 where
+  pub sealed : start.sealed ≡ true
+  pub frame : Frame
+  pub at : slice_get frames (length answers) ≡ Some frame
+  pub entry : Entry
+  pub brings : Brings h frame entry
 
 -- ---- what is said
 
@@ -105,9 +124,16 @@ pub record SaysFull (need left : ℕ) (t : Transcript) : Type 0 where
   pub same_text : t.text.items ≡ full_line need left
   pub same_status : t.status ≡ Full
 
--- The frame after those that were answered brings an entry for which too few blocks are left, and the transcript says so.
+-- The transcript is the line of a sealed store.
+pub record SaysStoreSealed (t : Transcript) : Type 0 where
+  pub same_text : t.text.items ≡ sealed_line
+  pub same_status : t.status ≡ Refused
+
+-- The frame after those that were answered brings an entry for which too few blocks are left, and the transcript says so. The store was not
+-- sealed.
 pub record LacksRoomForNext (frames : List Frame) (answers : List Heard) (start : StoreState) (h : List Entry) (t : Transcript)
     : Type 0 where
+  pub unsealed : start.sealed ≡ false
   pub entry : Entry
   pub next : BringsNext frames answers h entry
   pub room : ℕ
@@ -118,21 +144,24 @@ pub record LacksRoomForNext (frames : List Frame) (answers : List Heard) (start 
 -- What is said of the frames. If there was no memory, nothing is; and after a failure of the device nothing but that is.
 abbrev pub SaysHearing : Frames → List Heard → StoreState → LogState → Result Transcript AllocError → Type 0
 SaysHearing frames answers start log (Ok t) =
-    (log.failed ≡ None) × (SaysHeard frames answers t ⊎ LacksRoomForNext frames.frames answers start log.history t)
+    (log.failed ≡ None)
+    × (SaysHeard frames answers t ⊎ LacksRoomForNext frames.frames answers start log.history t
+    ⊎ (MeetsSeal frames.frames answers start log.history × SaysStoreSealed t))
 SaysHearing frames answers start log (Err error) = Unit {0}
 
 -- What `hear` did with these frames on a store that held the history of the start: it answered them in order, up to the first for which it
--- found no room or no memory, or in which the device failed.
+-- found no room or no memory, or in which the device failed, or which a sealed store does not answer.
 pub record HearsFrames (frames : Frames) (start : StoreState) (log : LogState) (said : Result Transcript AllocError) : Type 0 where
   pub answers : List Heard
   pub heard : HearsFirst start.history frames.frames answers log.history
+  pub sealed : start.sealed ≡ true → AllByRecursion IsSealedAnswer answers
   pub failed : FailsInNext frames.frames answers log.history log.failed
   pub says : SaysHearing frames answers start log said
 
--- What is said on each device: a line with some numbers of all frames, or that of a device without room.
+-- What is said on each device: a line with some numbers of all frames, or that of a device without room, or of a sealed store.
 abbrev pub SaysSomeHearing : Frames → Transcript → Type 0
 SaysSomeHearing frames t =
-    ((answers : List Heard) × SaysHeard frames answers t) ⊎ ((need : ℕ) × (left : ℕ) × SaysFull need left t)
+    ((answers : List Heard) × SaysHeard frames answers t) ⊎ ((need : ℕ) × (left : ℕ) × SaysFull need left t) ⊎ SaysStoreSealed t
 
 -- ---- the command
 
@@ -170,8 +199,9 @@ abbrev pub is_device_fault : Result FrameCounts StepFault → Bool
 is_device_fault (Err DeviceFault) = true
 is_device_fault result = false
 
--- The frame after those that were answered brings an entry that needs more blocks than there are.
+-- The frame after those that were answered brings an entry that needs more blocks than there are. The store was not sealed.
 pub record IsFullForNext (frames : List Frame) (answers : List Heard) (start : StoreState) (h : List Entry) (need room : ℕ) : Type 0 where
+  pub unsealed : start.sealed ≡ false
   pub entry : Entry
   pub next : BringsNext frames answers h entry
   pub needs : need ≡ need_of h entry
@@ -187,6 +217,7 @@ pub record SaysCounts (n : FrameCounts) (rest : ℕ) (t : Transcript) : Type 0 w
 abbrev pub EndsHearing : Result FrameCounts StepFault → ℕ → Ending → Type 0
 EndsHearing (Ok n) rest e = (e ≡ OutOfMemory) ⊎ ((t : Transcript) × (e ≡ Replied t) × SaysCounts n rest t)
 EndsHearing (Err (DeviceFull need left)) rest e = (e ≡ OutOfMemory) ⊎ ((t : Transcript) × (e ≡ Replied t) × SaysFull need left t)
+EndsHearing (Err Sealed) rest e = (e ≡ OutOfMemory) ⊎ ((t : Transcript) × (e ≡ Replied t) × SaysStoreSealed t)
 EndsHearing (Err DeviceFault) rest e = e ≡ NoDevice
 EndsHearing (Err why) rest e = e ≡ OutOfMemory
 
@@ -195,9 +226,11 @@ module _ {D : Type 0} {disk : Ghosts D} where
   pub record HeardAfter (h : List Entry) (frames : List Frame) (answers : List Heard) (items : List (Item D disk)) (x : Engine D disk)
       (result : Result FrameCounts StepFault) : Type 0 where
     pub heard : HearsFirst h frames answers (history_of h items)
+    pub unstepped : is_sealed x ≡ true → AllByRecursion IsSealedAnswer answers
     pub failed : FailsInNext frames answers (history_of h items) (failed_in items)
     pub full : (need room : ℕ) → result ≡ Err (DeviceFull need room)
         → IsFullForNext frames answers (start_with h x) (history_of h items) need room
+    pub sealed : result ≡ Err Sealed → MeetsSeal frames answers (start_with h x) (history_of h items)
 
   -- What a follower did with these frames, with this result: its engine made a step for each entry that was taken, and one more if the
   -- device failed in it.

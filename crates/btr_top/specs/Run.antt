@@ -9,10 +9,11 @@ use Rattle.btr_disk.specs.Causes.{Rose}
 use Rattle.btr_open.specs.Damage.{IsUndamaged}
 use Rattle.btr_words.specs.declared.command.Command.{Command}
 use Rattle.btr_words.specs.declared.command.Command.TheVariants.{Format, Load, Ask, Distil, Live, LiveGroups, Sample, Checkpoint, Check}
-use Rattle.btr_words.specs.declared.command.Command.TheVariants.{Ship, Hear}
+use Rattle.btr_words.specs.declared.command.Command.TheVariants.{Seal, Ship, Hear}
 use Rattle.btr_top.specs.declared.ending.Ending.{Ending}
 use Rattle.btr_top.specs.declared.ending.Ending.TheVariants.{Usage, OutOfMemory}
 use Rattle.btr_top.specs.declared.command.TheConstants.{MAX_INPUT}
+use Rattle.btr_top.specs.declared.checkpoint.CheckpointKind.TheVariants as kind
 use Rattle.btr_top.specs.Command.{IsKept}
 use Rattle.btr_top.specs.declared.live.FeedKind.TheVariants.{Own, Shared}
 use Rattle.btr_top.specs.Live.{LiveCause, CanLive}
@@ -41,7 +42,9 @@ Cause source sink disk (Some (Load workers batch)) given rest before sent old ne
 Cause source sink disk (Some (Distil workers)) given rest before sent old new e = (rest ≡ given) × DistilCause disk workers old new e
 Cause source sink disk (Some (Sample number streams points)) given rest before sent old new e =
     (rest ≡ given) × SampleCause disk number streams points old new e
-Cause source sink disk (Some Checkpoint) given rest before sent old new e = (rest ≡ given) × CheckpointEnds disk old new e
+Cause source sink disk (Some Checkpoint) given rest before sent old new e =
+    (rest ≡ given) × CheckpointEnds disk kind.Plain old new e
+Cause source sink disk (Some Seal) given rest before sent old new e = (rest ≡ given) × CheckpointEnds disk kind.Seal old new e
 Cause source sink disk (Some Check) given rest before sent old new e = (rest ≡ given) × CheckEnds disk old new e
 Cause source sink disk (Some (Ship from)) given rest before sent old new e = (rest ≡ given) × ShipEnds sink disk from before sent old new e
 Cause source sink disk (Some Hear) given rest before sent old new e = HearEnds source disk given rest old new e
@@ -71,7 +74,8 @@ CanRun source disk (Some Ask) given old = CanAsk source disk given old
 CanRun source disk (Some (Load workers batch)) given old = CanLoad source disk batch given old
 CanRun source disk (Some (Distil workers)) given old = CanDistil disk old
 CanRun source disk (Some (Sample number streams points)) given old = CanSample disk number streams points old
-CanRun source disk (Some Checkpoint) given old = CanCheckpoint disk old
+CanRun source disk (Some Checkpoint) given old = CanCheckpoint disk kind.Plain old
+CanRun source disk (Some Seal) given old = CanCheckpoint disk kind.Seal old
 CanRun source disk (Some Check) given old = HoldsLegalStore disk old
 CanRun source disk (Some (Ship from)) given old = CanShip disk old
 CanRun source disk (Some Hear) given old = CanHear source disk given old

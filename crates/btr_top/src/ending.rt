@@ -2,8 +2,9 @@
 ghost use Rattle.std.specs.Prelude.{◌≡◌, ◌++◌, [], ◌∷◌, map, codes, decimal, IfOk, OnErr, OnOk};
 ghost use Rattle.btr_io.specs.Faults.{Rose};
 ghost use Rattle.btr_text.specs.Text.{line_text};
-ghost use Rattle.btr_top.specs.Ending.{NeedsLine, Shows, WrotePrefix, Writes, status_of, status_of_cut, text_of};
+ghost use Rattle.btr_top.specs.Ending.{NeedsLine, Shows, WrotePrefix, Writes, sealed_line, status_of, status_of_cut, text_of};
 
+use crate::checkpoint::CheckpointKind;
 use crate::command::MAX_INPUT;
 use btr_follow::ShipFault;
 use btr_io::{Failed, Sink, write_all};
@@ -46,8 +47,11 @@ pub enum Ending {
     /// An empty store of this many blocks was made.
     Formatted { blocks: u64 },
 
-    /// A checkpoint was added to the log. It has the streams of this many entries, which are all.
-    Checkpointed { entries: u64 },
+    /// A checkpoint of this kind was added to the log. It has the streams of this many entries, which are all.
+    Checkpointed { kind: CheckpointKind, entries: u64 },
+
+    /// The store is sealed, so it takes no checkpoint.
+    Sealed,
 
     /// The device holds a legal history of this many entries.
     Stands { entries: u64 },
@@ -143,6 +147,7 @@ fn status_of(ending: &Ending) -> u8
         Ending::TooSmall { .. } => 8,
         Ending::Formatted { .. } => 0,
         Ending::Checkpointed { .. } => 0,
+        Ending::Sealed => 1,
         Ending::Stands { .. } => 0,
         Ending::Full { .. } => 8,
         Ending::Shipped { .. } => 0,
@@ -167,12 +172,27 @@ fn text_of(alloc: Global, ending: &Ending) -> Result<Vec<u8>, AllocError>
         Ending::Occupied => line(alloc, b"no", &[b"occupied"]),
         Ending::TooSmall { asked, blocks } => two_numbers_text(alloc, b"small", *asked, *blocks),
         Ending::Formatted { blocks } => done_text(alloc, b"formatted", *blocks),
-        Ending::Checkpointed { entries } => done_text(alloc, b"checkpoint", *entries),
+        Ending::Checkpointed {
+            kind: CheckpointKind::Plain,
+            entries,
+        } => done_text(alloc, b"checkpoint", *entries),
+        Ending::Checkpointed {
+            kind: CheckpointKind::Seal,
+            entries,
+        } => done_text(alloc, b"sealed", *entries),
+        Ending::Sealed => sealed_text(alloc),
         Ending::Stands { entries } => done_text(alloc, b"stands", *entries),
         Ending::Full { need, left } => two_numbers_text(alloc, b"full", *need, *left),
         Ending::NoDevice | Ending::Shipped { .. } | Ending::CutShort { .. } | Ending::Replied(_) =>
             Ok(Vec::new(alloc)),
     }
+}
+
+/// Returns the line of a sealed store.
+pub(crate) fn sealed_text(alloc: Global) -> Result<Vec<u8>, AllocError>
+    ensures { IfOk result (λ t. t.items ≡ sealed_line) }
+{
+    line(alloc, b"no", &[b"sealed"])
 }
 
 /// Returns the line of a refusal with one number.

@@ -3,14 +3,15 @@ ghost use Rattle.std.specs.Prelude.{◌≡◌, ◌+◌, ◌<◌, ◌^◌, true, 
 ghost use Rattle.btr_io.specs.Bytes.{Gives};
 ghost use Rattle.btr_engine.specs.Engine.{is_stopped, is_home};
 ghost use Rattle.btr_open.specs.Opening.{IsOpenedEngine};
-ghost use Rattle.btr_store.specs.declared.status.Status.TheVariants.{Full as StatusFull};
+ghost use Rattle.btr_store.specs.declared.status.Status.TheVariants.{Full as StatusFull, Refused as StatusRefused};
 ghost use Rattle.btr_top.specs.declared.command.TheConstants.{MAX_INPUT};
 ghost use Rattle.btr_top.specs.declared.ending.Ending.TheVariants.{OutOfMemory, Replied};
+ghost use Rattle.btr_top.specs.Ending.{sealed_line};
 ghost use Rattle.btr_top.specs.Hear.{HearEnds, HearingCause, FramesCause, full_line, count_frame, heard_line, heard_status};
 ghost use Rattle.btr_top.specs.Hear.{HeardEach, EndsHearing};
 
 use crate::command::{CommandResult, open_refusal, read_input};
-use crate::ending::{Ending, line, two_numbers_text};
+use crate::ending::{Ending, line, sealed_text, two_numbers_text};
 use crate::remains::RunRemains;
 use btr_disk::Disk;
 use btr_engine::{Engine, StepFault};
@@ -149,6 +150,7 @@ fn ending_of(alloc: Global, heard: Result<FrameCounts, StepFault>, rest: u64) ->
         Err(StepFault::DeviceFull { need, left }) => {
             ending_of_said(full_transcript(alloc, need, left))
         }
+        Err(StepFault::Sealed) => ending_of_said(sealed_transcript(alloc)),
         Err(StepFault::DeviceFault) => Ending::NoDevice,
         // the engine ran, and a follower tests each entry first
         Err(StepFault::Want | StepFault::Stopped { .. } | StepFault::Rejected(_)) => {
@@ -223,6 +225,18 @@ fn full_transcript(alloc: Global, need: u64, left: u64) -> Result<Transcript, Al
     let text = two_numbers_text(alloc, b"full", need, left)?;
     Ok(Transcript {
         status: Status::Full,
+        text,
+    })
+}
+
+/// Returns the line of a sealed store, with its status.
+fn sealed_transcript(alloc: Global) -> Result<Transcript, AllocError>
+    ensures text { IfOk result (λ t. t.text.items ≡ sealed_line) }
+    ensures status { IfOk result (λ t. t.status ≡ StatusRefused) }
+{
+    let text = sealed_text(alloc)?;
+    Ok(Transcript {
+        status: Status::Refused,
         text,
     })
 }

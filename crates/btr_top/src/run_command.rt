@@ -10,7 +10,7 @@ ghost use Rattle.btr_top.specs.Run.{IsReader, RunCause, Runs, WritesAtEnd};
 
 use crate::ask::run_ask;
 use crate::check::run_check;
-use crate::checkpoint::run_checkpoint;
+use crate::checkpoint::{CheckpointKind, run_checkpoint};
 use crate::command::CommandResult;
 use crate::distil::run_distil;
 use crate::ending::{Ending, show};
@@ -173,7 +173,8 @@ fn run_one<R: Threads + Wait + Sync, S: Source, K: Sink, D: Disk + Send, P: Pace
             streams,
             points,
         } => run_sample(system, number, streams, points, disk, pace),
-        Command::Checkpoint => run_checkpoint(alloc, disk),
+        Command::Checkpoint => run_checkpoint(CheckpointKind::Plain, alloc, disk),
+        Command::Seal => run_checkpoint(CheckpointKind::Seal, alloc, disk),
         Command::Check => run_check(alloc, disk),
         Command::Ship { from } => run_ship(alloc, from, sink, disk),
         Command::Hear => run_hear(alloc, source, disk),

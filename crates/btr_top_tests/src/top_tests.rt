@@ -10,6 +10,7 @@ mod follower;
 mod lanes;
 mod outputs;
 mod retirements;
+mod seals;
 mod shared;
 mod stops;
 mod streams;

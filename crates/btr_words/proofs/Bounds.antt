@@ -9,7 +9,7 @@ use Rattle.std.proofs.lemmas.Bool.{leb-true}
 use Rattle.clap.specs.ValueTests.{is_numeral, is_unsigned_in}
 use Rattle.clap.proofs.WalkLemmas.{both}
 use Rattle.btr_words.specs.declared.command.Command.{Command}
-use Rattle.btr_words.specs.declared.command.Command.TheVariants.{Format, Load, Ask, Distil, Live, LiveGroups, Sample, Checkpoint, Check, Ship, Hear}
+use Rattle.btr_words.specs.declared.command.Command.TheVariants.{Format, Load, Ask, Distil, Live, LiveGroups, Sample, Checkpoint, Seal, Check, Ship, Hear}
 use Rattle.btr_words.specs.Words.{Argument, Found, IsInBounds, Takes, Text, argument_named, batch_argument, batch_of, between, blocks_argument, command_of, format_of, group_argument, live_arguments, live_of}
 use Rattle.btr_words.specs.Words.{materialize_of, nothing, number_for, number_of, numbers_in_order, numbers_of, option_numbers, options_after, others, sample_arguments, sample_of}
 use Rattle.btr_words.specs.Words.{from_argument, ship_of}
@@ -198,29 +198,31 @@ ship_good words = chained (from_argument ∷ []) ship_of
 
 pub in_bounds : (words : List Text) → Good (command_of words)
 in_bounds [] = tt
-in_bounds (word ∷ words) = go (is (codes "format")) (is (codes "load")) (is (codes "ask")) (is (codes "distil")) (is (codes "live")) (is (codes "sample")) (is (codes "checkpoint")) (is (codes "check")) (is (codes "ship")) (is (codes "hear"))
+in_bounds (word ∷ words) = go (is (codes "format")) (is (codes "load")) (is (codes "ask")) (is (codes "distil")) (is (codes "live")) (is (codes "sample")) (is (codes "checkpoint")) (is (codes "seal")) (is (codes "check")) (is (codes "ship")) (is (codes "hear"))
   where
     is : Text → Bool
     is name = bytes_eq name word
 
-    go : (b1 b2 b3 b4 b5 b6 b7 b8 b9 b10 : Bool) → Good (cond b1 (option_and_then format_of (option_numbers (blocks_argument ∷ []) words))
+    go : (b1 b2 b3 b4 b5 b6 b7 b8 b9 b10 b11 : Bool) → Good (cond b1 (option_and_then format_of (option_numbers (blocks_argument ∷ []) words))
         (cond b2 (option_map (λ found. Load (workers_of found) (batch_of found)) (option_numbers (workers_argument ∷ batch_argument ∷ []) words))
         (cond b3 (option_map (λ found. Ask) (option_numbers [] words))
         (cond b4 (option_map (λ found. Distil (workers_of found)) (option_numbers (workers_argument ∷ []) words))
         (cond b5 (option_and_then live_of (option_numbers live_arguments words))
         (cond b6 (option_and_then sample_of (numbers_in_order sample_arguments (without_marker words)))
         (cond b7 (option_map (λ found. Checkpoint) (option_numbers [] words))
-        (cond b8 (option_map (λ found. Check) (option_numbers [] words))
-        (cond b9 (option_and_then ship_of (numbers_in_order (from_argument ∷ []) (without_marker words)))
-        (cond b10 (option_map (λ found. Hear) (option_numbers [] words)) None))))))))))
-    go true b2 b3 b4 b5 b6 b7 b8 b9 b10 = format_good words
-    go false true b3 b4 b5 b6 b7 b8 b9 b10 = load_good words
-    go false false true b4 b5 b6 b7 b8 b9 b10 = mapped [] (λ found. Ask) (λ found h. tt) words
-    go false false false true b5 b6 b7 b8 b9 b10 = mapped (workers_argument ∷ []) (λ found. Distil (workers_of found)) (workers_lie (workers_argument ∷ []) refl) words
-    go false false false false true b6 b7 b8 b9 b10 = live_good words
-    go false false false false false true b7 b8 b9 b10 = sample_good (without_marker words)
-    go false false false false false false true b8 b9 b10 = mapped [] (λ found. Checkpoint) (λ found h. tt) words
-    go false false false false false false false true b9 b10 = mapped [] (λ found. Check) (λ found h. tt) words
-    go false false false false false false false false true b10 = ship_good (without_marker words)
-    go false false false false false false false false false true = mapped [] (λ found. Hear) (λ found h. tt) words
-    go false false false false false false false false false false = tt
+        (cond b8 (option_map (λ found. Seal) (option_numbers [] words))
+        (cond b9 (option_map (λ found. Check) (option_numbers [] words))
+        (cond b10 (option_and_then ship_of (numbers_in_order (from_argument ∷ []) (without_marker words)))
+        (cond b11 (option_map (λ found. Hear) (option_numbers [] words)) None)))))))))))
+    go true b2 b3 b4 b5 b6 b7 b8 b9 b10 b11 = format_good words
+    go false true b3 b4 b5 b6 b7 b8 b9 b10 b11 = load_good words
+    go false false true b4 b5 b6 b7 b8 b9 b10 b11 = mapped [] (λ found. Ask) (λ found h. tt) words
+    go false false false true b5 b6 b7 b8 b9 b10 b11 = mapped (workers_argument ∷ []) (λ found. Distil (workers_of found)) (workers_lie (workers_argument ∷ []) refl) words
+    go false false false false true b6 b7 b8 b9 b10 b11 = live_good words
+    go false false false false false true b7 b8 b9 b10 b11 = sample_good (without_marker words)
+    go false false false false false false true b8 b9 b10 b11 = mapped [] (λ found. Checkpoint) (λ found h. tt) words
+    go false false false false false false false true b9 b10 b11 = mapped [] (λ found. Seal) (λ found h. tt) words
+    go false false false false false false false false true b10 b11 = mapped [] (λ found. Check) (λ found h. tt) words
+    go false false false false false false false false false true b11 = ship_good (without_marker words)
+    go false false false false false false false false false false true = mapped [] (λ found. Hear) (λ found h. tt) words
+    go false false false false false false false false false false false = tt

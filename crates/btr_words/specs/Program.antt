@@ -8,7 +8,8 @@ use Rattle.clap.specs.Simple.{new_shape}
 use Rattle.clap.specs.declared.builder.action.ArgAction.TheVariants as action
 use Rattle.clap.specs.declared.builder.value_parser.ValueParser.TheVariants as vp
 use Rattle.btr_words.specs.declared.command.Command.{Command}
-use Rattle.btr_words.specs.declared.command.Command.TheVariants.{Format, Load, Ask, Distil, Live, LiveGroups, Checkpoint, Check, Ship, Hear}
+use Rattle.btr_words.specs.declared.command.Command.TheVariants.{Format, Load, Ask, Distil, Live, LiveGroups}
+use Rattle.btr_words.specs.declared.command.Command.TheVariants.{Checkpoint, Seal, Check, Ship, Hear}
 use Rattle.btr_words.specs.Words.{Text, number_of, sampled}
 
 -- An option of this name that takes a number.
@@ -65,6 +66,9 @@ sample_app = with_rule (with_rule (with_rule (new_app (codes "sample")) number_r
 abbrev pub checkpoint_app : App
 checkpoint_app = new_app (codes "checkpoint")
 
+abbrev pub seal_app : App
+seal_app = new_app (codes "seal")
+
 abbrev pub check_app : App
 check_app = new_app (codes "check")
 
@@ -94,8 +98,8 @@ first_app = with_subcommand (with_subcommand (with_subcommand (record { top = pr
 -- The program with all commands but those of frames.
 abbrev pub main_app : App
 main_app =
-    with_subcommand (with_subcommand (with_subcommand (with_subcommand (with_subcommand
-    first_app distil_app.top) live_app.top) sample_app.top) checkpoint_app.top) check_app.top
+    with_subcommand (with_subcommand (with_subcommand (with_subcommand (with_subcommand (with_subcommand
+    first_app distil_app.top) live_app.top) sample_app.top) checkpoint_app.top) seal_app.top) check_app.top
 
 abbrev pub program_app : App
 program_app = with_subcommand (with_subcommand main_app ship_app.top) hear_app.top
@@ -141,10 +145,11 @@ command_with_rows name rows =
     else (if bytes_eq name (codes "live") then live_in rows
     else (if bytes_eq name (codes "sample") then sample_in rows
     else (if bytes_eq name (codes "checkpoint") then Some Checkpoint
+    else (if bytes_eq name (codes "seal") then Some Seal
     else (if bytes_eq name (codes "check") then Some Check
     else (if bytes_eq name (codes "ship") then ship_in rows
     else (if bytes_eq name (codes "hear") then Some Hear
-    else Some Ask))))))))
+    else Some Ask)))))))))
 
 -- The command of the subcommand that was found.
 abbrev pub command_of_rows : Option (Text × List Row) → Option Command

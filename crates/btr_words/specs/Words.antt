@@ -9,7 +9,7 @@ use Rattle.clap.specs.Lexer.{long_of}
 use Rattle.clap.specs.ValueTests.{is_unsigned_in}
 use Rattle.btr_words.specs.declared.command.Command.{Command}
 use Rattle.btr_words.specs.declared.command.Command.TheVariants.{Format, Load, Ask, Distil, Live, LiveGroups, Sample, Checkpoint, Check}
-use Rattle.btr_words.specs.declared.command.Command.TheVariants.{Ship, Hear}
+use Rattle.btr_words.specs.declared.command.Command.TheVariants.{Seal, Ship, Hear}
 
 abbrev pub Text : Type 0
 Text = List ℕ
@@ -195,10 +195,11 @@ command_with name words =
     else (if bytes_eq (codes "sample") name
     then option_and_then sample_of (numbers_in_order sample_arguments (without_marker words))
     else (if bytes_eq (codes "checkpoint") name then option_map (λ found. Checkpoint) (option_numbers [] words)
+    else (if bytes_eq (codes "seal") name then option_map (λ found. Seal) (option_numbers [] words)
     else (if bytes_eq (codes "check") name then option_map (λ found. Check) (option_numbers [] words)
     else (if bytes_eq (codes "ship") name
     then option_and_then ship_of (numbers_in_order (from_argument ∷ []) (without_marker words))
-    else (if bytes_eq (codes "hear") name then option_map (λ found. Hear) (option_numbers [] words) else None)))))))))
+    else (if bytes_eq (codes "hear") name then option_map (λ found. Hear) (option_numbers [] words) else None))))))))))
 
 abbrev pub command_of : List Text → Option Command
 command_of [] = None
@@ -215,6 +216,7 @@ IsInBounds (LiveGroups threshold materialize) = (1 ≤ threshold) × (threshold 
 IsInBounds (Sample number streams points) =
     (number ≤ 2147483647) × (1 ≤ streams) × (streams ≤ 1000) × (1 ≤ points) × (points ≤ 1000000) × (streams * points ≤ 1000000)
 IsInBounds Checkpoint = Unit {0}
+IsInBounds Seal = Unit {0}
 IsInBounds Check = Unit {0}
 IsInBounds (Ship from) = (1 ≤ from) × (from ≤ 18446744073709551615)
 IsInBounds Hear = Unit {0}

@@ -46,6 +46,9 @@ pub enum Command {
     /// `checkpoint`: write a checkpoint, which has all streams with their versions, to the store, and a superblock that names it.
     Checkpoint,
 
+    /// `seal`: write a checkpoint, as `checkpoint`, and a superblock that names it and seals the store, which takes no more entries.
+    Seal,
+
     /// `check`: read the whole store, and say whether it is right.
     Check,
 

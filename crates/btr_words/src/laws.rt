@@ -2,7 +2,7 @@
 ghost use Rattle.std.specs.Prelude.{◌≡◌, List, [], ◌∷◌, ◌++◌, codes, Some, None, true, false};
 ghost use Rattle.std.specs.Option.{option_map};
 ghost use Rattle.btr_words.specs.declared.command.Command.TheVariants.{Ask, Check, Checkpoint, Distil, Format, Live, LiveGroups, Load};
-ghost use Rattle.btr_words.specs.declared.command.Command.TheVariants.{Hear, Ship};
+ghost use Rattle.btr_words.specs.declared.command.Command.TheVariants.{Hear, Seal, Ship};
 ghost use Rattle.btr_words.specs.Words.{Text, command_of, number_of, loaded, sampled};
 
 /// The words of each command that has no flag and reads no rows, each option written as two words.
@@ -10,6 +10,7 @@ pub fn commands_are_these()
     ensures none { command_of [] ≡ None }
     ensures ask { command_of (codes "ask" ∷ []) ≡ Some Ask }
     ensures checkpoint { command_of (codes "checkpoint" ∷ []) ≡ Some Checkpoint }
+    ensures seal { command_of (codes "seal" ∷ []) ≡ Some Seal }
     ensures check { command_of (codes "check" ∷ []) ≡ Some Check }
     ensures format { (n : Text) → command_of (codes "format" ∷ codes "--blocks" ∷ n ∷ [])
         ≡ option_map (λ k. Format k) (number_of 8 4294967296 n) }

@@ -27,6 +27,7 @@ fn main_commands<'a>(alloc: Global) -> Result<Command<'a>, AllocError>
         .subcommand(live_command(alloc)?)?
         .subcommand(sample_command(alloc)?)?
         .subcommand(Command::new(alloc, "checkpoint"))?
+        .subcommand(Command::new(alloc, "seal"))?
         .subcommand(Command::new(alloc, "check"))
 }
 

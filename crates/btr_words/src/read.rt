@@ -50,6 +50,8 @@ fn command_in(matches: &ArgMatches) -> Option<Command>
         sample_in(arguments)
     } else if name == "checkpoint" {
         Some(Command::Checkpoint)
+    } else if name == "seal" {
+        Some(Command::Seal)
     } else if name == "check" {
         Some(Command::Check)
     } else if name == "ship" {

@@ -457,6 +457,7 @@ module _ (start : StoreState) (log : LogState) (low : List Entry) (result : ℕ 
   level-end (refreshed.Refused (faults.Crowded at)) free is = absurd (is.landed.3.2 (follows-at is.landed.0 is.landed.2))
   level-end (refreshed.Refused (faults.TooManyPoints count)) free is = absurd (is.landed.3.2 (follows-at is.landed.0 is.landed.2))
   level-end (refreshed.Refused (faults.Stopped entries)) free is = absurd free
+  level-end (refreshed.Refused faults.Sealed) free is = absurd free
   level-end (refreshed.Refused faults.Want) free is = absurd free
   level-end (refreshed.Refused (faults.DeviceFull need left)) free is = absurd free
   level-end (refreshed.Refused faults.DeviceFault) free is = absurd free

@@ -131,6 +131,7 @@ module _ (start : StoreState) (log : LogState) (low : List Entry) (result : ℕ 
     level-refused spec (faults.Crowded at) spec_is is = tt
     level-refused spec (faults.TooManyPoints count) spec_is is = tt
     level-refused spec (faults.Stopped entries) spec_is is = tt
+    level-refused spec faults.Sealed spec_is is = tt
     level-refused spec faults.Want spec_is is = tt
     level-refused spec (faults.DeviceFull need left) spec_is is = tt
     level-refused spec faults.DeviceFault spec_is is = tt

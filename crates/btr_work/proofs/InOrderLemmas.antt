@@ -28,7 +28,7 @@ use Rattle.btr_jobs.specs.States.{StoreState, LogState}
 use Rattle.btr_jobs.specs.Turns.{IsAdded, IsIdle, Landed}
 use Rattle.btr_jobs.specs.PlainStore.{PlainStore, TakeResult, receipt_of, take_result, store_after, first_store, RunsThrough}
 use Rattle.btr_jobs.specs.PlainStore.TakeResult.{Taken, Rejected, Full}
-use Rattle.btr_jobs.proofs.PlainStoreLemmas.{needs_prefix, middle_runs, outcome_taken, outcome_full, outcome_rejected, Holds, first_holds, added_fits, holds_added, holds_full, holds_rejected, full_left, never_stopped}
+use Rattle.btr_jobs.proofs.PlainStoreLemmas.{needs_prefix, middle_runs, outcome_taken, outcome_full, outcome_rejected, Holds, first_holds, added_fits, holds_added, holds_full, holds_rejected, full_left, never_stopped, never_sealed}
 use Rattle.btr_work.specs.declared.report.Refreshed.{Refreshed}
 use Rattle.btr_work.specs.declared.report.Refreshed.TheVariants as refreshed
 use Rattle.btr_work.specs.declared.report.RefreshLine.{RefreshLine}
@@ -97,6 +97,7 @@ added-turned log p e own next added = record {
 landed-turned : (start : StoreState) (log : LogState) (ran : RunsThrough start log) (p : List Entry) (plan : PlanValue) (result : Result Receipt LandFault) (own : List ℕ) (next : List Entry) → StartsWith log.history p → Landed start log p plan result own next → Turned log p next own
 landed-turned start log ran p plan (Ok receipt) own next starts is = added-turned log p (entry_of plan) own next is.2
 landed-turned start log ran p plan (Err (faults.Stopped entries)) own next starts is = idle-turned log p next own starts is.1
+landed-turned start log ran p plan (Err faults.Sealed) own next starts is = idle-turned log p next own starts is.1
 landed-turned start log ran p plan (Err (faults.Superseded version)) own next starts is = idle-turned log p next own starts is.3
 landed-turned start log ran p plan (Err faults.VersionLimit) own next starts is = idle-turned log p next own starts is.2
 landed-turned start log ran p plan (Err (faults.Crowded at)) own next starts is = idle-turned log p next own starts is.3
@@ -201,6 +202,7 @@ module _ (start : StoreState) (log : LogState) (ran : RunsThrough start log) (le
         (ap refreshed.Landed (landed.1.version ∙ ap (λ h. (machine.receipt h e).version) (sym holds.same)))
         (holds_added start c low e holds log.history taken room (end ∙ added.next))
     landed-ends (Err (faults.Stopped entries)) own next memory landed end = absurd (never_stopped start log ran low entries landed.0)
+    landed-ends (Err faults.Sealed) own next memory landed end = absurd (never_sealed start log ran low landed.0)
     landed-ends (Err (faults.Superseded version)) own next memory landed end =
         let now = current low output spec plan legal-low is_spec is in
         let later = landed.1 in
@@ -247,6 +249,7 @@ module _ (start : StoreState) (log : LogState) (ran : RunsThrough start log) (le
         let at : is.at ≡ low = starts_whole is.at low is.after (omega (arith, long, between)) in
         current-ends version (subst (λ h. IsUpToDate h output version) at is.current) exact.1
     refreshed-ends (refreshed.Refused (faults.Stopped entries)) memory is = plan-ends (Err (faults.Stopped entries)) tt is
+    refreshed-ends (refreshed.Refused faults.Sealed) memory is = plan-ends (Err faults.Sealed) tt is
     refreshed-ends (refreshed.Refused (faults.Superseded version)) memory is = plan-ends (Err (faults.Superseded version)) tt is
     refreshed-ends (refreshed.Refused faults.VersionLimit) memory is = plan-ends (Err faults.VersionLimit) tt is
     refreshed-ends (refreshed.Refused (faults.Crowded at)) memory is = plan-ends (Err (faults.Crowded at)) tt is

@@ -92,6 +92,7 @@ module _ (log : LogState) (p : List Entry) (plan : PlanValue) (own : List ℕ) (
   landed-number : (start : StoreState) (result : Result Receipt LandFault) → Landed start log p plan result own next → IsNumber
   landed-number start (Ok receipt) is = added-number is.2
   landed-number start (Err (faults.Stopped entries)) is = idle-number is.1
+  landed-number start (Err faults.Sealed) is = idle-number is.1
   landed-number start (Err (faults.Superseded version)) is = idle-number is.3
   landed-number start (Err faults.VersionLimit) is = idle-number is.2
   landed-number start (Err (faults.Crowded at)) is = idle-number is.3
@@ -115,6 +116,7 @@ module _ (start : StoreState) (log : LogState) (low : List Entry) (output : ℕ)
   refreshed-owns (refreshed.Landed version) is = plan-owns (Ok is.0) is.2
   refreshed-owns (refreshed.Current version) is = absurd (none-own n own is.none some)
   refreshed-owns (refreshed.Refused (faults.Stopped entries)) is = plan-owns (Err (faults.Stopped entries)) is
+  refreshed-owns (refreshed.Refused faults.Sealed) is = plan-owns (Err faults.Sealed) is
   refreshed-owns (refreshed.Refused (faults.Superseded version)) is = plan-owns (Err (faults.Superseded version)) is
   refreshed-owns (refreshed.Refused faults.VersionLimit) is = plan-owns (Err faults.VersionLimit) is
   refreshed-owns (refreshed.Refused (faults.Crowded at)) is = plan-owns (Err (faults.Crowded at)) is
@@ -258,6 +260,7 @@ landing-lowers start log low less n starts is =
 one-number : (start : StoreState) (log : LogState) (p : List Entry) (plan : PlanValue) (result : Result Receipt LandFault) (own : List ℕ) (next : List Entry) (n : ℕ) → 0 < times n own → Landed start log p plan result own next → own ≡ n ∷ []
 one-number start log p plan (Ok receipt) own next n some is = is.2.own ∙ ap (λ m. m ∷ []) (sym (only n (length p + 1) own is.2.own some))
 one-number start log p plan (Err (faults.Stopped entries)) own next n some is = absurd (none-own n own is.1.own some)
+one-number start log p plan (Err faults.Sealed) own next n some is = absurd (none-own n own is.1.own some)
 one-number start log p plan (Err (faults.Superseded version)) own next n some is = absurd (none-own n own is.3.own some)
 one-number start log p plan (Err faults.VersionLimit) own next n some is = absurd (none-own n own is.2.own some)
 one-number start log p plan (Err (faults.Crowded at)) own next n some is = absurd (none-own n own is.3.own some)
@@ -283,6 +286,7 @@ module _ (start : StoreState) (log : LogState) (low : List Entry) (output : ℕ)
   refreshed-landing (refreshed.Landed version) is = plan-landing (Ok is.0) is.2
   refreshed-landing (refreshed.Current version) is = absurd (none-own n own is.none some)
   refreshed-landing (refreshed.Refused (faults.Stopped entries)) is = plan-landing (Err (faults.Stopped entries)) is
+  refreshed-landing (refreshed.Refused faults.Sealed) is = plan-landing (Err faults.Sealed) is
   refreshed-landing (refreshed.Refused (faults.Superseded version)) is = plan-landing (Err (faults.Superseded version)) is
   refreshed-landing (refreshed.Refused faults.VersionLimit) is = plan-landing (Err faults.VersionLimit) is
   refreshed-landing (refreshed.Refused (faults.Crowded at)) is = plan-landing (Err (faults.Crowded at)) is

@@ -50,6 +50,7 @@ module _ {D : Type 0} {disk : Ghosts D} where
 -- A refused landing.
 refused-by : (start : StoreState) (log : LogState) (low : List Entry) (output : ℕ) (fault : LandFault) (own : List ℕ) → IsPlanLanded start log low output (Err fault) own → IsRefreshed start log low output (refreshed.Refused fault) own
 refused-by start log low output (faults.Stopped entries) own is = is
+refused-by start log low output faults.Sealed own is = is
 refused-by start log low output (faults.Superseded version) own is = is
 refused-by start log low output faults.VersionLimit own is = is
 refused-by start log low output (faults.Crowded at) own is = is
@@ -138,6 +139,7 @@ module _ {D : Type 0} {disk : Ghosts D} (hall : Hall D disk) (old new : Session 
 
       of : (fault : LandFault) (count : ℕ) → refused fault ≡ refused (faults.Stopped count) → IsOfStopped (refreshed.Refused fault)
       of (faults.Stopped entries) count is = tt
+      of faults.Sealed count is = absurd (cc)
       of (faults.Superseded version) count is = absurd (cc)
       of faults.VersionLimit count is = absurd (cc)
       of (faults.Crowded at) count is = absurd (cc)

@@ -37,9 +37,10 @@ result_by before after output =
     else if is_some (plan_of after output (spec_of after output)) then Refused faults.VersionLimit
     else Current (latest after output)
 
--- The result came neither from the memory nor from the device.
+-- The result came neither from the memory nor from the device, nor from a seal.
 abbrev pub IsUndisturbed : Refreshed → Type 0
 IsUndisturbed (Refused (faults.Stopped entries)) = ⊥
+IsUndisturbed (Refused faults.Sealed) = ⊥
 IsUndisturbed (Refused faults.Want) = ⊥
 IsUndisturbed (Refused (faults.DeviceFull need left)) = ⊥
 IsUndisturbed (Refused faults.DeviceFault) = ⊥
@@ -51,8 +52,8 @@ pub record IsAlike (h after low : List Entry) (report : List RefreshLine) : Type
   pub recorded : (stream : ℕ) → recorded h stream ≡ recorded after stream
   pub lines : report ≡ map (λ output. record { output = output; result = result_by low after output }) (outputs low)
 
--- If nobody else added anything, and the memory and the device sufficed, any number of workers leaves the commits and makes the report
--- of one that lands the outputs one after another, level by level, each level in rising order.
+-- If nobody else added anything, the store was not sealed, and the memory and the device sufficed, any number of workers leaves the commits
+-- and makes the report of one that lands the outputs one after another, level by level, each level in rising order.
 abbrev pub RefreshedIsAlike : Type 0
 RefreshedIsAlike =
     (start : StoreState) (log : LogState) (low : List Entry) (report : List RefreshLine) (own : List ℕ) (levels : List (List ℕ))

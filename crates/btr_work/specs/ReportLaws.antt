@@ -54,6 +54,8 @@ module _ (start : StoreState) where
   }
   refreshed_lasts late early low output (Refused (faults.Stopped entries)) own on is =
       plan_lasts late early low output (Err (faults.Stopped entries)) own on is
+  refreshed_lasts late early low output (Refused faults.Sealed) own on is =
+      plan_lasts late early low output (Err faults.Sealed) own on is
   refreshed_lasts late early low output (Refused (faults.Superseded version)) own on is =
       plan_lasts late early low output (Err (faults.Superseded version)) own on is
   refreshed_lasts late early low output (Refused faults.VersionLimit) own on is =
@@ -82,6 +84,8 @@ module _ (start : StoreState) where
   }
   refreshed_lowers log low less output (Refused (faults.Stopped entries)) own starts is =
       plan_lowers log low less output (Err (faults.Stopped entries)) own starts is
+  refreshed_lowers log low less output (Refused faults.Sealed) own starts is =
+      plan_lowers log low less output (Err faults.Sealed) own starts is
   refreshed_lowers log low less output (Refused (faults.Superseded version)) own starts is =
       plan_lowers log low less output (Err (faults.Superseded version)) own starts is
   refreshed_lowers log low less output (Refused faults.VersionLimit) own starts is =

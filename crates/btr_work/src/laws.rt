@@ -9,16 +9,17 @@ pub fn refreshed_is_current()
     ensures { RefreshedIsCurrent }
 {}
 
-/// If nobody else added anything since the call began, and the memory and the device sufficed, each stream has the commits in the end
-/// that one worker leaves, which lands the outputs one after another, level by level. The report is that of one worker, too.
+/// If nobody else added anything since the call began, the store was not sealed, and the memory and the device sufficed, each stream has
+/// the commits in the end that one worker leaves, which lands the outputs one after another, level by level. The report is that of one
+/// worker, too.
 pub fn refreshed_is_alike()
     ensures { RefreshedIsAlike }
 {}
 
 /// One worker has one right outcome, also on a nearly full device: it plans and lands the outputs one after another, level by level, each
 /// level in rising order. A landing is added if the model accepts it and the blocks that are left suffice. The history and the report are
-/// those. This is so if nobody else added anything since the hall began, the history is legal, the store was not stopped, the device did
-/// not fail, and there was enough memory.
+/// those. This is so if nobody else added anything since the hall began, the history is legal, the store was not stopped nor sealed, the
+/// device did not fail, and there was enough memory.
 pub fn refreshed_in_order()
     ensures { RefreshedInOrder }
 {}

@@ -4,6 +4,7 @@ ghost use Rattle.std.specs.Prelude.{◌≡◌, ◌%◌, length, IfOk};
 use super::checkpoints::marked;
 use super::device::{has_bytes, turned, written};
 use super::fixture::{Ran, device_of, empty_device, no_wrong, play, run_on, run_words, store_of};
+use super::seals::sealed;
 use super::stops::images_go_on;
 use btr_disk::{Disk, FuseDisk, MemDisk};
 use btr_io::{MemSink, MemSource};
@@ -410,6 +411,42 @@ fn first_wrong_line(
 #[test]
 fn each_frame_is_counted_by_its_answer(rt: HostRuntime) -> Result<(), Fail> {
     no_wrong(first_wrong_line(&rt)?)
+}
+
+/// Bytes that a sealed store hears, its line, and the status. The store is empty.
+const SEALED_EMPTY: &[(Pieces<'static>, &str, u8)] = &[
+    (NOTHING, "heard 0 stale 0 early 0 bad 0 rest 0\n", 0),
+    (ALL, "no sealed\n", 1),
+    (SECOND, "heard 0 stale 0 early 1 bad 0 rest 0\n", 1),
+    (&[EMPTY_0], "heard 0 stale 1 early 0 bad 0 rest 0\n", 0),
+    // no entry: no step is reached
+    (&[EMPTY_1], "heard 0 stale 0 early 0 bad 1 rest 0\n", 1),
+    (&[EMPTY_1, HEAD_1, CREATE], "no sealed\n", 1),
+];
+
+fn first_wrong_sealed(
+    rt: &(impl AllocGlobal + Threads + Wait + Sync),
+) -> Result<Option<usize>, Fail> {
+    for (row, (pieces, line, status)) in SEALED_EMPTY.iter().enumerate() {
+        let empty = run_on(rt, "seal", b"", store_of(rt, "64")?)?;
+        if !heard(rt, pieces, empty.disk)?.gave(line, *status) {
+            return Ok(Some(row));
+        }
+    }
+    Ok(None)
+}
+
+#[test]
+fn a_sealed_follower_takes_no_frame(rt: HostRuntime) -> Result<(), Fail> {
+    no_wrong(first_wrong_sealed(&rt)?)
+}
+
+#[test]
+fn a_sealed_follower_has_what_it_heard(rt: HostRuntime) -> Result<(), Fail> {
+    let ran = heard(&rt, ALL, sealed(&rt)?)?;
+    assert!(rt; ran.gave("heard 0 stale 2 early 0 bad 0 rest 0\n", 0));
+    assert!(rt; writes(&rt, "ship 1", ran.disk, ALL, 0)?);
+    Ok(())
 }
 
 /// Ships a store with an output of the sums 10, 30 and 50, in its fourth entry. Returns the frames.

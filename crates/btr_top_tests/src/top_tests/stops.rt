@@ -34,7 +34,7 @@ const FIRST_CALLS: u64 = 43;
 /// The calls that make an empty store.
 const FORMAT_CALLS: u64 = 8;
 
-const FILLS: [Fill; 5] = [
+pub(super) const FILLS: [Fill; 5] = [
     Fill::Kept,
     Fill::Written,
     Fill::Zeros,

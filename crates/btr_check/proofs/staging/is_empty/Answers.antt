@@ -12,6 +12,6 @@ pub returns-in-Some : goal.returns-in-Some
 returns-in-Some c h board has =
     let stream = c.args.stream in
     let version = c.args.version in
-    let its = subst (λ o. MatchOption o (HasVersion h stream version → ⊥) (λ t. IsTreeOf h stream version t.now)) c.in-Some.is (c.tree.ensures h board) in
+    let its = subst (λ o. MatchOption o (HasVersion h stream version → ⊥) (λ t. IsTreeOf h stream version t.now)) c.in-Some.is (c.tree.ensures.of h board) in
     let counted : c.count.result ≡ length (bag h stream version) = c.count.ensures (commits_to h stream version) its.tree ∙ ap (length {A = Point}) (bag-commits_to h stream version) in
     empty-counted c.count.result (bag h stream version) counted

@@ -56,7 +56,7 @@ its_adds g c =
     let ready = subst (λ k. IsReadyFor k e r) (sym out.log_is) out.ready.ready_for in
     let written = subst (λ k. OnOk how (IsWritten k after r)) out.log_is c.write-log.ensures.written in
     let failed = subst (λ k. IfErr how (λ _. HasFailed r.raise k after)) out.log_is c.write-log.ensures.failed in
-    let holds = subst (λ k. HoldsIf k after e r how) out.log_is (λ seen h b z staged raise now. on_ok_weaker how (λ of. of seen h b z staged raise now) (c.write-log.ensures.holds e ready)) in
+    let holds = subst (λ k. HoldsIf k after e r how) out.log_is (λ seen h b z staged raise unsealed now. on_ok_weaker how (λ of. of seen h b z staged raise unsealed now) (c.write-log.ensures.holds e ready)) in
     let moments = subst (λ k. LeavesEntry k after e r) out.log_is (c.write-log.ensures.moments e ready) in
     brought_in (laws g) s u c.bring-result.new.self after e r (like_of_list s u l m x of next same) (sym next.opening ∙ of.opening) (halted_of_list s u l m x of next same) out.ready out.staged moments how
     c.bring-result.result.0 c.bring-result.result.1 written failed holds c.bring-result.ensures

@@ -16,6 +16,7 @@ returns c = λ size blocks image is. record {
   leads = record { roots = []; pages = no_pages; lead = refl };
   formats = tt;
   starts = inl (refl, refl);
+  sealed = λ sealed. refl;
   closed = is.no_entry;
   inside = omega (arith, is.chosen.stored.spelled.keeps.blocks_from);
   follows = follows-none;

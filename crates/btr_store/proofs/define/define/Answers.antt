@@ -1,9 +1,10 @@
 -- The session is alone, so the output is defined right after the history that it had seen.
 use Rattle.std.proofs.Common.{◌+◌, ◌∙◌, ap, subst, Some, None}
 use Rattle.btr_hist.specs.declared.entry.Entry.TheVariants as entries
+use Rattle.btr_engine.specs.declared.step.StepFault.TheVariants.{Sealed}
 use Rattle.btr_gate.specs.Shares.{covers}
 use Rattle.btr_hall.specs.Found.{IsFound}
-use Rattle.btr_jobs.specs.Turns.{Committed}
+use Rattle.btr_jobs.specs.Turns.{SaysSealed, Committed}
 use Rattle.btr_jobs.specs.Jobs.{Does}
 use Rattle.btr_jobs.proofs.TurnLemmas.{commit_at}
 use Rattle.btr_load.proofs.CreateLemmas.{turn_alone}
@@ -31,7 +32,7 @@ returns-in-Some-clause-does g c =
     let look = look_alone hall old mid looks c.requires.alone (λ h. IsFound h (c.from.result + 1) (Some found)) c.in-Some.ensures.found in
     let turn = turn_alone hall mid new (entries.Define id c.mean_of.result) result done.same done.commits (ap covers looks.same.share ∙ c.requires.alone) in
     defines_some hall old mid new c.args.stream id (c.from.result + 1) found result c.refusal_of-refused.result c.output_id-id.ensures (ap (λ n. n + 1) c.from.ensures) c.refusal_of-refused.ensures at look
-    (subst (λ spec. Does hall mid new (λ start log low own. Committed start log low (entries.Define id spec) result own log.history)) c.mean_of.ensures turn)
+    (subst (λ spec. Does hall mid new (λ start log low own. Committed start log low (entries.Define id spec) result own log.history × SaysSealed start Sealed result)) c.mean_of.ensures turn)
 
 pub returns-in-None-clause-does : goal.returns-in-None-clause-does
 returns-in-None-clause-does g c =

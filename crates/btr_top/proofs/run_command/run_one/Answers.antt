@@ -26,6 +26,9 @@ returns-in-Sample-clause-input g c = λ reported. gives_none 268435457 (g.S.Sour
 pub returns-in-Checkpoint-clause-input : goal.returns-in-Checkpoint-clause-input
 returns-in-Checkpoint-clause-input g c = λ reported. gives_none 268435457 (g.S.Source.left c.args.source.now)
 
+pub returns-in-Seal-clause-input : goal.returns-in-Seal-clause-input
+returns-in-Seal-clause-input g c = λ reported. gives_none 268435457 (g.S.Source.left c.args.source.now)
+
 pub returns-in-Check-clause-input : goal.returns-in-Check-clause-input
 returns-in-Check-clause-input g c = λ reported. gives_none 268435457 (g.S.Source.left c.args.source.now)
 

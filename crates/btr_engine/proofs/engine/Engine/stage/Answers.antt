@@ -56,4 +56,5 @@ returns-clause-ready g c =
       };
       next = next;
       raise = c.in_ok-ready.ensures.next.raise;
+      unsealed = c.in_ok-ready.ensures.next.unsealed;
     }

@@ -3,7 +3,7 @@ use Rattle.std.proofs.Common.{sym, ◌∙◌, subst}
 use Rattle.btr_engine.specs.Engine.{log_of}
 use Rattle.btr_engine.specs.Travel.{LeavesEntry, HoldsEntry, IsReadyFor, IsReadyOn, IsWritten, HasFailed}
 use Rattle.btr_engine.proofs.Stepping.{same_at_home}
-use Rattle.btr_engine.proofs.TravelLemmas.{HasMoments, StagesOn, taken_is, of_like, ready_like, staged_like, stopped_as, result_like, cause_like, refused_step, written_step, failed_step}
+use Rattle.btr_engine.proofs.TravelLemmas.{HasMoments, StagesOn, taken_is, of_like, ready_like, staged_like, stopped_as, sealed_as, result_like, cause_like, refused_step, written_step, failed_step}
 use Rattle.btr_engine.proofs.engine.Engine.step.Given.{Over}
 use Rattle.btr_engine.proofs.engine.Engine.step.Goals.{After-stage, After-write-log}
 use Rattle.btr_engine.proofs.engine.Engine.step.Goals as goal
@@ -63,7 +63,7 @@ returns-in-Err g c =
       chosen = back.chosen ∙ like.chosen;
       synced = back.synced ∙ like.synced;
     }) in
-    refused_step (laws g) old c.settle.new.self e fault same c.requires.home (stopped_as out old like fault c.in-Err.ensures.stopped) (result_like out old like e fault c.in-Err.ensures.refused)
+    refused_step (laws g) old c.settle.new.self e fault same c.requires.home (stopped_as out old like fault c.in-Err.ensures.stopped) (sealed_as out old like fault c.in-Err.ensures.sealed) (result_like out old like e fault c.in-Err.ensures.refused)
     (λ h of. cause_like out old like h e fault c.in-Err.ensures.refused (c.in-Err.ensures.cause h (of_like out old like h of)))
 
 pub returns-in-Err-written : goal.returns-in-Err-written

@@ -18,22 +18,22 @@ append-requires g c =
     }
 
 pub returns-in-Err-clause-moments : goal.returns-in-Err-clause-moments
-returns-in-Err-clause-moments g c e ready is_observable h b s staged fits now =
+returns-in-Err-clause-moments g c e ready is_observable h b s staged fits unsealed now =
     let r = c.args.self.now in
     let is = ap (λ nodes. r.prefix ++ streamed_bytes r.is_streamed r.staged.receipt.stream nodes) c.deref.ensures.value in
-    moments_of_write h b s c.args.log e r ready staged fits now _ is c.append.new.self
+    moments_of_write h b s c.args.log e r ready staged fits unsealed now _ is c.append.new.self
     (c.append.ensures.moments is_observable now.holds.bodies (log_rests_now h b s c.args.log now))
 
 pub returns-clause-holds : goal.returns-clause-holds
-returns-clause-holds g c e ready is_observable h b s staged fits now =
+returns-clause-holds g c e ready is_observable h b s staged fits unsealed now =
     let r = c.args.self.now in
     let is = ap (λ nodes. r.prefix ++ streamed_bytes r.is_streamed r.staged.receipt.stream nodes) c.deref.ensures.value in
-    holds_of_write h b s c.args.log e r ready staged fits now _ is c.append.new.self c.in_default.ensures.appended c.append.ensures.kept (c.in_default.ensures.appended.written is_observable)
+    holds_of_write h b s c.args.log e r ready staged fits unsealed now _ is c.append.new.self c.in_default.ensures.appended c.append.ensures.kept (c.in_default.ensures.appended.written is_observable)
     (c.in_default.ensures.at_rest is_observable now.holds.bodies (log_rests_now h b s c.args.log now))
 
 pub returns-clause-moments : goal.returns-clause-moments
-returns-clause-moments g c e ready is_observable h b s staged fits now =
+returns-clause-moments g c e ready is_observable h b s staged fits unsealed now =
     let r = c.args.self.now in
     let is = ap (λ nodes. r.prefix ++ streamed_bytes r.is_streamed r.staged.receipt.stream nodes) c.deref.ensures.value in
-    moments_of_write h b s c.args.log e r ready staged fits now _ is c.append.new.self
+    moments_of_write h b s c.args.log e r ready staged fits unsealed now _ is c.append.new.self
     (c.append.ensures.moments is_observable now.holds.bodies (log_rests_now h b s c.args.log now))

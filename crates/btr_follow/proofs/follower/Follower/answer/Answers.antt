@@ -7,7 +7,7 @@ use Rattle.btr_entry.specs.Grammar.{IsEntry}
 use Rattle.btr_engine.proofs.TravelLemmas.{HasMoments}
 use Rattle.btr_follow.specs.Hears.{Brings}
 use Rattle.btr_follow.specs.Follower.{engine_of, IsFollowerOf}
-use Rattle.btr_follow.proofs.TakingLemmas.{taking_heard, leaves_same, leaves_taking, acks-at_rest, acks-taking}
+use Rattle.btr_follow.proofs.TakingLemmas.{taking_heard, taking_cause, leaves_same, leaves_taking, acks-at_rest, acks-taking}
 use Rattle.btr_follow.proofs.follower.Follower.answer.Given.{Over}
 use Rattle.btr_follow.proofs.follower.Follower.answer.Goals.{In-Some}
 use Rattle.btr_follow.proofs.follower.Follower.answer.Goals as goal
@@ -45,6 +45,10 @@ returns-in-None-clause-torn g c = λ seen h rest.
 pub returns-in-Some-clause-heard : goal.returns-in-Some-clause-heard
 returns-in-Some-clause-heard g c = λ h of.
     taking_heard h c.args.self.now _ c.args.frame.now c.in-Some.entry c.take_entry.result of (its_entry g (goal.at.returns-in-Some-clause-heard g c).In-Some h of) c.take_entry.ensures
+
+pub returns-in-Some-clause-cause : goal.returns-in-Some-clause-cause
+returns-in-Some-clause-cause g c = λ h of.
+    taking_cause h c.args.self.now (record { engine = c.take_entry.new.engine; home = c.take_entry.ensures.home }) c.args.frame.now c.in-Some.entry c.take_entry.result of (its_entry g (goal.at.returns-in-Some-clause-cause g c).In-Some h of) c.take_entry.ensures
 
 pub returns-in-Some-clause-torn : goal.returns-in-Some-clause-torn
 returns-in-Some-clause-torn g c = λ seen h rest.

@@ -5,7 +5,7 @@ use Rattle.btr_hall.proofs.LandLemmas.{latest_or_none}
 use Rattle.btr_hall.proofs.store.Store.superseded.Goals as goal
 
 pub returns-else-version-base : goal.returns-else-version-base
-returns-else-version-base g c = λ runs h of.
+returns-else-version-base g c = λ runs unsealed h of.
     let version : c.unwrap_or-version.result ≡ latest h c.stream.result =
     c.unwrap_or-version.ensures ∙ ap (λ o. unwrap_or o 0) (c.latest.ensures h of) ∙ latest_or_none h c.stream.result of.follows in
     let stream = ap (latest h) c.stream.ensures in

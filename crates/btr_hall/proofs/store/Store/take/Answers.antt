@@ -1,6 +1,6 @@
 use Rattle.std.proofs.Common.{◌∙◌, refl}
 use Rattle.btr_engine.proofs.Stepping.{same_at_home}
-use Rattle.btr_engine.proofs.TravelLemmas.{HasMoments, taken_is, of_like, stopped_as, result_like, cause_like, refused_step}
+use Rattle.btr_engine.proofs.TravelLemmas.{HasMoments, taken_is, of_like, stopped_as, sealed_as, result_like, cause_like, refused_step}
 use Rattle.btr_hall.proofs.TravelLemmas.{refused_adds}
 use Rattle.btr_hall.proofs.store.Store.take.Given.{Over}
 use Rattle.btr_hall.proofs.store.Store.take.Goals as goal
@@ -29,6 +29,6 @@ returns-in-Err-clause-refused g c =
       synced = back.synced ∙ like.synced;
     }) in
     let has = result_like out old like e fault c.in-Err.ensures.refused in
-    let step = refused_step (laws g) old c.settle.new.self e fault same c.requires.home (stopped_as out old like fault c.in-Err.ensures.stopped) has
-    (λ h of. cause_like out old like h e fault c.in-Err.ensures.refused (c.in-Err.ensures.cause h (of_like out old like h of))) in
+    let step = refused_step (laws g) old c.settle.new.self e fault same c.requires.home (stopped_as out old like fault c.in-Err.ensures.stopped) (sealed_as out old like fault c.in-Err.ensures.sealed)
+    has (λ h of. cause_like out old like h e fault c.in-Err.ensures.refused (c.in-Err.ensures.cause h (of_like out old like h of))) in
     refused_adds s (record { engine = c.settle.new.self; opening = s.opening; halted = s.halted }) e fault step has refl refl

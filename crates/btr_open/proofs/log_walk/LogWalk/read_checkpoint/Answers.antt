@@ -1,5 +1,6 @@
 use Rattle.std.specs.Prelude.{◌≡◌, ℕ, ◌+◌, ◌*◌, ◌<◌, ◌≤◌, IfSome, IfNone, List}
-use Rattle.std.proofs.Common.{refl, sym, subst, inl, inr, arith}
+use Rattle.std.proofs.Common.{refl, sym, ◌∙◌, subst, inl, inr, arith}
+use Rattle.std.proofs.lemmas.Bool.{false≢true}
 use Rattle.btr_disk.specs.Bytes.{Has}
 use Rattle.btr_disk.specs.Gate.{IsOpen}
 use Rattle.btr_log.specs.Log.{log_device as disk_of, log_blocks}
@@ -9,8 +10,8 @@ use Rattle.btr_log.specs.Found.{IsDamagedExtent}
 use Rattle.btr_log.specs.Ahead.{HoldsExtent, HoldsWhole, MatchesPiece}
 use Rattle.btr_roll.specs.Roll.{RollStreamValue}
 use Rattle.btr_engine.specs.Body.{MayStandUnder}
-use Rattle.btr_engine.proofs.BodyLemmas.{format-body}
 use Rattle.btr_open.specs.Start.{HasRoll, IsWrongStart}
+use Rattle.btr_open.proofs.Formats.{body-may, head-may}
 use Rattle.btr_open.proofs.OpenCauses.{cause-found}
 use Rattle.btr_open.proofs.LogWalkLemmas.{log-read, walks-ahead}
 use Rattle.btr_open.proofs.StartExtent.{closed-gate, named-extent, other-extent, no-checkpoint-cause, no-roll-damage}
@@ -63,16 +64,16 @@ returns-then-head-ne2-clause-cause g c =
       | then-head-ne2-via-else-head-ne2+then-next-found w ↦ inr w.if-next-found.true
     ]) refl)
 
--- The checkpoint has a greater format than the superblock.
-pub returns-then-head-found-clause-cause : goal.returns-then-head-found-clause-cause
-returns-then-head-found-clause-cause g c reported =
+-- The checkpoint may not stand under the superblock.
+pub returns-then-not-may_stand-clause-cause : goal.returns-then-not-may_stand-clause-cause
+returns-then-not-may_stand-clause-cause g c reported =
     let disk = g.D.Disk in
-    let at = (goal.at.returns-then-head-found-clause-cause g c).In-Some in
+    let at = (goal.at.returns-then-not-may_stand-clause-cause g c).In-Some in
     let d0 = disk_of c.args.self.now.log in
     let found = c.args.self.now.found in
     let head = c.in-Some.head in
     let extent = named-extent (disk.contents d0) found (log_blocks c.args.self.now.log) head (body g at) (found.checkpoint + head.n + 1) (held g at).whole (matches g at reported) c.if-head-ne2.false c.if-next-found.false in
-    let above : MayStandUnder found.format (body g at) → ⊥ = λ under. omega (arith, under, c.if-head-found.true, format-body (body g at) head (held g at).whole.is_body) in
+    let above : MayStandUnder found.format (body g at) → ⊥ = λ under. false≢true (sym c.if-not-may_stand.true ∙ c.may_stand.ensures.1 (head-may found.format (body g at) head (held g at).whole.is_body under)) in
     no-roll-damage disk found d0 (disk_of c.read_ahead.new.self) c.requires.some (body g at) extent (λ under. absurd (above under))
 
 pub blocks-body-requires : goal.blocks-body-requires
@@ -118,6 +119,6 @@ returns-in-Some-2-clause-read g c =
       has = both.0;
       same_format = both.1;
       after = omega (arith, c.if-next-found.false, (held g at).whole.is_body.spells.is_head.blocks);
-      under = omega (arith, c.if-head-found.false, format-body (body g at) head (held g at).whole.is_body);
+      under = body-may found.format (body g at) head (held g at).whole.is_body (c.may_stand.ensures.0 c.if-not-may_stand.false);
       extent = λ reported. named-extent (g.D.Disk.contents d0) found (log_blocks c.args.self.now.log) head (body g at) (found.checkpoint + head.n + 1) (held g at).whole (matches g at reported) c.if-head-ne2.false c.if-next-found.false;
     }

@@ -1,32 +1,15 @@
-use Rattle.std.proofs.Common.{◌&&◌, ap, ◌∙◌, arith, w64}
-use Rattle.std.proofs.lemmas.Bool.{and_from, and_left, and_right, lt-leb}
-use Rattle.std.proofs.lemmas.Int.{to_z-of_z}
-use Rattle.btr_tree.specs.History as tree
-use Rattle.btr_base.specs.declared.limits.TheConstants.{MAX_EXPONENT}
+use Rattle.std.proofs.Common.{ap, ◌∙◌}
 use Rattle.btr_base.specs.Windows.{aligned}
+use Rattle.btr_hist.specs.declared.answer.Answer.TheVariants.{Found}
 use Rattle.btr_hist.specs.declared.answer.Rows.TheVariants.{Cells}
-use Rattle.btr_hist.specs.Answer.{version_of, is_range, is_power}
 use Rattle.btr_streams.specs.Past.{commits_to}
-use Rattle.btr_streams.proofs.Questions.{asked_range, bad_range, found, refused, power_good}
+use Rattle.btr_streams.proofs.BoardTrees.{bag-commits_to}
 use Rattle.btr_streams.proofs.board.Board.aligned.Goals as goal
-
-pub returns-in-Err : goal.returns-in-Err
-returns-in-Err c h of =
-    c.in-Err.ensures.refused h of (is_range c.args.from c.args.to && is_power c.args.p) (λ b. Cells (aligned c.args.p c.args.from c.args.to b))
-    (λ bad. and_left (is_range c.args.from c.args.to) (is_power c.args.p) (bad_range c.args.from c.args.to (to_z-of_z w64 c.args.from c.ranges.from) (to_z-of_z w64 c.args.to c.ranges.to) bad))
-
-pub returns-then-p-gt-MAX_EXPONENT : goal.returns-then-p-gt-MAX_EXPONENT
-returns-then-p-gt-MAX_EXPONENT c h of =
-    let s = c.args.asked.stream in
-    let bad = and_right (is_range c.args.from c.args.to) (is_power c.args.p) (lt-leb c.args.p MAX_EXPONENT c.if-p-gt-MAX_EXPONENT.true) in
-    refused h s c.in-Ok.there.0 (version_of h s c.args.asked.at) c.in-Ok.there.1.now (c.in-Ok.ensures.there h of) (is_range c.args.from c.args.to && is_power c.args.p) (λ b. Cells (aligned c.args.p c.args.from c.args.to b)) bad
 
 pub returns : goal.returns
 returns c h of =
-    let s = c.args.asked.stream in
-    let v = c.in-Ok.there.0 in
-    let there = c.in-Ok.ensures.there h of in
-    let range = asked_range c.args.from c.args.to (to_z-of_z w64 c.args.from c.ranges.from) (to_z-of_z w64 c.args.to c.ranges.to) c.in-Ok.there.2 c.in-Ok.ensures.range in
-    let good = and_from (is_range c.args.from c.args.to) (is_power c.args.p) range.good (power_good c.args.p (omega arith)) in
-    let rows = c.in_ok-found.ensures (commits_to h s v) there.has.tree ∙ ap (λ r. aligned c.args.p r.from r.to (tree.bag (commits_to h s v))) range.is in
-    found h s v (version_of h s c.args.asked.at) c.in-Ok.there.1.now there (is_range c.args.from c.args.to && is_power c.args.p) (λ b. Cells (aligned c.args.p c.args.from c.args.to b)) (Cells c.from_cells.result) good (ap Cells (c.from_cells.ensures ∙ rows))
+    let s = c.args.stream in
+    let v = c.args.version in
+    let there = c.tree_of.ensures h of in
+    let rows = c.in_ok-found.ensures (commits_to h s v) there.tree ∙ ap (λ b. aligned c.args.p c.args.between.from c.args.between.to b) (bag-commits_to h s v) in
+    ap (λ cells. Found v (Cells cells)) (c.from_cells.ensures ∙ rows)

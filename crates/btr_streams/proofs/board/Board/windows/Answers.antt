@@ -1,25 +1,15 @@
-use Rattle.std.proofs.Common.{◌&&◌, ap, ◌∙◌, arith, w64}
-use Rattle.std.proofs.lemmas.Bool.{and_from, and_left}
-use Rattle.std.proofs.lemmas.Int.{to_z-of_z}
-use Rattle.btr_tree.specs.History as tree
+use Rattle.std.proofs.Common.{ap, ◌∙◌}
 use Rattle.btr_base.specs.Windows.{windows}
+use Rattle.btr_hist.specs.declared.answer.Answer.TheVariants.{Found}
 use Rattle.btr_hist.specs.declared.answer.Rows.TheVariants.{Cells}
-use Rattle.btr_hist.specs.Answer.{version_of, is_range, is_width}
 use Rattle.btr_streams.specs.Past.{commits_to}
-use Rattle.btr_streams.proofs.Questions.{asked_range, bad_range, found, width_good}
+use Rattle.btr_streams.proofs.BoardTrees.{bag-commits_to}
 use Rattle.btr_streams.proofs.board.Board.windows.Goals as goal
-
-pub returns-in-Err : goal.returns-in-Err
-returns-in-Err c h of =
-    c.in-Err.ensures.refused h of (is_range c.args.from c.args.to && is_width c.args.width) (λ b. Cells (windows c.args.width c.args.from c.args.to b))
-    (λ bad. and_left (is_range c.args.from c.args.to) (is_width c.args.width) (bad_range c.args.from c.args.to (to_z-of_z w64 c.args.from c.ranges.from) (to_z-of_z w64 c.args.to c.ranges.to) bad))
 
 pub returns : goal.returns
 returns c h of =
-    let s = c.args.asked.stream in
-    let v = c.in-Ok.there.0 in
-    let there = c.in-Ok.ensures.there h of in
-    let range = asked_range c.args.from c.args.to (to_z-of_z w64 c.args.from c.ranges.from) (to_z-of_z w64 c.args.to c.ranges.to) c.in-Ok.there.2 c.in-Ok.ensures.range in
-    let good = and_from (is_range c.args.from c.args.to) (is_width c.args.width) range.good (width_good c.args.width (omega arith) (omega arith)) in
-    let rows = c.in_ok-found.ensures (commits_to h s v) there.has.tree ∙ ap (λ r. windows c.args.width r.from r.to (tree.bag (commits_to h s v))) range.is in
-    found h s v (version_of h s c.args.asked.at) c.in-Ok.there.1.now there (is_range c.args.from c.args.to && is_width c.args.width) (λ b. Cells (windows c.args.width c.args.from c.args.to b)) (Cells c.from_cells.result) good (ap Cells (c.from_cells.ensures ∙ rows))
+    let s = c.args.stream in
+    let v = c.args.version in
+    let there = c.tree_of.ensures h of in
+    let rows = c.in_ok-found.ensures (commits_to h s v) there.tree ∙ ap (λ b. windows c.args.width c.args.between.from c.args.between.to b) (bag-commits_to h s v) in
+    ap (λ cells. Found v (Cells cells)) (c.from_cells.ensures ∙ rows)

@@ -1,0 +1,7 @@
+use Rattle.std.proofs.Common.{ap, ◌∙◌}
+use Rattle.btr_hist.specs.declared.answer.Answer.TheVariants.{Found}
+use Rattle.btr_hist.specs.declared.answer.Rows.TheVariants as row
+use Rattle.btr_open.proofs.shelf_rows.aligned_at.Goals as goal
+
+pub returns-in-Ok-clause-answer : goal.returns-in-Ok-clause-answer
+returns-in-Ok-clause-answer g c o h is = ap (λ x. Found c.args.root.version (row.Cells x)) (c.from_cells.ensures ∙ c.in-Ok.ensures.cells o h is)
