@@ -1,4 +1,5 @@
--- Nodes that are fetched from blocks: which page is that of a place, which block a refusal names, and which place and which root is that of a past.
+-- Nodes that are fetched from blocks: which page is that of a place, which block a refusal names, and which place and which root is that of
+-- a past.
 --
 -- A source of pages says by a relation which page a block has. A function from blocks to pages is such a relation too.
 use Rattle.std.specs.Prelude.{◌≡◌, ◌⊎◌, ℕ, ◌+◌, ◌^◌, ◌<◌, ◌≤◌, ℤ, Bool, List, length, min, get_or, slice_get, Some}
