@@ -1,5 +1,5 @@
 -- Lemmas on what the slots of a span add, one after the other, and on what belongs to a slot.
-use Rattle.std.specs.Prelude.{◌≡◌, ℕ, suc, ◌+◌, ◌<◌, ◌≤◌, ℤ, Bool, true, List, [], length}
+use Rattle.std.specs.Prelude.{◌≡◌, ℕ, suc, ◌+◌, ◌<◌, ◌≤◌, ℤ, Bool, true, List, [], length, Result}
 use Rattle.std.proofs.Common.{sym, ap, ◌∙◌, arith, subst}
 use Rattle.std.proofs.lemmas.Bool.Decides.{nat_tests}
 use Rattle.std.proofs.lemmas.Int.{ints}
@@ -11,8 +11,10 @@ use Rattle.btr_base.specs.Range.{RangeValue}
 use Rattle.btr_base.specs.Bag.{within}
 use Rattle.btr_base.specs.Span.{SpanValue, slot_of}
 use Rattle.btr_tree.specs.declared.node.Slot.{Slot}
+use Rattle.btr_tree.specs.declared.walk_fault.WalkFault.{WalkFault}
 use Rattle.btr_tree.specs.History.{Past, bag}
 use Rattle.btr_tree.specs.Nodes.{points_of, is_inner, last_change}
+use Rattle.btr_tree.specs.Newer.{newer_nodes, sum_of}
 use Rattle.btr_tree.specs.Shape.{slot_start}
 use Rattle.btr_tree.specs.Agree.{AgreeSince}
 use Rattle.btr_tree.specs.NodeSource.{AreSlotsAt}
@@ -20,8 +22,9 @@ use Rattle.btr_tree.proofs.NodeLemmas.{slot-next, slot-from, slot-part, points-s
 use Rattle.btr_tree.proofs.SourceLemmas.{place-at}
 use Rattle.btr_tree.proofs.VersionLemmas.{bag-in_order}
 use Rattle.btr_diff.specs.declared.comparison.Comparison.{Comparison}
-use Rattle.btr_diff.specs.Comparison.{AddsChangedSlots, IsPlace, IsSlotOf}
+use Rattle.btr_diff.specs.Comparison.{AddsChangedSlots, AreSlotsOf, CountsNewer, CountsOlder, CountsSlot, IsPlace, IsSlotOf, nodes_in, refusals}
 use Rattle.btr_diff.proofs.ChangedSlots.{adds-none, adds-within}
+use Rattle.btr_diff.proofs.Newer.{bounded-exit, bounded-slot, nodes-slot, older-slots}
 
 -- ---- What is added.
 
@@ -65,26 +68,56 @@ module _ {Site : Type 0} (IsAt : Site → ℕ → ℤ → (List Point → Bool) 
   pub slots-part : (k : Past) (i : ℕ) (part : SpanValue) (at : AreSlotsAt IsAt place slots span k) → part ≡ slot_of span i → part ≡ record { start = slot_start at.below span.start i; height = at.below }
   slots-part k i part at is = is ∙ slot-part span at.below i at.above
 
+-- A slot that is read while the source tells what it told before the first slot.
+module _ {Told Site : Type 0} (IsAt : Told → Site → ℕ → ℤ → (List Point → Bool) → Past → Type 0) (told now : Told) (place : ℕ → Site) (slots : ℕ → Slot) (span : SpanValue) (i : ℕ) (part : SpanValue) (site : Site) (same : now ≡ told) (low : i < 64) (is : part ≡ slot_of span i) (there : site ≡ place i) where
   -- The place of a slot is that of its span.
-  pub slots-place : (k : Past) (i : ℕ) (part : SpanValue) (site : Site) → AreSlotsAt IsAt place slots span k → i < 64 → part ≡ slot_of span i → site ≡ place i → IsPlace site IsAt part k
-  slots-place k i part site at low is same =
-      let here = place-at IsAt place slots span part k i at low is in
-      (is_inner (suc at.below) span.start, subst (λ s. IsAt s part.height part.start (is_inner (suc at.below) span.start) k) (sym same) here.holds)
+  pub slots-place : (k : Past) → AreSlotsAt (IsAt told) place slots span k → IsPlace site (IsAt now) part k
+  slots-place k at =
+      let here = place-at (IsAt now) place slots span part k i (subst (λ u. AreSlotsAt (IsAt u) place slots span k) (sym same) at) low is in
+      (is_inner (suc at.below) span.start, subst (λ s. IsAt now s part.height part.start (is_inner (suc at.below) span.start) k) (sym there) here.holds)
 
-  -- A slot has its version, count and place. Transparent, since counts are said of the span above that it names.
-  unfoldable pub slots-slot : (k : Past) (i : ℕ) (part : SpanValue) (version count : ℕ) (site : Site) → AreSlotsAt IsAt place slots span k → i < 64 → part ≡ slot_of span i → version ≡ (slots i).version → count ≡ (slots i).agg.count → site ≡ place i → IsSlotOf version count site IsAt part k
-  slots-slot k i part version count site at low is v c same =
-      let here = place-at IsAt place slots span part k i at low is in
-      record {
-        above = suc at.below;
-        begin = span.start;
-        inner = ap (λ g. is_inner g span.start (bag k)) (sym at.above) ∙ slots-inner k at;
-        carried = v
-            ∙ ap (λ (y : Slot). y.version) (at.all i low)
-            ∙ ap (λ (u : SpanValue). last_change (is_inner (suc at.below) span.start) u.height u.start k) (sym here.is);
-        counted = c ∙ ap (λ (a : AggValue). a.count) here.counted ∙ agg-count (points_of part.height part.start (bag k));
-        holds = subst (λ s. IsAt s part.height part.start (is_inner (suc at.below) span.start) k) (sym same) here.holds;
-      }
+  -- The older nodes of one slot more are counted.
+  module _ {E : Type 0} (first mid last : ℕ) (r : Result (Unit {0}) (WalkFault E)) (done : CountsOlder 0 part (IsAt now) (IsPlace site) mid last r) where
+    pub older-next : (h : Past) (at : AreSlotsAt (IsAt told) place slots span h) → mid ≤ first + sum_of i (λ j. nodes_in at.below (slot_start at.below span.start j) (bag h)) → last ≤ first + sum_of (i + 1) (λ j. nodes_in at.below (slot_start at.below span.start j) (bag h)) + refusals r
+    older-next h at before =
+        nodes-slot at.below span.start i part (bag h) first mid last (refusals r) (slots-part (IsAt told) place slots span h i part at is) before (omega (arith, done.bounded h (slots-place h at)))
+
+    -- The walk ends in that slot.
+    pub older-end : first ≤ mid → ((h : Past) (at : AreSlotsAt (IsAt told) place slots span h) → mid ≤ first + sum_of i (λ j. nodes_in at.below (slot_start at.below span.start j) (bag h))) → CountsOlder 1 span (IsAt told) (AreSlotsOf place slots) first last r
+    older-end up before =
+        older-slots (IsAt told) place slots span (i + 1) first last r (omega arith) (λ h at. older-next h at (before h at)) (omega (arith, done.never_falls))
+
+  module _ (version count : ℕ) (v : version ≡ (slots i).version) (c : count ≡ (slots i).agg.count) where
+    -- A slot has its version, count and place. Transparent, since counts are said of the span above that it names.
+    unfoldable pub slots-slot : (k : Past) → AreSlotsAt (IsAt told) place slots span k → IsSlotOf version count site (IsAt now) part k
+    slots-slot k at =
+        let here = place-at (IsAt now) place slots span part k i (subst (λ u. AreSlotsAt (IsAt u) place slots span k) (sym same) at) low is in
+        record {
+          above = suc at.below;
+          begin = span.start;
+          inner = ap (λ g. is_inner g span.start (bag k)) (sym at.above) ∙ slots-inner (IsAt told) place slots span k at;
+          carried = v
+              ∙ ap (λ (y : Slot). y.version) (at.all i low)
+              ∙ ap (λ (u : SpanValue). last_change (is_inner (suc at.below) span.start) u.height u.start k) (sym here.is);
+          counted = c ∙ ap (λ (a : AggValue). a.count) here.counted ∙ agg-count (points_of part.height part.start (bag k));
+          holds = subst (λ s. IsAt now s part.height part.start (is_inner (suc at.below) span.start) k) (sym there) here.holds;
+        }
+
+    -- The newer nodes of one slot more are counted.
+    module _ (by : Comparison) (first mid last : ℕ) (done : CountsSlot (record { span = part; by = by }) (IsAt now) version count site mid last) where
+      pub newer-next : (k : Past) (at : AreSlotsAt (IsAt told) place slots span k) → mid ≤ first + sum_of i (λ j. newer_nodes at.below (slot_start at.below span.start j) (is_inner (suc at.below) span.start) k by.since) → last ≤ first + sum_of (i + 1) (λ j. newer_nodes at.below (slot_start at.below span.start j) (is_inner (suc at.below) span.start) k by.since)
+      unfolding slots-slot
+      newer-next k at before =
+          bounded-slot at.below span.start i part k by.since first mid last (slots-part (IsAt told) place slots span k i part at is) before (done.bounded k (slots-slot k at))
+
+      -- The walk ends in that slot.
+      pub newer-end : first ≤ mid → ((k : Past) (at : AreSlotsAt (IsAt told) place slots span k) → mid ≤ first + sum_of i (λ j. newer_nodes at.below (slot_start at.below span.start j) (is_inner (suc at.below) span.start) k by.since)) → CountsNewer (record { span = span; by = by }) (IsAt told) (AreSlotsOf place slots) first last
+      newer-end up before =
+          record {
+            bounded = λ k at.
+                bounded-exit span.height at.below span.start i k by.since first last at.above (slots-inner (IsAt told) place slots span k at) low (newer-next k at (before k at));
+            never_falls = omega (arith, done.never_falls);
+          }
 
 -- ---- The points of a slot.
 

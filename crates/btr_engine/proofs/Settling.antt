@@ -27,19 +27,21 @@ stopped_after stopped (Written r) = stopped
 stopped_after stopped Failed = true
 
 module _ {D : Type 0} {disk : Ghosts D} where
-  -- The numbers of an engine with this superblock, this log and this many entries, which was opened as the old one, and whether it is
+  -- The invariant of an engine with this superblock, this log and this many entries, which was opened as the old one, and whether it is
   -- stopped.
-  pub record Goes (old : Engine D disk) (s : Super) (l : Log D disk) (stopped : Bool) (entries : ℕ) : Type 0 where
-    pub marked : stopped ≡ log.is_log_stopped l
-    pub counted : entries ≤ log.extents_of l
-    pub ends : 2 * log.extents_of l + 4 ≤ log.log_tail l
-    pub began : entries_at_open old ≤ entries
-    pub called : disk.calls (synced_of old) ≤ disk.calls (log.log_device l)
-    pub failed : disk.faults (synced_of old) ≤ log.faults_at l
-    pub followable : IsFollowable s
-    pub behind : s.tail ≤ log.log_tail l
-    pub large : 8 ≤ log.log_blocks l
-    pub same_blocks : s.blocks ≡ log.log_blocks l
+  abbrev pub Goes : Engine D disk → Super → Log D disk → Bool → ℕ → Type 0
+  Goes old s l stopped entries = record {
+    marked : stopped ≡ log.is_log_stopped l;
+    counted : entries ≤ log.extents_of l;
+    ends : 2 * log.extents_of l + 4 ≤ log.log_tail l;
+    began : entries_at_open old ≤ entries;
+    called : disk.calls (synced_of old) ≤ disk.calls (log.log_device l);
+    failed : disk.faults (synced_of old) ≤ log.faults_at l;
+    followable : IsFollowable s;
+    behind : s.tail ≤ log.log_tail l;
+    large : 8 ≤ log.log_blocks l;
+    same_blocks : s.blocks ≡ log.log_blocks l;
+  }
 
   pub goes : (old : Engine D disk) (l : Log D disk) (how : Return) → Settles old l how → Goes old (settled_super (super_of old) (written_in how)) l (stopped_after old.stopped how) (settled_board (board_of old) (written_in how)).entries
   goes old l (Written r) is =

@@ -1,5 +1,5 @@
 -- What contracts see of a follower, and what a frame does to it.
-use Rattle.std.specs.Prelude.{◌≡◌, ◌⊎◌, ℕ, ◌<◌, Bool, false, List, [], length, Result, Ok, Err, IsTrue, IsFalse}
+use Rattle.std.specs.Prelude.{◌≡◌, ◌⊎◌, ℕ, ◌<◌, Bool, false, List, [], length, Result, Ok, Err, IfOk, IfErr, OnOk, IsTrue, IsFalse}
 use Rattle.btr_disk.specs.declared.disk.Disk.{Ghosts}
 use Rattle.btr_disk.specs.Bytes.{Image}
 use Rattle.btr_hist.specs.declared.entry.Entry.{Entry}
@@ -97,6 +97,19 @@ module _ {D : Type 0} {disk : Ghosts D} where
   abbrev pub HearCause : List Entry → Follower D disk → Follower D disk → Frame → StepFault → Type 0
   HearCause h old new f Want = IsNextFrame h f
   HearCause h old new f fault = (e : Entry) × Brings h f e × TakeCause h (engine_of old) (engine_of new) e fault
+
+  -- Whatever history the follower was of, an answer to the frame is the one of that history.
+  abbrev pub AnswersFrame : Follower D disk → Follower D disk → Frame → Result Heard StepFault → Type 0
+  AnswersFrame old new f result = (h : List Entry) → IsFollowerOf h old → IfOk result (HasHeard h old new f)
+
+  -- Whatever history the follower was of, a frame without an answer has its cause.
+  abbrev pub FailsWithCause : Follower D disk → Follower D disk → Frame → Result Heard StepFault → Type 0
+  FailsWithCause old new f result = (h : List Entry) → IsFollowerOf h old → IfErr result (HearCause h old new f)
+
+  -- If the device tells its contents and held a history at rest, after an answer it holds all that the follower has acknowledged.
+  abbrev pub AnswersAcknowledged : Follower D disk → Follower D disk → Result Heard StepFault → Type 0
+  AnswersAcknowledged old new result =
+      disk.is_observable → (h : List Entry) → IsAtRest h (engine_of old) → OnOk result (HasAcknowledged new)
 
   -- What a frame with this result did to the engine, also if the follower follows no history: it is as before, or made a step with the
   -- entry that the bytes spell, which succeeded or in which the device failed.

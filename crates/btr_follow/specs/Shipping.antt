@@ -19,6 +19,7 @@ use Rattle.btr_super.specs.declared.superblock.Super.{Super}
 use Rattle.btr_super.specs.Choose.{HasNoSuper, IsChosen, IsDamagedSuper}
 use Rattle.btr_hist.specs.declared.entry.Entry.{Entry}
 use Rattle.btr_entry.specs.Grammar.{spelling}
+use Rattle.btr_engine.specs.Holds.{HoldsHistory}
 use Rattle.btr_follow.specs.declared.frame.Frame.{Frame}
 use Rattle.btr_follow.specs.declared.shipping.ShipFault.{ShipFault}
 use Rattle.btr_follow.specs.declared.shipping.ShipFault.TheVariants.{NotAStore, Damaged, Fault, SinkFault, Want}
@@ -228,6 +229,11 @@ module _ {D : Type 0} (disk : Ghosts D) where
     -- Nothing was written to the sink, or a log was shipped in part.
     abbrev pub StopsStore : ℕ → D → K → K → Type 0
     StopsStore from d old new = (sink.is_observable → sink.written new ≡ sink.written old) ⊎ StopsInStore from d old new
+
+    -- If the device tells its contents and holds a history, the sink took the frames of that, or a prefix of them.
+    abbrev pub ShipsHeld : ℕ → D → K → K → Result ℕ ShipFault → Type 0
+    ShipsHeld from d old new result =
+        disk.is_observable → (h : List Entry) → HoldsHistory (disk.size d) (disk.contents d) h → ShipsHistory sink from h old new result
 
     -- A crash leaves what a read returns, or nothing was written to the sink and there was a fault.
     abbrev pub ShipsDurable : D → K → K → Result ℕ ShipFault → Type 0

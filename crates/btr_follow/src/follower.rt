@@ -24,12 +24,12 @@ pub struct Follower<D: Disk> {
 }
 
 impl<D: Disk> Follower<D> {
-    ghost use Rattle.std.specs.Prelude.{◌≡◌, ℕ, true, List, length, IfOk, IfErr, OnOk};
+    ghost use Rattle.std.specs.Prelude.{◌≡◌, ℕ, true, List, length, IfOk};
     ghost use Rattle.btr_hist.specs.declared.entry.Entry.{Entry as EntrySpec};
-    ghost use Rattle.btr_engine.specs.Engine.{is_home, IsAtRest};
+    ghost use Rattle.btr_engine.specs.Engine.{is_home};
     ghost use Rattle.btr_follow.specs.declared.event.FollowEvent.{FollowEvent as FollowEventSpec};
-    ghost use Rattle.btr_follow.specs.Follower.{engine_of, IsFollowerOf, acked_of, HasAcknowledged};
-    ghost use Rattle.btr_follow.specs.Follower.{HasHeard, HearCause, IsHearing, LeavesTorn};
+    ghost use Rattle.btr_follow.specs.Follower.{engine_of, IsFollowerOf, acked_of};
+    ghost use Rattle.btr_follow.specs.Follower.{AnswersFrame, FailsWithCause, IsHearing, LeavesTorn, AnswersAcknowledged};
     ghost use Rattle.btr_follow.specs.Delivery.{IsDeliveredTo, AnswersDelivery, LeavesDelivery};
 
     /// Makes a follower of an engine whose log is at home. It has acknowledged the entries that it finds. It takes constant time and no
@@ -55,18 +55,15 @@ impl<D: Disk> Follower<D> {
     /// [`is_computed`](btr_plan::is_computed) costs. An entry that is stale or early costs constant time.
     pub fn hear(&mut self, alloc: Global, frame: &Frame) -> Result<Heard, StepFault>
         // Each answer is returned exactly if it has its cause, and the follower then follows the history that it leads to.
-        ensures heard { (h : List EntrySpec) → IsFollowerOf h self.old
-            → IfOk result (HasHeard h self.old self.new frame.now) }
+        ensures heard { AnswersFrame self.old self.new frame.now result }
         // Why there is no answer.
-        ensures cause { (h : List EntrySpec) → IsFollowerOf h self.old
-            → IfErr result (HearCause h self.old self.new frame.now) }
+        ensures cause { FailsWithCause self.old self.new frame.now result }
         // The engine is as before, or made a step with the entry of the frame.
         ensures step { IsHearing self.old self.new frame.now result }
         // A crash at any moment leaves the history, or the history with the entry of the frame, which is allowed.
         ensures torn { D.is_observable → (h : List EntrySpec) → LeavesTorn h self.old self.new frame.now }
         // After an answer the device holds the history, and each acknowledged entry is durable.
-        ensures acknowledged { D.is_observable → (h : List EntrySpec) → IsAtRest h (engine_of self.old)
-            → OnOk result (HasAcknowledged self.new) }
+        ensures acknowledged { AnswersAcknowledged self.old self.new result }
         // If the frame is one of the follower's leader, it is delivered: it is never garbled or foreign.
         ensures delivers { (es : List FollowEventSpec) (i : ℕ) → IsDeliveredTo es i frame.now self.old
             → IfOk result (AnswersDelivery es i self.new) }
@@ -80,14 +77,11 @@ impl<D: Disk> Follower<D> {
 
     /// Takes the entry of a frame, or says why not, as [`hear`](Follower::hear) does.
     fn answer(&mut self, alloc: Global, frame: &Frame) -> Result<Heard, StepFault>
-        ensures heard { (h : List EntrySpec) → IsFollowerOf h self.old
-            → IfOk result (HasHeard h self.old self.new frame.now) }
-        ensures cause { (h : List EntrySpec) → IsFollowerOf h self.old
-            → IfErr result (HearCause h self.old self.new frame.now) }
+        ensures heard { AnswersFrame self.old self.new frame.now result }
+        ensures cause { FailsWithCause self.old self.new frame.now result }
         ensures step { IsHearing self.old self.new frame.now result }
         ensures torn { D.is_observable → (h : List EntrySpec) → LeavesTorn h self.old self.new frame.now }
-        ensures acknowledged { D.is_observable → (h : List EntrySpec) → IsAtRest h (engine_of self.old)
-            → OnOk result (HasAcknowledged self.new) }
+        ensures acknowledged { AnswersAcknowledged self.old self.new result }
     {
         let entries = self.engine.entries();
         if frame.number <= entries {

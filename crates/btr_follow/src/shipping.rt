@@ -1,13 +1,11 @@
 //! Shipping: the frames of the entries of a store at rest.
-ghost use Rattle.std.specs.Prelude.{◌≡◌, ◌<◌, ℕ, List, IfErr, IfOk, OnOk, OnErr};
+ghost use Rattle.std.specs.Prelude.{◌≡◌, ◌<◌, ℕ, IfErr, IfOk, OnOk, OnErr};
 ghost use Rattle.btr_disk.specs.Images.{Only};
 ghost use Rattle.btr_log.specs.Reads.{OnlyReads};
 ghost use Rattle.btr_super.specs.Super.{IsSuper};
 ghost use Rattle.btr_super.specs.Choose.{IsChosen};
-ghost use Rattle.btr_hist.specs.declared.entry.Entry.{Entry as EntrySpec};
-ghost use Rattle.btr_engine.specs.Holds.{HoldsHistory};
 ghost use Rattle.btr_open.specs.Opening.{KeepsDisk};
-ghost use Rattle.btr_follow.specs.Shipping.{ShipsStore, StopsStore, ShipsDurable, ShipsHistory, ShipCause};
+ghost use Rattle.btr_follow.specs.Shipping.{ShipsStore, StopsStore, ShipsDurable, ShipsHeld, ShipCause};
 ghost use Rattle.btr_follow.specs.Shipping.{ChoiceCause, GateCause, IsShipStart, CountsShipped};
 
 use crate::sending::{Part, send_log};
@@ -59,8 +57,7 @@ pub fn ship<D: Disk, K: Sink>(
     ensures log { D.is_observable → IfOk result (ShipsStore ⟦<D as Disk>⟧ ⟦<K as Sink>⟧ from disk.old sink.old sink.new) }
     ensures part { D.is_observable → OnErr result (StopsStore ⟦<D as Disk>⟧ ⟦<K as Sink>⟧ from disk.old sink.old sink.new) }
     // If the device holds a history, they are those of its entries, and no block is damaged.
-    ensures history { D.is_observable → (h : List EntrySpec) → HoldsHistory (D.size disk.old) (D.contents disk.old) h
-        → ShipsHistory ⟦<K as Sink>⟧ from h sink.old sink.new result }
+    ensures history { ShipsHeld ⟦<D as Disk>⟧ ⟦<K as Sink>⟧ from disk.old sink.old sink.new result }
     ensures cause { IfErr result (ShipCause ⟦<D as Disk>⟧ ⟦<K as Sink>⟧ from disk.old disk.new sink.old sink.new) }
 {
     let mut frames = 0;
@@ -83,8 +80,7 @@ pub fn ship_counted<D: Disk, K: Sink>(
     ensures log { D.is_observable → IfOk result (ShipsStore ⟦<D as Disk>⟧ ⟦<K as Sink>⟧ from disk.old sink.old sink.new) }
     ensures part { D.is_observable → OnErr result (StopsStore ⟦<D as Disk>⟧ ⟦<K as Sink>⟧ from disk.old sink.old sink.new) }
     // If the device holds a history, they are those of its entries, and no block is damaged.
-    ensures history { D.is_observable → (h : List EntrySpec) → HoldsHistory (D.size disk.old) (D.contents disk.old) h
-        → ShipsHistory ⟦<K as Sink>⟧ from h sink.old sink.new result }
+    ensures history { ShipsHeld ⟦<D as Disk>⟧ ⟦<K as Sink>⟧ from disk.old sink.old sink.new result }
     ensures cause { IfErr result (ShipCause ⟦<D as Disk>⟧ ⟦<K as Sink>⟧ from disk.old disk.new sink.old sink.new) }
     // How many frames were written.
     ensures counts { CountsShipped ⟦<D as Disk>⟧ ⟦<K as Sink>⟧ from disk.old sink.old sink.new frames.new result }

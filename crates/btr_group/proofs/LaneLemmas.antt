@@ -1,7 +1,9 @@
--- What a lane keeps of its groups and seats is known in one way at most, so a proof may use it.
-use Rattle.std.specs.Prelude.{ℕ, suc, List, [], ◌∷◌}
+-- What a lane keeps of its groups and seats is known in one way at most, so a proof may use it. What a lane finds at the place of a stream,
+-- and what it leaves there.
+use Rattle.std.specs.Prelude.{◌≡◌, ◌<◌, ℕ, suc, true, nat_lt, List, [], ◌∷◌, length, slice_set}
+use Rattle.std.specs.Vec.{vec_len}
 use Rattle.std.specs.Coded.{coded_ℕ, coded_option, code_by}
-use Rattle.std.proofs.Common.{refl}
+use Rattle.std.proofs.Common.{refl, arith, get_or}
 use Rattle.std.proofs.Math.Logic.{∥∥₁_elim}
 use base.Stored.{Coded, Coded-set}
 use denote.RattleType.{RattleType}
@@ -17,8 +19,10 @@ use Rattle.btr_group.specs.contracts.group.Group as group_type
 use Rattle.btr_group.specs.declared.group.Group.{Group}
 use Rattle.btr_group.specs.declared.group.GroupSetting.{GroupSetting}
 use Rattle.btr_group.specs.declared.group.Seat.{Seat}
-use Rattle.btr_group.specs.Seats.{IsGroupSeat, first_session, setting_of}
-use Rattle.btr_group.specs.Sets.{AreGroupsOf, AreSeatsOf}
+use Rattle.btr_group.specs.declared.lane_groups.LaneGroups.{LaneGroups}
+use Rattle.btr_group.specs.Seats.{IsGroupSeat, IsSameGroupSeat, first_session, setting_of}
+use Rattle.btr_group.specs.Sets.{AreGroupsOf, AreSeatsOf, AreSameSeats}
+use Rattle.btr_group.proofs.SetLemmas.{inside_by, seats_length, seat_read, session_read, seats_left, same_left}
 
 module _ {D : Type 0} {disk : Ghosts D} where
   -- The code of an engine, from that of a hall.
@@ -57,10 +61,41 @@ module _ {D : Type 0} {disk : Ghosts D} where
   seats_prop coded (g ∷ gs) [] = λ x y. absurd x
   seats_prop coded (g ∷ gs) (s ∷ seats) = λ x y i. (seat_prop coded g s x.0 y.0 i, seats_prop coded gs seats x.1 y.1 i)
 
-module _ (T : RattleType) (ghosts : Ghosts T.Denot) where
-  pub groups_known : (hall : Hall T.Denot ghosts) (threshold first : ℕ) (groups : List (Group T.Denot ghosts)) → ∥ AreGroupsOf hall threshold first groups ∥₁ → AreGroupsOf hall threshold first groups
-  groups_known hall threshold first groups known =
-      ∥∥₁_elim known (groups_prop (hall_type.the_row T ghosts).coded hall threshold first groups) (λ x. x)
+module _ (T : RattleType) (ghosts : Ghosts T.Denot) (lane : LaneGroups T.Denot ghosts) where
+  pub groups_known : AreGroupsOf lane.hall.now lane.threshold 0 lane.groups.now
+  groups_known =
+      ∥∥₁_elim lane.groups_are (groups_prop (hall_type.the_row T ghosts).coded lane.hall.now lane.threshold 0 lane.groups.now) (λ x. x)
 
-  pub seats_known : (groups : List (Group T.Denot ghosts)) (seats : List (Seat T.Denot ghosts)) → ∥ AreSeatsOf groups seats ∥₁ → AreSeatsOf groups seats
-  seats_known groups seats known = ∥∥₁_elim known (seats_prop (group_type.the_row T ghosts).coded groups seats) (λ x. x)
+  pub seats_known : AreSeatsOf lane.groups.now lane.seats.items
+  seats_known = ∥∥₁_elim lane.seats_are (seats_prop (group_type.the_row T ghosts).coded lane.groups.now lane.seats.items) (λ x. x)
+
+  -- ---- the place of a stream
+
+  module _ (stream : ℕ) (has : nat_lt stream (length lane.groups.now) ≡ true) where
+    pub has_group : stream < length lane.groups.now
+    has_group = inside_by stream (length lane.groups.now) has
+
+    pub has_seat : stream < vec_len lane.seats
+    has_seat = omega (arith, has_group, seats_length lane.groups.now lane.seats.items seats_known, lane.seats.ok.0)
+
+    -- Another seat at this place, with the same share, leaves the lane with the same seats.
+    pub same_after : (old new : Seat T.Denot ghosts) → old ≡ get_or lane.seats.items stream old → IsSameGroupSeat old new → AreSameSeats lane.seats.items (slice_set lane.seats.items stream new)
+    same_after old new is same =
+        same_left lane.seats.items stream old new (omega (arith, has_group, seats_length lane.groups.now lane.seats.items seats_known)) is same
+
+    module _ (group : Group T.Denot ghosts) (is : group ≡ get_or lane.groups.now stream group) where
+      pub group_seat : (seat : Seat T.Denot ghosts) → seat ≡ get_or lane.seats.items stream seat → IsGroupSeat group seat
+      group_seat seat seat_is = seat_read lane.groups.now lane.seats.items stream group seat seats_known has_group is seat_is
+
+      pub group_session : IsSessionOf lane.hall.now (first_session group)
+      group_session = session_read lane.hall.now lane.threshold lane.groups.now stream group groups_known has_group is
+
+      -- The invariant of the lane with another seat of the group.
+      pub lane_after : (seat : Seat T.Denot ghosts) → IsGroupSeat group seat → record {
+        groups_are : ∥ AreGroupsOf lane.hall.now lane.threshold 0 lane.groups.now ∥₁;
+        seats_are : ∥ AreSeatsOf lane.groups.now (slice_set lane.seats.items stream seat) ∥₁;
+      }
+      lane_after seat of = record {
+        groups_are = lane.groups_are;
+        seats_are = ∣ seats_left lane.groups.now lane.seats.items stream group seat seats_known has_group is of ∣₁;
+      }

@@ -1,4 +1,5 @@
 pub mod EachLemmas
 pub mod LineLemmas
+mod MadeMoments
 mod TakeLemmas
 mod AskLemmas

@@ -4,6 +4,7 @@ use Rattle.std.proofs.Common.{refl, sym, ap, ◌∙◌, subst, inl, inr}
 use Rattle.btr_disk.specs.declared.disk.Disk.{Ghosts}
 use Rattle.btr_base.specs.declared.point.Point.{Point}
 use Rattle.btr_hist.specs.declared.entry.Entry.{Entry}
+use Rattle.btr_hist.specs.declared.kernel.Spec.{Spec}
 use Rattle.btr_hist.specs.History.{stream_of, is_output}
 use Rattle.btr_text.specs.declared.script.Line.{Line}
 use Rattle.btr_text.specs.declared.script.Line.TheVariants as lines
@@ -16,11 +17,14 @@ use Rattle.btr_gate.proofs.PrefixLemmas.{starts_refl, starts_trans}
 use Rattle.btr_hall.specs.declared.session.Hall.{Hall}
 use Rattle.btr_hall.specs.declared.session.Session.{Session}
 use Rattle.btr_hall.specs.declared.groups.Groups as groups
-use Rattle.btr_hall.specs.Session.{Looks}
+use Rattle.btr_hall.specs.declared.look.FoundStream.{FoundStream}
+use Rattle.btr_hall.specs.Found.{IsFound}
+use Rattle.btr_hall.specs.Trace.{history_of}
+use Rattle.btr_hall.specs.Session.{IsSessionOf, Looks, seen_of}
 use Rattle.btr_jobs.specs.States.{StoreState, LogState, GoesOn, log_seen}
-use Rattle.btr_jobs.specs.Jobs.{AllKeep}
+use Rattle.btr_jobs.specs.Jobs.{AllKeep, IsAt}
 use Rattle.btr_jobs.proofs.DoesLemmas.{goes_none, does_implied}
-use Rattle.btr_jobs.proofs.TurnLemmas.{look_turn}
+use Rattle.btr_jobs.proofs.TurnLemmas.{look_at, look_turn}
 use Rattle.btr_live.specs.Feeds.{none_waiting, fed}
 use Rattle.btr_live.specs.Replies.{waiting_after, Means}
 use Rattle.btr_live.specs.Lanes.{LaneState, tells_failure}
@@ -30,44 +34,89 @@ use Rattle.btr_live.specs.SharedLanes.{shared_feeds, SharedState, begun_shared, 
 use Rattle.btr_live.specs.SharedLaws.{shared_lines_last}
 use Rattle.btr_live.specs.Serving.{LineAsks, Serves, Knows, ServesIn, ServesShared, SharesIn, ShareDone, UnsharedDone, was_reported}
 use Rattle.btr_live.specs.Running.{RunsSharedTo}
+use Rattle.btr_live.proofs.FeedLines.{output_is, plain_is}
 use Rattle.btr_live.proofs.LaneLemmas.{either, each_push}
 use Rattle.btr_live.proofs.ReportedLemmas.{has_failed, answers_tell, answers_reported}
 
 -- ---- lines of feeds
 
 module _ (has : ℕ → Bool) (h : List Entry) (id : ℕ) (asked : ℕ → Sharing) where
-  pub no_stream : stream_of h id ≡ None → on_buffer has h (stream_of h id) asked ≡ Declines reasons.Stream
+  no_stream : stream_of h id ≡ None → on_buffer has h (stream_of h id) asked ≡ Declines reasons.Stream
   no_stream is = ap (λ (o : Option ℕ). on_buffer has h o asked) is
 
-  pub of_output : (stream : ℕ) → stream_of h id ≡ Some stream → is_output h stream ≡ true → on_buffer has h (stream_of h id) asked ≡ Declines reasons.Output
+  of_output : (stream : ℕ) → stream_of h id ≡ Some stream → is_output h stream ≡ true → on_buffer has h (stream_of h id) asked ≡ Declines reasons.Output
   of_output stream is output =
       ap (λ (o : Option ℕ). on_buffer has h o asked) is ∙ ap (λ t. if t then Declines reasons.Output else if_shared (has stream) (asked stream)) output
 
-  pub of_buffer : (stream : ℕ) (there : Bool) → stream_of h id ≡ Some stream → is_output h stream ≡ false → has stream ≡ there → on_buffer has h (stream_of h id) asked ≡ if_shared there (asked stream)
+  of_buffer : (stream : ℕ) (there : Bool) → stream_of h id ≡ Some stream → is_output h stream ≡ false → has stream ≡ there → on_buffer has h (stream_of h id) asked ≡ if_shared there (asked stream)
   of_buffer stream there is output known =
       ap (λ (o : Option ℕ). on_buffer has h o asked) is
       ∙ ap (λ t. if t then Declines reasons.Output else if_shared (has stream) (asked stream)) output
       ∙ ap (λ t. if_shared t (asked stream)) known
 
-module _ {D G : Type 0} {disk : Ghosts D} (ghosts : groups.Ghosts G) (hall : Hall D disk) where
-  -- What a line asked of shared buffers after a look was done, and had this reply.
-  pub look_shares : (old new : Session D disk) (was now : G) (line : Option Line) (reply : LineReply) (asked : Sharing) → Looks hall old new → Knows hall new (λ a. sharing (ghosts.has_group was) a line ≡ Some asked) → Shares (ghosts.threshold was) (ghosts.view_at was) asked reply (ghosts.view_at now) → SharesIn ghosts hall old new was now line reply
-  look_shares old new was now line reply asked looks means shares =
+-- A line asks this of the buffer of the stream with this id, which is looked up.
+module _ {D G : Type 0} {disk : Ghosts D} (ghosts : groups.Ghosts G) (hall : Hall D disk) (old new : Session D disk) (was : G) (line : Option Line) (id : ℕ) (asked : ℕ → Sharing) (asks : (h : List Entry) → sharing (ghosts.has_group was) h line ≡ Some (on_buffer (ghosts.has_group was) h (stream_of h id) asked)) (looks : Looks hall old new) where
+  -- What it asked of shared buffers was done, and had this reply.
+  look_shares : (now : G) (reply : LineReply) (asked_now : Sharing) → Knows hall new (λ h. on_buffer (ghosts.has_group was) h (stream_of h id) asked ≡ asked_now) → Shares (ghosts.threshold was) (ghosts.view_at was) asked_now reply (ghosts.view_at now) → SharesIn ghosts hall old new was now line reply
+  look_shares now reply asked_now means shares =
       does_implied hall old new
-      (λ start log low own. (own ≡ []) × StartsWith log.history low × (sharing (ghosts.has_group was) log.history line ≡ Some asked))
+      (λ start log low own. (own ≡ []) × StartsWith log.history low × (sharing (ghosts.has_group was) log.history line ≡ Some asked_now))
       (λ start log low own. ShareDone ghosts log low was now line reply own)
       (λ start log low own is. (
         log.history,
         record {
           after = is.1;
           begins = starts_refl log.history;
-          asked = asked;
+          asked = asked_now;
           means = is.2;
           shares = shares;
           none = is.0;
         },
       ))
-      (look_turn hall old new looks (λ a. sharing (ghosts.has_group was) a line ≡ Some asked) means)
+      (look_turn hall old new looks (λ a. sharing (ghosts.has_group was) a line ≡ Some asked_now) (λ h of. asks (history_of h (seen_of new)) ∙ ap Some (means h of)))
+
+  -- There is such a stream, which users write, and it has a buffer or not.
+  known_buffer : (found : FoundStream) (there : Bool) → Knows hall new (λ h. IsFound h id (Some found)) → found.spec ≡ None → ghosts.has_group was found.stream ≡ there → Knows hall new (λ h. on_buffer (ghosts.has_group was) h (stream_of h id) asked ≡ if_shared there (asked found.stream))
+  known_buffer found there known plain is = λ h of.
+      let p = history_of h (seen_of new) in
+      of_buffer (ghosts.has_group was) p id asked found.stream there (known h of).0 (plain_is p found.stream ((known h of).1 ∙ plain)) is
+
+  pub on_buffer_shares : (now : G) (reply : LineReply) (found : FoundStream) → Knows hall new (λ h. IsFound h id (Some found)) → found.spec ≡ None → ghosts.has_group was found.stream ≡ true → Shares (ghosts.threshold was) (ghosts.view_at was) (asked found.stream) reply (ghosts.view_at now) → SharesIn ghosts hall old new was now line reply
+  on_buffer_shares now reply found known plain is =
+      look_shares now reply (asked found.stream) (known_buffer found true known plain is)
+
+  module _ (session : IsSessionOf hall new) (same : ghosts.later was was) where
+    -- The line was refused for this reason, and the buffers are as before.
+    abbrev Declined : Reason → Type 0
+    Declined reason = record {
+      at : IsAt hall new;
+      later : ghosts.later was was;
+      groups : ghosts.has_group was ≡ ghosts.has_group was;
+      threshold : ghosts.threshold was ≡ ghosts.threshold was;
+      shares : SharesIn ghosts hall old new was was line (No reason);
+    }
+
+    declined : (reason : Reason) → Knows hall new (λ h. on_buffer (ghosts.has_group was) h (stream_of h id) asked ≡ Declines reason) → Declined reason
+    declined reason means = record {
+      at = look_at hall old new looks session;
+      later = same;
+      groups = refl;
+      threshold = refl;
+      shares = look_shares was (No reason) (Declines reason) means (refl, refl);
+    }
+
+    pub no_stream_declined : Knows hall new (λ h. IsFound h id None) → Declined reasons.Stream
+    no_stream_declined none =
+        declined reasons.Stream (λ h of. no_stream (ghosts.has_group was) (history_of h (seen_of new)) id asked (none h of))
+
+    pub output_declined : (found : FoundStream) (spec : Spec) → Knows hall new (λ h. IsFound h id (Some found)) → found.spec ≡ Some spec → Declined reasons.Output
+    output_declined found spec known is =
+        declined reasons.Output (λ h of.
+        let p = history_of h (seen_of new) in
+        of_output (ghosts.has_group was) p id asked found.stream (known h of).0 (output_is p found.stream spec ((known h of).1 ∙ is)))
+
+    pub no_buffer_declined : (found : FoundStream) → Knows hall new (λ h. IsFound h id (Some found)) → found.spec ≡ None → ghosts.has_group was found.stream ≡ false → Declined reasons.Group
+    no_buffer_declined found known plain is = declined reasons.Group (known_buffer found false known plain is)
 
 module _ {D G : Type 0} {disk : Ghosts D} (ghosts : groups.Ghosts G) (hall : Hall D disk) (old new : Session D disk) (was now : G) (line : Option Line) (reply : LineReply) where
   -- A line of feeds was done by shared buffers.
@@ -108,37 +157,27 @@ here_shares ghosts hall s was line reason means = (
 
 -- A line that is none of feeds asks nothing of shared buffers, and changes no feed.
 module _ (line : Line) (not_feed : (id : ℕ) (added : List Point) → line ≡ lines.Feed id added → ⊥) (not_flush : (id : ℕ) → line ≡ lines.Flush id → ⊥) (not_discard : (id : ℕ) → line ≡ lines.Discard id → ⊥) where
-  pub asks_nothing : (has : ℕ → Bool) (h : List Entry) → sharing has h (Some line) ≡ None
-  asks_nothing has h = by line not_feed not_flush not_discard
+  not_of_feeds : (h : List Entry) → ((has : ℕ → Bool) → sharing has h (Some line) ≡ None) × (fed h none_waiting (Some line) ≡ None)
+  not_of_feeds h = by line not_feed not_flush not_discard
     where
-      by : (line : Line) → ((id : ℕ) (added : List Point) → line ≡ lines.Feed id added → ⊥) → ((id : ℕ) → line ≡ lines.Flush id → ⊥) → ((id : ℕ) → line ≡ lines.Discard id → ⊥) → sharing has h (Some line) ≡ None
+      by : (line : Line) → ((id : ℕ) (added : List Point) → line ≡ lines.Feed id added → ⊥) → ((id : ℕ) → line ≡ lines.Flush id → ⊥) → ((id : ℕ) → line ≡ lines.Discard id → ⊥) → ((has : ℕ → Bool) → sharing has h (Some line) ≡ None) × (fed h none_waiting (Some line) ≡ None)
       by (lines.Feed id added) feed flush discard = absurd (feed id added refl)
       by (lines.Flush id) feed flush discard = absurd (flush id refl)
       by (lines.Discard id) feed flush discard = absurd (discard id refl)
-      by (lines.Create id) feed flush discard = refl
-      by (lines.Insert id added) feed flush discard = refl
-      by (lines.Delete id from to) feed flush discard = refl
-      by (lines.Distiller id kernel lead grain first second) feed flush discard = refl
-      by (lines.Refresh id) feed flush discard = refl
-      by (lines.Retire id first) feed flush discard = refl
-      by (lines.Ask id query) feed flush discard = refl
-      by lines.Streams feed flush discard = refl
+      by (lines.Create id) feed flush discard = (λ has. refl, refl)
+      by (lines.Insert id added) feed flush discard = (λ has. refl, refl)
+      by (lines.Delete id from to) feed flush discard = (λ has. refl, refl)
+      by (lines.Distiller id kernel lead grain first second) feed flush discard = (λ has. refl, refl)
+      by (lines.Refresh id) feed flush discard = (λ has. refl, refl)
+      by (lines.Retire id first) feed flush discard = (λ has. refl, refl)
+      by (lines.Ask id query) feed flush discard = (λ has. refl, refl)
+      by lines.Streams feed flush discard = (λ has. refl, refl)
+
+  pub asks_nothing : (has : ℕ → Bool) (h : List Entry) → sharing has h (Some line) ≡ None
+  asks_nothing has h = (not_of_feeds h).0 has
 
   pub feeds_nothing : (h : List Entry) → fed h none_waiting (Some line) ≡ None
-  feeds_nothing h = by line not_feed not_flush not_discard
-    where
-      by : (line : Line) → ((id : ℕ) (added : List Point) → line ≡ lines.Feed id added → ⊥) → ((id : ℕ) → line ≡ lines.Flush id → ⊥) → ((id : ℕ) → line ≡ lines.Discard id → ⊥) → fed h none_waiting (Some line) ≡ None
-      by (lines.Feed id added) feed flush discard = absurd (feed id added refl)
-      by (lines.Flush id) feed flush discard = absurd (flush id refl)
-      by (lines.Discard id) feed flush discard = absurd (discard id refl)
-      by (lines.Create id) feed flush discard = refl
-      by (lines.Insert id added) feed flush discard = refl
-      by (lines.Delete id from to) feed flush discard = refl
-      by (lines.Distiller id kernel lead grain first second) feed flush discard = refl
-      by (lines.Refresh id) feed flush discard = refl
-      by (lines.Retire id first) feed flush discard = refl
-      by (lines.Ask id query) feed flush discard = refl
-      by lines.Streams feed flush discard = refl
+  feeds_nothing h = (not_of_feeds h).1
 
 -- ---- one line more
 

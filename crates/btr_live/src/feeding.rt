@@ -1,7 +1,5 @@
 //! Where the points of feeds wait, and how the lines of a lane then run.
-ghost use Rattle.std.specs.Prelude.{◌≡◌, ◌≤◌, ℕ, List, Option, [], length};
-ghost use Rattle.std.specs.Vec.{vec_len};
-ghost use Rattle.std.specs.VecDeque.{deque_capacity};
+ghost use Rattle.std.specs.Prelude.{◌≡◌, ℕ, List, Option, [], length};
 ghost use Rattle.std.specs.Thread.{IsSync};
 ghost use Rattle.btr_hist.specs.declared.entry.Entry.{Entry as EntrySpec};
 ghost use Rattle.btr_text.specs.declared.script.Line.{Line as LineSpec};
@@ -10,11 +8,10 @@ ghost use Rattle.btr_gate.specs.Prefixes.{StartsWith};
 ghost use Rattle.btr_jobs.specs.States.{StoreState, LogState, GoesOn};
 ghost use Rattle.btr_jobs.specs.Jobs.{IsAt, Does};
 
+use crate::lane_lines::LaneLines;
 use btr_disk::Disk;
 use btr_hall::{Hall, Session};
 use btr_jobs::System;
-use btr_text::{Line, LineReply};
-use std::collections::VecDeque;
 use std::marker::{Send, Sync};
 use std::sync::Wait;
 use std::thread::Threads;
@@ -28,23 +25,21 @@ pub(crate) trait Feeding {
     // How what feeds the lane after its lines goes with what fed it before, at each hall, also at one that was not opened on a history.
     ghost keeps: { Self → Self → Type 0 };
 
-    /// Runs lines in order, in turns of this session, and adds their replies, for which there is room.
+    /// Runs the lines in order, in turns of this session, and adds their replies to none.
     fn run_lines<R: Threads + Wait + Sync, D: Disk + Send>(
         &mut self,
         system: System<'_, R>,
         hall: &Hall<D>,
         session: &mut Session<D>,
-        lines: Vec<Option<Line>>,
-        replies: &mut VecDeque<LineReply>,
+        work: &mut LaneLines,
     )
         requires crossing { IsSync R.row }
         requires at { IsAt hall.now session.old }
-        requires empty { replies.old.items ≡ [] }
-        requires room { vec_len lines ≤ deque_capacity replies.old }
+        requires empty { work.old.replies ≡ [] }
         ensures at { IsAt hall.now session.new }
         ensures keeps { keeps self.old self.new }
         ensures ran { Does hall.now session.old session.new
-            (λ start log low own. ran start log low self.old self.new lines.items replies.new.items own) };
+            (λ start log low own. ran start log low self.old self.new work.old.lines work.new.replies own) };
 
     // There is a reply to each line.
     ghost each: { (start : StoreState) (log : LogState) (low : List EntrySpec) (was now : Self) (lines : List (Option LineSpec))

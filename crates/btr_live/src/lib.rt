@@ -20,6 +20,7 @@ mod reasons;
 mod shared_line;
 // what runs beside each other
 mod lane;
+mod lane_lines;
 mod part;
 mod rounds;
 // a whole script

@@ -8,6 +8,7 @@ ghost use Rattle.btr_live.specs.Lanes.{RunsLane};
 
 use crate::feeding::Feeding;
 use crate::feeds::Feeds;
+use crate::lane_lines::LaneLines;
 use crate::line::answer_line;
 use btr_disk::Disk;
 use btr_hall::{Hall, Session};
@@ -15,6 +16,7 @@ use btr_jobs::System;
 use btr_text::{Line, LineReply};
 use std::collections::VecDeque;
 use std::marker::{Send, Sync};
+use std::mem;
 use std::sync::Wait;
 use std::thread::Threads;
 
@@ -39,10 +41,16 @@ impl Feeding for OwnFeeds {
         system: System<'_, R>,
         hall: &Hall<D>,
         session: &mut Session<D>,
-        lines: Vec<Option<Line>>,
-        replies: &mut VecDeque<LineReply>,
+        work: &mut LaneLines,
     ) {
-        run_own_lines(system, hall, session, self.batch, lines, replies);
+        run_own_lines(
+            system,
+            hall,
+            session,
+            self.batch,
+            mem::replace(&mut work.lines, Vec::new(system.alloc)),
+            &mut work.replies,
+        );
     }
 
     ghost each = { own_each };

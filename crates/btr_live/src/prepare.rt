@@ -4,7 +4,8 @@ ghost use Rattle.btr_text.specs.Input.{HaveLanes};
 ghost use Rattle.btr_live.specs.OneHistory.{of_lane, lanes_of, lane_lines};
 ghost use Rattle.btr_live.specs.Parts.{work_with, list_at, feeds_of, AreLanesOf, HasLists, HasRounds, IsReady};
 
-use crate::lane::{Lane, LaneLines};
+use crate::lane::Lane;
+use crate::lane_lines::LaneLines;
 use crate::part::ScriptPart;
 use crate::rounds::Rounds;
 use btr_text::{Line, LineReply, ScriptLine};

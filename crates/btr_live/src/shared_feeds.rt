@@ -7,6 +7,7 @@ ghost use Rattle.btr_live.specs.Lanes.{lines_ran};
 ghost use Rattle.btr_live.specs.SharedLanes.{RanInShared, shared_feeds};
 
 use crate::feeding::Feeding;
+use crate::lane_lines::LaneLines;
 use crate::shared_line::answer_shared_line;
 use btr_disk::Disk;
 use btr_hall::{Groups, Hall, Session};
@@ -14,6 +15,7 @@ use btr_jobs::System;
 use btr_text::{Line, LineReply};
 use std::collections::VecDeque;
 use std::marker::{Send, Sync};
+use std::mem;
 use std::sync::Wait;
 use std::thread::Threads;
 
@@ -36,10 +38,16 @@ impl<G: Groups> Feeding for SharedFeeds<G> {
         system: System<'_, R>,
         hall: &Hall<D>,
         session: &mut Session<D>,
-        lines: Vec<Option<Line>>,
-        replies: &mut VecDeque<LineReply>,
+        work: &mut LaneLines,
     ) {
-        run_shared_lines(system, hall, session, &mut self.groups, lines, replies);
+        run_shared_lines(
+            system,
+            hall,
+            session,
+            &mut self.groups,
+            mem::replace(&mut work.lines, Vec::new(system.alloc)),
+            &mut work.replies,
+        );
     }
 
     ghost each = { shared_each ⟦<G as Groups>⟧ };

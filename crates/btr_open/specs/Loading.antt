@@ -131,12 +131,21 @@ pub record MakesBelow (image : Image) (limit block : ℕ) (page : NodePage) (old
   pub part : StaysPart image limit block old new
   pub found : MatchOption broken done (BreaksBelow image block page)
 
+-- It is a slot of its page.
+abbrev pub IsSlotOf : SlotAt → Type 0
+IsSlotOf at = slice_get (slots_of_page at.page.now) at.i ≡ Some at.slot.now
+
 module _ {D : Type 0} (disk : Ghosts D) where
   -- The trees of the pages below the page in a block can be made: the reader can read them, and the page was read of its block.
   pub record CanMake (reader : BlockReader) (d : D) (block : ℕ) (page : NodePage) (nodes : TreesValue) : Type 0 where
     pub can : CanRead disk reader d
     pub page_read : IsReadPage block reader.limit page
     pub device : disk.is_observable → IsStoredWith (disk.contents d) reader.limit block page nodes
+
+  -- The trees of the child of a slot, and of the pages below it, can be made: those below the slot's page can.
+  pub record CanMakeChild (reader : BlockReader) (d : D) (at : SlotAt) (nodes : TreesValue) : Type 0 where
+    pub below : CanMake reader d at.block at.page.now nodes
+    pub slot : IsSlotOf at
 
   -- Trees of pages below the limit were made, and what was to be done is done, or a block is named that breaks the format.
   pub record Makes (d : D) (limit block : ℕ) (page : NodePage) (old new : TreesValue) (done : Type 0) (broken : Option ℕ) : Type 0 where
@@ -147,10 +156,6 @@ module _ {D : Type 0} (disk : Ghosts D) where
   abbrev pub MakesChild : D → ℕ → SlotAt → TreesValue → TreesValue → Option ℕ → Type 0
   MakesChild d limit at old new broken =
       Makes d limit at.block at.page.now old new (KnowsChild at.block new at.slot.now) broken
-
--- It is a slot of its page.
-abbrev pub IsSlotOf : SlotAt → Type 0
-IsSlotOf at = slice_get (slots_of_page at.page.now) at.i ≡ Some at.slot.now
 
 -- The slot has a point, and its child is in a lower block, of which no tree was made.
 pub record HasUnknownChild (at : SlotAt) (nodes : TreesValue) : Type 0 where

@@ -11,7 +11,7 @@ ghost use Rattle.btr_open.specs.Below.{IsStoredPage, HasNoPage};
 ghost use Rattle.btr_open.specs.Reading.{BlockCause};
 ghost use Rattle.btr_open.specs.Loading.{IsReaderOf, IsDeviceBlock, CanRead, HasReadBelow, IsReadPage, AreOfDevice};
 ghost use Rattle.btr_open.specs.Loading.{GrowsBelow, FetchesPage, HasNoneAbove, HasNoneFrom};
-ghost use Rattle.btr_open.specs.Loading.{IsBlock, IsSlotChild, IsNeeded, FetchesAll, CanMake, Makes, MakesChild, IsSlotOf, HasUnknownChild};
+ghost use Rattle.btr_open.specs.Loading.{IsBlock, IsSlotChild, IsNeeded, FetchesAll, CanMake, CanMakeChild, Makes, MakesChild, HasUnknownChild};
 
 use crate::loading::OpenWalk;
 use crate::opening::OpenCause;
@@ -238,8 +238,7 @@ impl BlockReader {
         steps: &mut Steps<OpenWalk>,
         at: SlotAt,
     ) -> Result<Option<u64>, OpenCause>
-        requires can { CanMake ⟦<D as Disk>⟧ self.old disk.old at.block at.page.now nodes.old }
-        requires slot { IsSlotOf at }
+        requires can { CanMakeChild ⟦<D as Disk>⟧ self.old disk.old at nodes.old }
         ensures reads { HasReadBelow ⟦<D as Disk>⟧ self.old self.new disk.old disk.new }
         ensures only { OnOk result (HasNoneFrom at.entry.block nodes.old nodes.new) }
         ensures makes { IfOk result (MakesChild ⟦<D as Disk>⟧ disk.old self.old.limit at.entry nodes.old nodes.new) }
@@ -267,8 +266,7 @@ impl BlockReader {
         steps: &mut Steps<OpenWalk>,
         at: SlotAt,
     ) -> Result<Option<u64>, OpenCause>
-        requires can { CanMake ⟦<D as Disk>⟧ self.old disk.old at.block at.page.now nodes.old }
-        requires slot { IsSlotOf at }
+        requires can { CanMakeChild ⟦<D as Disk>⟧ self.old disk.old at nodes.old }
         requires unknown { HasUnknownChild at nodes.old }
         ensures reads { HasReadBelow ⟦<D as Disk>⟧ self.old self.new disk.old disk.new }
         ensures only { OnOk result (HasNoneFrom at.entry.block nodes.old nodes.new) }

@@ -49,13 +49,7 @@ pub fn read_judged<D: Disk, J: Judge>(
 {
     let mut walk = LogWalk::new(alloc, disk, first_reading(found));
     let read = walk.read_log(judge);
-    let LogWalk {
-        log,
-        loader,
-        place,
-        ..
-    } = walk;
-    let disk = log.into_disk();
+    let (disk, loader, place) = walk.into_parts();
     match read {
         Ok(()) => {
             let Loader { nodes, .. } = loader;

@@ -80,6 +80,21 @@ impl<D: Disk> LogWalk<D> {
         Ok(())
     }
 
+    /// Ends the walk: returns the device, what was read of the log, and how far the log was read.
+    pub(crate) fn into_parts(self) -> (D, Loader, Place)
+        ensures device { result.0 ≡ disk_of self.log }
+        ensures loader { result.1 ≡ self.loader }
+        ensures place { result.2 ≡ self.place }
+    {
+        let LogWalk {
+            log,
+            loader,
+            place,
+            ..
+        } = self;
+        (log.into_disk(), loader, place)
+    }
+
     /// Reads the extent at the gate, and goes to the gate after it. It returns whether there is one: `false` exactly if the gate is closed.
     /// An extent of a greater format than may be in the log is damaged in the first block of its body, before its content is decoded.
     fn read_next<J: Judge>(&mut self, judge: &mut J) -> Result<bool, OpenCause>

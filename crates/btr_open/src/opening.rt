@@ -147,13 +147,7 @@ fn open_log<D: Disk>(
 {
     let mut walk = LogWalk::new(alloc, disk, found);
     let read = walk.read_log(&mut AnyEntry);
-    let LogWalk {
-        log,
-        loader,
-        place,
-        ..
-    } = walk;
-    let disk = log.into_disk();
+    let (disk, loader, place) = walk.into_parts();
     match read {
         Ok(()) => {
             let Loader { board, .. } = loader;

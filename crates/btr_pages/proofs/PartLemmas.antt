@@ -13,7 +13,8 @@ use Rattle.btr_base.specs.declared.limits.TheConstants.{LEAF_POINTS, MAX_POINTS}
 use Rattle.btr_tree.specs.Opened.{part_at, part_total, joined_parts, IsPart, AreParts}
 use Rattle.btr_tree.specs.Root.{TreeValue}
 use Rattle.btr_tree.proofs.OpenedLemmas.{parts-next, parts-first}
-use Rattle.btr_node.specs.Page.{IsSlot}
+use Rattle.btr_node.specs.Page.{IsSlot, IsInnerPage}
+use Rattle.btr_node.specs.declared.page.PageHeader.{PageHeader}
 use Rattle.btr_node.specs.declared.page.PageSlot.{PageSlot}
 use Rattle.btr_pages.specs.Known.{TreesValue, node_at}
 use Rattle.btr_pages.specs.Made.{HasKnownChild, MayHaveChild, HaveKnownChildren, part_of, ArePartsTo, versions_of}
@@ -156,3 +157,11 @@ parts-fit_page nodes block span number version slots parts full many few all a =
       many = subst (λ n. LEAF_POINTS < n) (sym count) many;
       few = subst (λ n. n ≤ MAX_POINTS) (sym count) few;
     }
+
+-- The trees of the children of an inner node's page are the parts of its node.
+pub parts-inner_page : (nodes : TreesValue) (block : ℕ) (span : SpanValue) (f : PageHeader) (slots : List PageSlot) (parts : List (ℕ × TreeValue)) → length slots ≡ 64 → IsInnerPage f slots → ArePartsTo 64 nodes block span f.stream slots parts → AreParts span f.version parts (versions_of slots)
+parts-inner_page nodes block span f slots parts full keeps a =
+    let total = keeps.total in
+    let from = keeps.count_from in
+    let to = keeps.count_to in
+    parts-fit_page nodes block span f.stream f.version slots parts full (omega arith) (omega arith) keeps.each a

@@ -1,5 +1,5 @@
 -- Each entry that work adds is allowed after those before it.
-use Rattle.std.specs.Prelude.{◌≡◌, ℕ, ◌+◌, ◌<◌, ◌≤◌, ◌==◌, Bool, true, false, ◌||◌, List, [], ◌∷◌, ◌++◌, length, Option, Some, None, option_to_list, Result, Ok, Err}
+use Rattle.std.specs.Prelude.{◌≡◌, ℕ, suc, ◌+◌, ◌<◌, ◌≤◌, ◌==◌, Bool, true, false, ◌||◌, List, [], ◌∷◌, ◌++◌, length, slice_index_or, Option, Some, None, option_to_list, Result, Ok, Err}
 use Rattle.std.specs.Option.{is_some}
 use Rattle.std.proofs.Common.{refl, sym, ap, ◌∙◌, subst, arith, append-nil, length-append, ⊎_elim}
 use Rattle.std.proofs.lemmas.Bool.{eqb-true, cases_lt}
@@ -19,7 +19,7 @@ use Rattle.btr_engine.specs.declared.step.StepFault.{StepFault}
 use Rattle.btr_engine.specs.declared.step.StepFault.TheVariants as steps
 use Rattle.btr_hall.specs.declared.land.LandFault.{LandFault}
 use Rattle.btr_hall.specs.declared.land.LandFault.TheVariants as faults
-use Rattle.btr_gate.specs.Numbers.{one, times}
+use Rattle.btr_gate.specs.Numbers.{one, total, times}
 use Rattle.btr_gate.specs.Prefixes.{StartsWith}
 use Rattle.btr_gate.proofs.PrefixLemmas.{starts_same, starts_length, starts_trans, starts_between, starts_more}
 use Rattle.btr_jobs.specs.States.{StoreState, LogState, GoesOn}
@@ -36,6 +36,11 @@ the_number n m listed =
       | false ↦ λ is. absurd (omega (arith, listed, ap one is))
     ] refl
 
+-- Each entry whose number is counted here is allowed after those before it, if they are legal.
+abbrev pub Allows : LogState → (ℕ → ℕ) → Type 0
+Allows log count =
+    (p : List Entry) (e : Entry) → StartsWith (all_entries log) (p ++ e ∷ []) → 1 ≤ count (length p + 1) → Legal p → Allowed p e
+
 -- Work that adds nothing.
 pub allows_none : (log : LogState) (own : List ℕ) → ((n : ℕ) → times n own ≡ 0) → AddsAllowed log own
 allows_none log own none p e starts listed legal = absurd (omega (arith, listed, none (length p + 1)))
@@ -44,13 +49,24 @@ pub allows_nothing : (log : LogState) (own : List ℕ) → own ≡ [] → AddsAl
 allows_nothing log own none = allows_none log own (λ n. ap (times n) none)
 
 -- Work of two parts.
-pub allows_both : (log : LogState) (own a b : List ℕ) → ((n : ℕ) → times n own ≡ times n a + times n b) → AddsAllowed log a → AddsAllowed log b → AddsAllowed log own
-allows_both log own a b sum first second p e starts listed legal =
+pub allows_sum : (log : LogState) (count a b : ℕ → ℕ) → ((n : ℕ) → count n ≡ a n + b n) → Allows log a → Allows log b → Allows log count
+allows_sum log count a b sum first second p e starts listed legal =
     let n : ℕ = length p + 1 in
     ⊎_elim
-    (λ (some : 0 < times n a). first p e starts (omega (arith, some)) legal)
-    (λ (none : times n a ≤ 0). second p e starts (omega (arith, none, listed, sum n)) legal)
-    (cases_lt 0 (times n a))
+    (λ (some : 0 < a n). first p e starts (omega (arith, some)) legal)
+    (λ (none : a n ≤ 0). second p e starts (omega (arith, none, listed, sum n)) legal)
+    (cases_lt 0 (a n))
+
+pub allows_both : (log : LogState) (own a b : List ℕ) → ((n : ℕ) → times n own ≡ times n a + times n b) → AddsAllowed log a → AddsAllowed log b → AddsAllowed log own
+allows_both log own a b sum first second =
+    allows_sum log (λ n. times n own) (λ n. times n a) (λ n. times n b) sum first second
+
+-- Work of many parts.
+pub allows_parts : (log : LogState) (parts : List (List ℕ)) → ((k : ℕ) → k < length parts → AddsAllowed log (slice_index_or parts k [])) → Allows log (λ n. total (times n) parts)
+allows_parts log [] each = allows_nothing log [] refl
+allows_parts log (own ∷ parts) each =
+    allows_sum log (λ n. times n own + total (times n) parts) (λ n. times n own) (λ n. total (times n) parts) (λ n. refl)
+    (each 0 (omega arith)) (allows_parts log parts (λ k there. each (suc k) (omega (arith, there))))
 
 -- What was allowed in an earlier log is so in a later one.
 pub allows_later : (start : StoreState) (late early : LogState) (own : List ℕ) → GoesOn start late early → ((n : ℕ) → 1 ≤ times n own → n ≤ length early.history) → AddsAllowed early own → AddsAllowed late own

@@ -1,11 +1,10 @@
 -- Each entry that a live run adds is allowed after those before it.
-use Rattle.std.specs.Prelude.{ℕ, suc, ◌+◌, ◌≤◌, Bool, true, false, List, [], ◌∷◌, length, slice_index_or, Option, Some, None, Result, Ok, Err}
+use Rattle.std.specs.Prelude.{◌≡◌, ℕ, ◌+◌, ◌≤◌, Bool, true, false, List, [], ◌∷◌, length, slice_index_or, Option, Some, None, Result, Ok, Err}
 use Rattle.std.specs.declared.alloc.AllocError.{AllocError}
-use Rattle.std.proofs.Common.{ap, ◌∙◌, arith, inl, inr}
-use Rattle.std.proofs.lemmas.Bool.{cases_lt}
+use Rattle.std.proofs.Common.{refl, ap, ◌∙◌, arith}
 use Rattle.btr_hist.specs.declared.entry.Entry.{Entry}
 use Rattle.btr_hist.specs.declared.entry.Entry.TheVariants as entries
-use Rattle.btr_hist.specs.Legal.{IsComputed, Allowed}
+use Rattle.btr_hist.specs.Legal.{IsComputed}
 use Rattle.btr_streams.specs.declared.board.Receipt.{Receipt}
 use Rattle.btr_engine.specs.declared.step.StepFault.{StepFault}
 use Rattle.btr_text.specs.declared.script.Line.{Line}
@@ -13,7 +12,7 @@ use Rattle.btr_text.specs.declared.script.ScriptLine.{ScriptLine}
 use Rattle.btr_text.specs.declared.reply.LineReply.{LineReply}
 use Rattle.btr_gate.specs.Numbers.{total, times}
 use Rattle.btr_gate.proofs.NumberLemmas.{one_same, times_append}
-use Rattle.btr_jobs.specs.States.{StoreState, LogState}
+use Rattle.btr_jobs.specs.States.{StoreState, LogState, GoesOn}
 use Rattle.btr_jobs.specs.Turns.{IsIdle, CommittedAfter}
 use Rattle.btr_work.specs.declared.report.RefreshLine.{RefreshLine}
 use Rattle.btr_live.specs.declared.live.LiveReport.{LiveReport}
@@ -23,10 +22,10 @@ use Rattle.btr_live.specs.LaneLaws.{lines_last}
 use Rattle.btr_live.specs.RoundsLaws.{rounds_last}
 use Rattle.btr_live.specs.Rounds.{MakesRounds}
 use Rattle.btr_live.proofs.LandingLemmas.{IsLanding, Landings, rounds_land}
-use Rattle.btr_live.specs.OneHistory.{of_lane, lanes_of, lane_lines}
+use Rattle.btr_live.specs.OneHistory.{of_lane, lanes_of, lane_lines, times_all}
 use Rattle.btr_live.specs.Live.{LastRound, RunsLive}
 use Rattle.btr_store.specs.Work.{AddsAllowed}
-use Rattle.btr_store.proofs.Allowing.{allows_none, allows_nothing, allows_both, allows_committed, allows_landed}
+use Rattle.btr_store.proofs.Allowing.{Allows, allows_none, allows_nothing, allows_sum, allows_both, allows_parts, allows_committed, allows_landed}
 use Rattle.btr_store.proofs.DistilLemmas.{refreshes_allowed}
 
 module _ (start : StoreState) (log : LogState) where
@@ -88,35 +87,30 @@ module _ (start : StoreState) (log : LogState) where
   last_allowed low true (Some (Err error)) own is = allows_none log own is
   last_allowed low true (Some (Ok report)) own is = refreshes_allowed start log low report own is
 
--- A number that is in one of the lists is in a list at some place.
-pub in_lists : (P : Type 0) (n : ℕ) (lists : List (List ℕ)) → ((k : ℕ) → 1 ≤ times n (slice_index_or lists k []) → P) → 1 ≤ total (times n) lists → P
-in_lists P n [] each some = absurd (omega (arith, some))
-in_lists P n (l ∷ ls) each some =
-    elim (cases_lt 0 (times n l)) [
-      | inl here ↦ each 0 here
-      | inr none ↦ in_lists P n ls (λ k. each (suc k)) (omega (arith, some, none))
-    ]
+  -- ---- a whole run
+
+  -- What lanes, the rounds beside them, others and the last round add is allowed, if what lanes and others add is.
+  pub run_allowed : (middle : LogState) (low : List Entry) (script : List ScriptLine) (materialize : Bool) (report : LiveReport) (mine beside : List (List ℕ)) (others : ℕ → ℕ) (lastly own : List ℕ) → GoesOn start log middle → ((k : ℕ) → MakesRounds start (length script) low middle (slice_index_or beside k [])) → LastRound start log middle.history materialize report.last lastly → ((n : ℕ) → times n own ≡ times_all n mine beside + others n + times n lastly) → ((k : ℕ) → AddsAllowed log (slice_index_or mine k [])) → Allows log others → AddsAllowed log own
+  run_allowed middle low script materialize report mine beside others lastly own on rounds last sum lanes other =
+      allows_sum log (λ n. times n own) (λ n. times_all n mine beside + others n) (λ n. times n lastly) sum
+      (allows_sum log (λ n. times_all n mine beside + others n) (λ n. times_all n mine beside) others (λ n. refl)
+      (allows_sum log (λ n. times_all n mine beside) (λ n. total (times n) mine) (λ n. total (times n) beside) (λ n. refl)
+      (allows_parts log mine (λ k there. lanes k))
+      (allows_parts log beside (λ k there.
+      let party : List ℕ = slice_index_or beside k [] in
+      rounds_allowed (length script) low party (rounds_last start (length script) log middle low party on (rounds k)))))
+      other)
+      (last_allowed middle.history materialize report.last lastly last)
 
 -- What lanes, rounds and the last round add is allowed.
 pub live_allowed : (batch : ℕ) (materialize : Bool) (start : StoreState) (log : LogState) (low : List Entry) (script : List ScriptLine) (report : LiveReport) (own : List ℕ) → RunsLive (in_own_feeds batch) materialize start log low script report own → AddsAllowed log own
-live_allowed batch materialize start log low script report own runs p e starts listed legal =
-    let n : ℕ = length p + 1 in
-    let sum = runs.numbers n in
-    elim (cases_lt 0 (times n runs.lastly)) [
-      | inl lastly ↦ last_allowed start log runs.middle.history materialize report.last runs.lastly runs.last p e starts lastly legal
-      | inr none ↦
-          elim (cases_lt 0 (total (times n) runs.mine)) [
-            | inl by_lane ↦
-                in_lists (Allowed p e) n runs.mine
-                (λ k here. lines_allowed start log batch (begun low) (lane_lines k script) (of_lane k (lanes_of script) report.replies.items) (slice_index_or runs.mine k []) (runs.lanes.lanes k).0
-                (lines_last start log runs.middle runs.goes_on batch (begun low) (lane_lines k script) (of_lane k (lanes_of script) report.replies.items) (slice_index_or runs.mine k []) (runs.lanes.lanes k).0 (runs.lanes.lanes k).1)
-                p e starts here legal)
-                by_lane
-            | inr no_lane ↦
-                in_lists (Allowed p e) n runs.beside
-                (λ k here. rounds_allowed start log (length script) low (slice_index_or runs.beside k [])
-                (rounds_last start (length script) log runs.middle low (slice_index_or runs.beside k []) runs.goes_on (runs.lanes.parties k))
-                p e starts here legal)
-                (omega (arith, listed, sum, none, no_lane))
-          ]
-    ]
+live_allowed batch materialize start log low script report own runs =
+    run_allowed start log runs.middle low script materialize report runs.mine runs.beside (λ n. 0) runs.lastly own runs.goes_on runs.lanes.parties runs.last
+    (λ n. let sum = runs.numbers n in omega (arith, sum))
+    (λ k.
+    let lines = lane_lines k script in
+    let replies = of_lane k (lanes_of script) report.replies.items in
+    let mine : List ℕ = slice_index_or runs.mine k [] in
+    let lane = runs.lanes.lanes k in
+    lines_allowed start log batch (begun low) lines replies mine lane.0 (lines_last start log runs.middle runs.goes_on batch (begun low) lines replies mine lane.0 lane.1))
+    (allows_nothing log [] refl)

@@ -31,8 +31,8 @@ use Rattle.btr_jobs.proofs.StateLemmas.{log_at}
 use Rattle.btr_jobs.proofs.PlainStoreLemmas.{needs_prefix}
 use Rattle.btr_store.specs.declared.status.Status.TheVariants.{DeviceFault}
 use Rattle.btr_store.specs.declared.transcript.Transcript.{Transcript}
-use Rattle.btr_store.specs.Work.{AddsAllowed, Works, DoesRightly, IsPlainWork}
-use Rattle.btr_store.specs.Closing.{BeginsOn}
+use Rattle.btr_store.specs.Work.{AddsAllowed, Works, DoesRightly, IfHolds, IsPlainWork}
+use Rattle.btr_store.specs.Closing.{BeginsOn, WorkedAt}
 
 -- ---- the list of a hall
 
@@ -147,3 +147,11 @@ does_more disk What More old new implies failed does = record {
   right = does.right;
   in_flight = does.in_flight;
 }
+
+-- Work in the only session of a hall, from the opening of the store on a device to the close of the hall: what the work and the law say
+-- together was done rightly, if the device held a history.
+pub does_store : {D : Type 0} (disk : Ghosts D) (What : StoreState → LogState → List Entry → List ℕ → Type 0) (More : StoreState → LogState → List ℕ → Type 0) (old new : D) (hall : Hall D disk) (begun last : Session D disk) → ((start : StoreState) (log : LogState) (own : List ℕ) → What start log start.history own → AddsAllowed log own) → ((start : StoreState) (log : LogState) (own : List ℕ) → Works disk start log own old new → (Legal start.history → Legal log.history) → What start log start.history own → More start log own) → BeginsOn disk old hall begun → Does hall begun last What → WorkedAt disk old hall last new → (failed : Bool) → ((h : List Entry) → failed ≡ is_some (log_seen h last).failed) → IfHolds disk old (DoesRightly disk More failed old new)
+does_store disk What More old new hall begun last allows implies on does works failed same_failed seen h held =
+    let stood = on.opened.stood seen h held in
+    does_more disk (λ start log own. What start log start.history own) More old new implies failed
+    (does_rightly disk What old new hall begun last allows on h stood.at_rest.of does (λ own goes. works begun own on.begins goes h stood) failed (same_failed h))

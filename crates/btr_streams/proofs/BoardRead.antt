@@ -211,6 +211,12 @@ same-kept b s output kept at room =
     let both : Some room.kept ≡ Some kept = sym room.there ∙ at in
     cc
 
+-- A stream that is there is not past the end of the streams.
+pub not-past : (inside b : Kept) (s : ℕ) (kept : Versions) → inside ≡ b → length inside.streams ≤ s → slice_get b.streams s ≡ Some kept → ⊥
+not-past inside b s kept same past there =
+    let long : length b.streams ≤ s = subst (λ (k : Kept). length k.streams ≤ s) same past in
+    omega (arith, long, slice_get_within b.streams s kept there)
+
 pub kind-of : (b : Kept) (s : ℕ) (output : Bool) (kept : Versions) → slice_get b.streams s ≡ Some kept → HasRoomForVersion b s output → output ≡ is_some kept.spec
 kind-of b s output kept at room =
     sym room.kind ∙ ap (λ (v : Versions). is_some v.spec) (same-kept b s output kept at room)

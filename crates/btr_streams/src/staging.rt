@@ -8,7 +8,7 @@ ghost use Rattle.btr_entry.specs.Grammar.{IsWithinBounds};
 ghost use Rattle.btr_streams.specs.Board.{IsBoardOf, HasStreamsOf, HasPast};
 ghost use Rattle.btr_streams.specs.Outline.{outline_of, refusal};
 ghost use Rattle.btr_streams.specs.Stage.{PushCause, IsReceipt, IsStagedEntry, IsNumbered, IsNextBoard, IsNewVersion, IsBoardWith};
-ghost use Rattle.btr_streams.specs.Stage.{change_in, HasRoomFor, IsTreeAfter, ReadsEntry};
+ghost use Rattle.btr_streams.specs.Stage.{change, change_in, HasRoomFor, IsTreeAfter, ReadsEntry};
 ghost use Rattle.btr_streams.specs.Stage.{WritesCommit, WritesStream, WritesOn, WritesEntry};
 
 use crate::board::{Board, PushFault, Receipt, Staged, Stream};
@@ -209,12 +209,7 @@ impl Board {
             &NewVersion {
                 stream: place,
                 kept,
-                commit: TreeCommit {
-                    cut,
-                    added,
-                    version: kept.trees.len() as u64,
-                    first: with.first,
-                },
+                commit: next_commit(kept, cut, added, with.first),
                 read: None,
             },
         )
@@ -256,12 +251,7 @@ impl Board {
             &NewVersion {
                 stream: place,
                 kept,
-                commit: TreeCommit {
-                    cut,
-                    added,
-                    version: kept.trees.len() as u64,
-                    first: with.first,
-                },
+                commit: next_commit(kept, cut, added, with.first),
                 read: Some(*reads),
             },
         )
@@ -293,6 +283,21 @@ impl Board {
             nodes: next.nodes,
             root: next.root,
         })
+    }
+}
+
+/// Returns the commit of these ranges and points as a tree takes it: for the version after those of a stream, and with its first node for
+/// this block.
+fn next_commit<'a>(kept: &Stream, cut: &'a Ranges, added: &'a Bag, first: u64) -> TreeCommit<'a>
+    ensures version { result.version ≡ length kept.now.trees }
+    ensures first { result.first ≡ first }
+    ensures change { change_in result ≡ change cut.now added.now }
+{
+    TreeCommit {
+        cut,
+        added,
+        version: kept.trees.len() as u64,
+        first,
     }
 }
 

@@ -86,17 +86,10 @@ super_bytes-injective a b fits_a fits_b sides same =
 pub length-super_bytes : (s : Super) → length (super_bytes s) ≡ 4096
 unfolding super_bytes
 length-super_bytes s =
-    let M : List ℕ = codes "BTR-SUPR" in
-    let F : List ℕ = to_be_bytes w32 s.format in
-    let Q : List ℕ = to_be_bytes w64 s.seq in
-    let B : List ℕ = to_be_bytes w64 s.blocks in
-    let T : List ℕ = to_be_bytes w64 s.tail in
-    let K : List ℕ = to_be_bytes w64 s.checkpoint in
     let W : List ℕ = to_be_bytes w64 (seal_word s) in
-    let E : List ℕ = W ++ zeros 4040 in
-    let all : length E ≡ 4048 = omega (arith, length-append W (zeros 4040), length-zeros 4040) in
-    ap length (append_assoc (M ++ F ++ zeros 4 ++ Q ++ B ++ T ++ K) W (zeros 4040))
-    ∙ length_of M F (zeros 4) Q B T K E refl refl (length-zeros 4) refl refl refl refl all
+    let rest : length (W ++ zeros 4040) ≡ 4048 = omega (arith, length-append W (zeros 4040), length-zeros 4040) in
+    ap length (append_assoc (codes "BTR-SUPR" ++ to_be_bytes w32 s.format ++ zeros 4 ++ to_be_bytes w64 s.seq ++ to_be_bytes w64 s.blocks ++ to_be_bytes w64 s.tail ++ to_be_bytes w64 s.checkpoint) W (zeros 4040))
+    ∙ length_of (codes "BTR-SUPR") (to_be_bytes w32 s.format) (zeros 4) (to_be_bytes w64 s.seq) (to_be_bytes w64 s.blocks) (to_be_bytes w64 s.tail) (to_be_bytes w64 s.checkpoint) (W ++ zeros 4040) refl refl (length-zeros 4) refl refl refl refl rest
 
 -- the table keeps each field small enough
 pub FitsFields-from_table : (size : ℕ) (s : Super) → IsSuper size s → FitsFields s

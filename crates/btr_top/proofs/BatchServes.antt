@@ -1,6 +1,6 @@
 -- What the batches of a buffer added serves the script: each entry has the points of some `feed` lines, of any lanes. If no batch found the
 -- device full, each has an outcome with a benign status.
-use Rattle.std.specs.Prelude.{◌≡◌, ℕ, ◌+◌, ◌≤◌, ◌==◌, false, List, [], ◌∷◌, ◌++◌, length, None}
+use Rattle.std.specs.Prelude.{◌≡◌, ℕ, ◌+◌, ◌≤◌, false, List, [], ◌∷◌, ◌++◌, length, None}
 use Rattle.std.specs.List.{AllByRecursion}
 use Rattle.std.proofs.Common.{refl, sym, ap, subst, arith, inl, inr}
 use Rattle.btr_base.specs.declared.point.Point.{Point}
@@ -10,14 +10,12 @@ use Rattle.btr_hist.specs.declared.entry.Entry.TheVariants as entries
 use Rattle.btr_hist.specs.declared.rejection.Rejection.{Rejection}
 use Rattle.btr_hist.specs.declared.rejection.Rejection.TheVariants as rejections
 use Rattle.btr_hist.specs.Legal.{Follows}
-use Rattle.btr_gate.specs.Numbers.{one, total, times}
+use Rattle.btr_gate.specs.Numbers.{total, times}
 use Rattle.btr_gate.specs.Prefixes.{StartsWith}
-use Rattle.btr_gate.proofs.NumberLemmas.{times_append}
 use Rattle.btr_gate.proofs.PrefixLemmas.{starts_trans}
 use Rattle.btr_engine.specs.declared.step.StepFault.TheVariants as steps
 use Rattle.btr_jobs.specs.States.{StoreState, LogState}
 use Rattle.btr_jobs.specs.Turns.{IsIdle, CommittedAfter}
-use Rattle.btr_load.proofs.TotalLemmas.{total_append}
 use Rattle.btr_text.specs.declared.script.ScriptLine.{ScriptLine}
 use Rattle.btr_hall.specs.declared.group_answers.Outcome.{Outcome}
 use Rattle.btr_hall.specs.declared.group_answers.Outcome.TheVariants.{Stored, Refused}
@@ -29,7 +27,7 @@ use Rattle.btr_store.specs.Replies.{status_of_reply}
 use Rattle.btr_store.specs.Shared.{RunsBatches}
 use Rattle.btr_top.specs.declared.live.FeedKind.TheVariants.{Shared}
 use Rattle.btr_top.specs.Room.{Purpose, OfFeeds, has_line, has_landing, IsFeedOf, CommitsShared, Service}
-use Rattle.btr_top.proofs.ServiceLemmas.{counted, lines_had, landings_had, Served, served_append}
+use Rattle.btr_top.proofs.ServiceLemmas.{counted, lines_had, landings_had, counted_append, lines_append, landings_none, Served, served_append}
 use Rattle.btr_top.proofs.LineTurns.{not_stopped, not_failed}
 use Rattle.btr_top.proofs.LaneServes.{Refusal}
 use Rattle.btr_top.proofs.WaitingPlaces.{feed_longer}
@@ -173,34 +171,21 @@ module _ (threshold rounds : ℕ) (script : List ScriptLine) (start : StoreState
         let rest = batches_serve is.2 places bs is.1 first.since are.1 is.5 in
         record {
           services = first.services ++ rest.services;
-          numbers = λ n.
-              let sum = total_append (λ (s : Service). one (s.number == n)) first.services rest.services in
-              let here = first.numbers n in
-              let later = rest.numbers n in
-              let same : times n own ≡ times n (is.0 ++ is.1) = ap (times n) is.3 in
-              omega (arith, sum, here, later, same, times_append n is.0 is.1);
+          numbers = counted_append first.services rest.services own is.0 is.1 is.3 first.numbers rest.numbers;
           are = served_append (Shared threshold) rounds script low log.history first.services rest.services first.are rest.are;
-          lines = λ k.
-              let sum = total_append (λ (s : Service). has_line k s.purpose) first.services rest.services in
-              let here = first.lines k in
-              let later = rest.lines k in
-              omega (arith, sum, here, later);
-          landings = λ round output.
-              let sum = total_append (λ (s : Service). has_landing round output s.purpose) first.services rest.services in
-              let here = first.landings round output in
-              let later = rest.landings round output in
-              omega (arith, sum, here, later);
+          lines = λ k. omega (arith, lines_append k first.services rest.services, first.lines k, rest.lines k);
+          landings = landings_none first.services rest.services first.landings rest.landings;
           calm = λ never. (
             first.calm (λ p e purpose refusal none few.
                 never p e purpose refusal none (λ k.
                 let budget = few k in
-                let sum = total_append (λ (s : Service). has_line k s.purpose) first.services rest.services in
+                let sum = lines_append k first.services rest.services in
                 let later = rest.lines k in
                 omega (arith, budget, sum, later))),
             rest.calm (λ p e purpose refusal none few.
                 never p e purpose refusal none (λ k.
                 let budget = few k in
-                let sum = total_append (λ (s : Service). has_line k s.purpose) first.services rest.services in
+                let sum = lines_append k first.services rest.services in
                 let here = first.lines k in
                 omega (arith, budget, sum, here))),
           );

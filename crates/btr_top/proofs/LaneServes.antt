@@ -36,7 +36,7 @@ use Rattle.btr_store.specs.Replies.{status_of_reply}
 use Rattle.btr_top.specs.declared.live.FeedKind.{FeedKind}
 use Rattle.btr_top.specs.Room.{Purpose, OfLine, OfFeeds, has_line, has_landing, LandsFor, IsAskedSince, IsOfLine, IsAtPlace, IsFeedOf, fed_by, due_at, IsFor, Service}
 use Rattle.btr_top.proofs.BenignStatuses.{benign_meaning, along}
-use Rattle.btr_top.proofs.ServiceLemmas.{counted, lines_had, landings_had, up_to, up_to_least, up_to_sum, up_to_above, Above, above_lower, above_append, Served, served_append}
+use Rattle.btr_top.proofs.ServiceLemmas.{counted, lines_had, landings_had, counted_append, lines_append, landings_none, up_to, up_to_least, up_to_sum, up_to_above, Above, above_lower, above_append, Served, served_append}
 use Rattle.btr_top.proofs.PlaceLemmas.{AtPlaces}
 use Rattle.btr_top.proofs.LineTurns.{Lands, WasFull, WasAdded, WasRefused, Turned, offered_turn}
 use Rattle.btr_top.proofs.LineEntries.{on_found, asked_only, entry_is, asked_feed, asked_flush, IsOfOutput, asked_refresh}
@@ -443,24 +443,11 @@ module _ (feeds : FeedKind) (rounds : ℕ) (script : List ScriptLine) (start : S
       let grown = starts_length next.history old.history first.longer in
       record {
         services = first.services ++ rest.services;
-        numbers = λ n.
-            let sum = total_append (λ (s : Service). one (s.number == n)) first.services rest.services in
-            let here = first.numbers n in
-            let later = rest.numbers n in
-            let same : times n own ≡ times n (is.0 ++ is.1) = ap (times n) is.3 in
-            omega (arith, sum, here, later, same, times_append n is.0 is.1);
+        numbers = counted_append first.services rest.services own is.0 is.1 is.3 first.numbers rest.numbers;
         are = served_append feeds rounds script low log.history first.services rest.services first.are rest.are;
         above = above_append (length old.history) first.services rest.services first.above (above_lower (length old.history) (length next.history) rest.services grown rest.above);
-        lines = λ k.
-            let sum = total_append (λ (s : Service). has_line k s.purpose) first.services rest.services in
-            let here = first.lines k in
-            let later = rest.lines k in
-            omega (arith, sum, here, later);
-        landings = λ round output.
-            let sum = total_append (λ (s : Service). has_landing round output s.purpose) first.services rest.services in
-            let here = first.landings round output in
-            let later = rest.landings round output in
-            omega (arith, sum, here, later);
+        lines = λ k. omega (arith, lines_append k first.services rest.services, first.lines k, rest.lines k);
+        landings = landings_none first.services rest.services first.landings rest.landings;
         benign = λ never. (
           first.benign (λ p e purpose refusal none after before few.
               never p e purpose refusal none (λ k.

@@ -8,9 +8,9 @@ use Rattle.btr_hist.specs.Legal.{rejection, Follows}
 use Rattle.btr_hist.proofs.HistoryLemmas.{follows-prefix, follows-push}
 use Rattle.btr_engine.specs.Body.{needs_of}
 use Rattle.btr_engine.proofs.NeedLemmas.{needs-push}
-use Rattle.btr_gate.specs.Numbers.{one, total, given}
+use Rattle.btr_gate.specs.Numbers.{one, total, times, given}
 use Rattle.btr_gate.specs.Prefixes.{StartsWith}
-use Rattle.btr_gate.proofs.NumberLemmas.{given_inside, given_below, given_above, given_more, one_other}
+use Rattle.btr_gate.proofs.NumberLemmas.{given_inside, given_below, given_above, given_more, one_other, times_append}
 use Rattle.btr_gate.proofs.PrefixLemmas.{starts_refl, starts_trans, starts_length, starts_between, starts_more}
 use Rattle.btr_jobs.specs.States.{StoreState}
 use Rattle.btr_jobs.specs.Turns.{IsFull}
@@ -30,6 +30,21 @@ lines_had place services = total (λ (s : Service). has_line place s.purpose) se
 
 abbrev pub landings_had : ℕ → ℕ → List Service → ℕ
 landings_had round output services = total (λ (s : Service). has_landing round output s.purpose) services
+
+-- Services of two parts have the numbers of both, each line as often as both together, and no landing if neither has one.
+pub counted_append : (a b : List Service) (own first rest : List ℕ) → own ≡ first ++ rest → ((n : ℕ) → counted n a ≡ times n first) → ((n : ℕ) → counted n b ≡ times n rest) → (n : ℕ) → counted n (a ++ b) ≡ times n own
+counted_append a b own first rest is here later n =
+    let sum = total_append (λ (s : Service). one (s.number == n)) a b in
+    let same : times n own ≡ times n (first ++ rest) = ap (times n) is in
+    omega (arith, sum, here n, later n, same, times_append n first rest)
+
+pub lines_append : (place : ℕ) (a b : List Service) → lines_had place (a ++ b) ≡ lines_had place a + lines_had place b
+lines_append place a b = total_append (λ (s : Service). has_line place s.purpose) a b
+
+pub landings_none : (a b : List Service) → ((round output : ℕ) → landings_had round output a ≡ 0) → ((round output : ℕ) → landings_had round output b ≡ 0) → (round output : ℕ) → landings_had round output (a ++ b) ≡ 0
+landings_none a b here later round output =
+    let sum = total_append (λ (s : Service). has_landing round output s.purpose) a b in
+    omega (arith, sum, here round output, later round output)
 
 -- The services with numbers up to this one.
 abbrev pub up_to : ℕ → List Service → List Service

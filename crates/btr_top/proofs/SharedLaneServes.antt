@@ -10,7 +10,6 @@ use Rattle.btr_hist.specs.History.{stream_of}
 use Rattle.btr_hist.specs.Legal.{Follows}
 use Rattle.btr_gate.specs.Numbers.{one, times}
 use Rattle.btr_gate.specs.Prefixes.{StartsWith}
-use Rattle.btr_gate.proofs.NumberLemmas.{times_append}
 use Rattle.btr_gate.proofs.PrefixLemmas.{starts_refl, starts_trans, starts_length}
 use Rattle.btr_jobs.specs.States.{StoreState, LogState}
 use Rattle.btr_load.proofs.TotalLemmas.{total_append}
@@ -34,9 +33,9 @@ use Rattle.btr_live.specs.SharedLanes.{SharedState, RunsSharing, RunsSharedLine,
 use Rattle.btr_store.specs.Completes.{IsBenign}
 use Rattle.btr_store.specs.Replies.{status_of_reply}
 use Rattle.btr_top.specs.declared.live.FeedKind.TheVariants.{Shared}
-use Rattle.btr_top.specs.Room.{Purpose, has_line, has_landing, fed_by, Service}
+use Rattle.btr_top.specs.Room.{Purpose, has_line, fed_by, Service}
 use Rattle.btr_top.proofs.BenignStatuses.{along}
-use Rattle.btr_top.proofs.ServiceLemmas.{counted, lines_had, landings_had, up_to, up_to_least, up_to_sum, up_to_above, Above, above_lower, above_append, Served, served_append}
+use Rattle.btr_top.proofs.ServiceLemmas.{counted, lines_had, landings_had, counted_append, lines_append, landings_none, up_to, up_to_least, up_to_sum, up_to_above, Above, above_lower, above_append, Served, served_append}
 use Rattle.btr_top.proofs.PlaceLemmas.{AtPlaces}
 use Rattle.btr_top.proofs.WaitingPlaces.{Pending, waits_for, Waits, waits_longer}
 use Rattle.btr_top.proofs.LaneServes.{AreBenign, line_serves}
@@ -269,12 +268,7 @@ module _ (threshold rounds : ℕ) (script : List ScriptLine) (start : StoreState
       record {
         services = first.services ++ rest.services;
         gifts = gifts;
-        numbers = λ n.
-            let sum = total_append (λ (s : Service). one (s.number == n)) first.services rest.services in
-            let here = first.numbers n in
-            let later = rest.numbers n in
-            let same : times n own ≡ times n (is.0 ++ is.1) = ap (times n) is.3 in
-            omega (arith, sum, here, later, same, times_append n is.0 is.1);
+        numbers = counted_append first.services rest.services own is.0 is.1 is.3 first.numbers rest.numbers;
         are = served_append (Shared threshold) rounds script low log.history first.services rest.services first.are rest.are;
         above = above_append (length old.lane.history) first.services rest.services first.above (above_lower (length old.lane.history) (length next.lane.history) rest.services grown rest.above);
         gives = λ k.
@@ -283,16 +277,12 @@ module _ (threshold rounds : ℕ) (script : List ScriptLine) (start : StoreState
             let later = rest.gives k in
             omega (arith, sum, here, later);
         lines = λ k.
-            let sum = total_append (λ (s : Service). has_line k s.purpose) first.services rest.services in
+            let sum = lines_append k first.services rest.services in
             let gave = total_append (λ (g : Gift). one (g.place == k)) first.gifts rest.gifts in
             let here = first.lines k in
             let later = rest.lines k in
             omega (arith, sum, gave, here, later);
-        landings = λ round output.
-            let sum = total_append (λ (s : Service). has_landing round output s.purpose) first.services rest.services in
-            let here = first.landings round output in
-            let later = rest.landings round output in
-            omega (arith, sum, here, later);
+        landings = landings_none first.services rest.services first.landings rest.landings;
         known = λ stream there n some.
             elim (rest.known stream there n some) [
               | inl before ↦

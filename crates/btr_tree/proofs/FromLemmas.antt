@@ -5,18 +5,25 @@ use Rattle.std.proofs.Common.{suc, refl, ◌∙◌, arith, subst, inl, inr}
 use Rattle.std.proofs.lemmas.Bool.Decides.{nat_tests}
 use Rattle.std.proofs.lemmas.Option.{same_Some}
 use Rattle.std.proofs.lemmas.Result.{IfErr-weaker}
+use Rattle.btr_base.specs.declared.limits.TheConstants.{FIRST}
 use Rattle.btr_base.specs.declared.point.Point.{Point}
+use Rattle.btr_base.specs.Span.{SpanValue}
 use Rattle.btr_node.specs.Page.{header}
 use Rattle.btr_node.specs.declared.page.NodePage.{NodePage}
 use Rattle.btr_tree.specs.declared.fetch.NodeFault.{NodeFault}
 use Rattle.btr_tree.specs.declared.spot.Root.{Root}
+use Rattle.btr_tree.specs.declared.spot.Spot.{Spot}
+use Rattle.btr_tree.specs.declared.walk_fault.WalkFault.{WalkFault}
+use Rattle.btr_tree.specs.declared.walk_fault.WalkFault.TheVariants.{Refused}
 use Rattle.btr_tree.specs.FetchedLaws.{cause_earlier}
 use Rattle.btr_tree.specs.History.{Past}
 use Rattle.btr_tree.specs.Leads.{Leads}
 use Rattle.btr_tree.specs.NewNodes.{NewNodeValue}
+use Rattle.btr_tree.specs.Nodes.{above_root}
 use Rattle.btr_tree.specs.PageNodes.{Pages, node_of_page, node_of_stream, Stand}
-use Rattle.btr_tree.specs.NodeSource.{UsesSource}
-use Rattle.btr_tree.specs.Spots.{StandsIn, IsFetchCause, IsRootCause, IsWalkCause}
+use Rattle.btr_tree.specs.NodeSource.{UsesSource, IfRefused, AtEachPlace}
+use Rattle.btr_tree.specs.Root.{root_part}
+use Rattle.btr_tree.specs.Spots.{StandsIn, IsFetchCause, IsRootCause, IsWalkCause, IsSpotAt, IsFetchedAt, IsHarmlessFault, AtEachRoot}
 use Rattle.btr_tree.proofs.LeadsLemmas.{leads-along}
 
 module _ {N C : Type 0} (O : Type 0) (contents : N → C) (faults : N → ℕ) (IsPage : C → ℕ → NodePage → Type 0) (root : Root) where
@@ -30,6 +37,16 @@ module _ {N C : Type 0} (O : Type 0) (contents : N → C) (faults : N → ℕ) (
         rises = omega arith;
         cause = IfErr-weaker q _ _ (λ e h. inr (cause_earlier O (λ o. IsPage (contents a)) (faults a) (faults b) (faults c) e low (subst (λ (t : C). IsFetchCause O (λ o. IsPage t) (faults b) (faults c) e) one.same h))) two.cause;
       }
+
+  -- A walk that may run out of memory, and that the source refused after the root was found.
+  pub uses-refused : {A B : Type 0} (a b c : N) (r : Result A NodeFault) (w : WalkFault NodeFault) (e : NodeFault) → w ≡ Refused e → UsesSource contents faults (λ t. IsRootCause O root (λ o. IsPage t)) a b r → UsesSource {A = B} contents faults (λ t m n. IfRefused (IsFetchCause O (λ o. IsPage t) m n)) b c (Err w) → UsesSource {A = B} contents faults (λ t. IsWalkCause O root (λ o. IsPage t)) a c (Err e)
+  uses-refused a b c r w e is one two =
+      uses-walk a b c r _ one (record { same = two.same; rises = two.rises; cause = subst (IfRefused (IsFetchCause O (λ o. IsPage (contents b)) (faults b) (faults c))) is two.cause })
+
+  -- Its refusal says nothing against the pages of a past whose root this is, if that holds at the root's place for each past.
+  pub harmless-refused : (a b : N) (at : Spot) (span : SpanValue) (w : WalkFault NodeFault) (e : NodeFault) (o : O) → w ≡ Refused e → span ≡ root_part → contents b ≡ contents a → AtEachRoot (IsPage (contents a)) root (λ h. IsSpotAt (StandsIn (IsPage (contents a))) at 10 FIRST above_root h) → IfRefused (λ f. AtEachPlace (IsFetchedAt O (λ x. StandsIn (IsPage (contents b)))) at span (λ h. IsHarmlessFault f)) w → AtEachRoot (IsPage (contents a)) root (λ h. IsHarmlessFault e)
+  harmless-refused a b at span w e o is whole same there sound h roots =
+      subst (IfRefused (λ f. AtEachPlace (IsFetchedAt O (λ x. StandsIn (IsPage (contents b)))) at span (λ h. IsHarmlessFault f))) is sound above_root h (o, rw (whole, same) (there h roots))
 
   -- A root that was not found.
   pub uses-root : {A B : Type 0} (a b : N) (r : Result A NodeFault) (q : Result B NodeFault) (e : NodeFault) → r ≡ Err e → q ≡ Err e → UsesSource contents faults (λ t. IsRootCause O root (λ o. IsPage t)) a b r → UsesSource contents faults (λ t. IsWalkCause O root (λ o. IsPage t)) a b q

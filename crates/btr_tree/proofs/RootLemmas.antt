@@ -1,12 +1,12 @@
 -- Lemmas on the root of a tree.
-use Rattle.std.specs.Prelude.{◌≡◌, ℕ, ◌*◌, ◌≤◌, ℤ, pos, ◌+ℤ◌, ◌≤ℤ◌, true, not, List, ◌++◌, length, Option, None}
+use Rattle.std.specs.Prelude.{◌≡◌, ℕ, ◌*◌, ◌≤◌, ℤ, pos, ◌+ℤ◌, ◌≤ℤ◌, ◌<ℤ◌, true, not, List, ◌++◌, length, Option, None}
 use Rattle.std.specs.List.{AllByRecursion}
 use Rattle.std.proofs.Common.{refl, sym, ap, ◌∙◌, arith, subst, inl, inr}
 use Rattle.std.proofs.lemmas.Int.{ints}
 use Rattle.btr_base.specs.declared.limits.TheConstants.{FIRST, END}
 use Rattle.btr_base.specs.declared.point.Point.{Point}
 use Rattle.btr_base.specs.Point.{InDomain, AreInDomain}
-use Rattle.btr_base.specs.Range.{RangeValue, covered}
+use Rattle.btr_base.specs.Range.{RangeValue, IsRange, covered}
 use Rattle.btr_base.specs.Bag.{within, outside, sort, is_within}
 use Rattle.btr_base.proofs.PointLemmas.{each-sort}
 use Rattle.btr_base.proofs.ListLemmas.{each-append, each-filter, each-weaker, filter-passes}
@@ -39,6 +39,18 @@ root-aligned = (
     ends = let e = end-root in omega (arith, ints);
   },
 )
+
+-- A range has a time of the root's span.
+pub root-meets : (inside r : RangeValue) (span : SpanValue) → IsRange inside → inside ≡ r → span ≡ root_part → (r.from <ℤ end_of span) × (span.start <ℤ r.to)
+root-meets inside r span h e whole =
+    let low = h.begins in
+    let full = h.not_empty in
+    let high = h.ends in
+    let from = ap (λ (x : RangeValue). x.from) e in
+    let to = ap (λ (x : RangeValue). x.to) e in
+    let end : end_of span ≡ END = ap end_of whole ∙ end-root in
+    let start : span.start ≡ FIRST = ap (λ (s : SpanValue). s.start) whole in
+    (omega (arith, ints), omega (arith, ints))
 
 -- Points that are all between two times.
 between-each : (a b : ℤ) (xs ys : List Point) → AllByRecursion (λ p. is_within a b p ≡ true) ys → ys ≡ xs → AllByRecursion (λ p. is_within a b p ≡ true) xs

@@ -14,8 +14,6 @@ mod distil_tests;
 #[cfg(test)]
 mod fixture;
 #[cfg(test)]
-mod handle;
-#[cfg(test)]
 mod kernel_tests;
 #[cfg(test)]
 mod pages_tests;

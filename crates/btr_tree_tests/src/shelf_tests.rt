@@ -1,10 +1,8 @@
 //! Walks over fetched pages, against the same walks over trees in memory.
 
-use super::handle::Handle;
-use super::shelf::{
-    Commit, Question, Roots, Stream, Version, bytes_of, disk_of, held_of, stream_of,
-};
+use super::shelf::{Commit, Question, Roots, Stream, Version, disk_of, held_of, stream_of};
 use btr_base::{END, FIRST, Toward};
+use btr_disk::MemDisk;
 use btr_shelf::DiskNodes;
 use btr_tree::Nodes;
 use std::alloc::{AllocError, Global};
@@ -242,11 +240,20 @@ fn ask_held(alloc: Global, stream: &Stream, questions: &[Question]) -> Result<Ta
     ask_all(alloc, &mut nodes, &stream.versions, questions)
 }
 
+/// A device of the blocks of a stream, with room for many reads.
+fn device_of(alloc: Global, stream: &Stream) -> Result<MemDisk, Fail> {
+    disk_of(alloc, &stream.blocks, 1048576, 0, &[])
+}
+
 /// Asks each question of each version by the pages of a device.
-fn ask_disk(alloc: Global, stream: &Stream, questions: &[Question]) -> Result<Tally, Fail> {
-    let disk = disk_of(alloc, &stream.blocks, 1048576, 0, &[])?;
+fn ask_disk(
+    alloc: Global,
+    stream: &Stream,
+    disk: MemDisk,
+    questions: &[Question],
+) -> Result<Tally, AllocError> {
     let mut nodes = DiskNodes::new(disk);
-    Ok(ask_all(alloc, &mut nodes, &stream.versions, questions)?)
+    ask_all(alloc, &mut nodes, &stream.versions, questions)
 }
 
 /// Whether a call has the same answers, after the same steps, by trees, by pages in memory and by the pages of a device, and at least
@@ -255,7 +262,7 @@ fn agrees(alloc: Global, call: Call, full: u64) -> Result<bool, Fail> {
     let stream = stream_of(alloc, COMMITS)?;
     let questions = questions_of(alloc, call)?;
     let held = ask_held(alloc, &stream, &questions)?;
-    let disk = ask_disk(alloc, &stream, &questions)?;
+    let disk = ask_disk(alloc, &stream, device_of(alloc, &stream)?, &questions)?;
     Ok(held.agrees(full) && disk.agrees(full))
 }
 
@@ -314,40 +321,34 @@ fn push_third(questions: &[Question], all: &mut Vec<Question>) -> Result<(), All
     Ok(())
 }
 
-/// Asks each question of each version by pages that are read through a handle of a device.
-fn ask_handle(
-    alloc: Global,
-    stream: &Stream,
-    bytes: &[u8],
-    questions: &[Question],
-) -> Result<Tally, AllocError> {
-    let mut nodes = DiskNodes::new(Handle::new(bytes));
-    ask_all(alloc, &mut nodes, &stream.versions, questions)
-}
-
-/// What two threads find that ask the same at once, each with a handle of one device.
+/// What two threads find that ask the same at once.
 type InTwo = (Result<Tally, AllocError>, Result<Tally, AllocError>);
 
+/// Asks each question of each version by two threads, each with a device of its own.
 fn ask_in_two<R: Threads>(
     rt: &R,
     alloc: Global,
     stream: &Stream,
-    bytes: &[u8],
+    disks: (MemDisk, MemDisk),
     questions: &[Question],
 ) -> InTwo {
+    let (here, there) = disks;
     join(
         rt,
-        || ask_handle(alloc, stream, bytes, questions),
-        || ask_handle(alloc, stream, bytes, questions),
+        move || ask_disk(alloc, stream, here, questions),
+        move || ask_disk(alloc, stream, there, questions),
     )
 }
 
 #[test]
-fn two_threads_read_one_device(rt: HostRuntime) -> Result<(), Fail> {
+fn two_threads_ask_the_same(rt: HostRuntime) -> Result<(), Fail> {
     let stream = stream_of(rt.alloc(), COMMITS)?;
-    let bytes = bytes_of(rt.alloc(), &stream.blocks)?;
     let questions = third_questions(rt.alloc())?;
-    let (here, there) = ask_in_two(&rt, rt.alloc(), &stream, &bytes, &questions);
+    let disks = (
+        device_of(rt.alloc(), &stream)?,
+        device_of(rt.alloc(), &stream)?,
+    );
+    let (here, there) = ask_in_two(&rt, rt.alloc(), &stream, disks, &questions);
     assert!(rt; here?.agrees(300));
     assert!(rt; there?.agrees(300));
     Ok(())

@@ -17,11 +17,11 @@ use Rattle.btr_verify.specs.Judged.{IsOwn, IsRight}
 use Rattle.btr_verify.specs.FirstWrong.{IsFirstWrongOn}
 use Rattle.btr_verify.specs.declared.judging.Mark.{Mark}
 use Rattle.btr_verify.specs.declared.judging.Mark.TheVariants.{Right, WrongBelow, Wrong}
-use Rattle.btr_log.specs.Reads.{OnlyReads}
 use Rattle.btr_verify.specs.Trees.{past_of}
-use Rattle.btr_verify.specs.Judging.{CanReadTo, IsJudged, IsFirstWrongFrom, IsPageNotRight, GoesDown, IsNamedFrom, IsNextFrom, AreMarkedRight, IsFirstNotRight}
+use Rattle.btr_verify.specs.Judging.{ReadsBelow, IsJudged, IsFirstWrongFrom, IsPageNotRight, GoesDown, IsNamedFrom, IsNextFrom, AreMarkedRight, IsFirstNotRight}
 use Rattle.btr_verify.proofs.JudgeLemmas.{HasMark, node-span, node-version, slot-there, stored-page, child-page, has-mark, one-in, page-in, child-has, slot-marked, right-here}
-use Rattle.btr_log.proofs.OnlyReading.{OnlyReads-trans, same-bytes}
+use Rattle.btr_verify.proofs.ReadLemmas.{reads-more}
+use Rattle.btr_log.proofs.OnlyReading.{same-bytes}
 
 -- A page itself.
 pub goes-nowhere : (pages : Pages) (h : List Entry) (image : Image) (tail : ℕ) (marks : List Mark) (block : ℕ) (page : NodePage) → IsPageNotRight pages h image tail marks block page → GoesDown pages h image tail marks block page block
@@ -117,26 +117,24 @@ module _ {D : Type 0} (disk : Ghosts D) where
   -- The way from the page in a block led to another block. The calls only read.
   pub record HasGone (tail : ℕ) (marks : List Mark) (block at : ℕ) (old new : D) (piece : PieceValue) : Type 0 where
     pub below : at < tail
-    pub reads : OnlyReads disk old new
-    pub can : CanReadTo disk tail piece new
+    pub reads : ReadsBelow disk tail old new piece
     pub down : disk.is_observable → (pages : Pages) (h : List Entry) (page : NodePage) → IsPageNotRight pages h (disk.contents old) tail marks block page → GoesDown pages h (disk.contents old) tail marks block page at
 
   -- The first wrong node is that at the end of the way.
   pub gone-end : (tail : ℕ) (marks : List Mark) (block at : ℕ) (old mid : D) (piece : PieceValue) → HasGone tail marks block at old mid piece → disk.is_observable → IsNextFrom (disk.contents mid) tail marks at None → IsNamedFrom (disk.contents old) tail marks block at
   gone-end tail marks block at old mid piece gone reported found pages h page wrong =
       let down = gone.down reported pages h page wrong in
-      let same = sym (same-bytes old mid gone.reads reported) in
+      let same = sym (same-bytes old mid gone.reads.reads reported) in
       down.on at (found pages h down.below (subst (λ image. IsPageNotRight pages h image tail marks at down.below) (sym same) down.wrong))
 
   -- The way goes on to the next block.
-  pub gone-more : (tail : ℕ) (marks : List Mark) (block at next : ℕ) (old mid new : D) (piece after : PieceValue) → HasGone tail marks block at old mid piece → next < at → OnlyReads disk mid new → CanReadTo disk tail after new → (disk.is_observable → IsNextFrom (disk.contents mid) tail marks at (Some next)) → HasGone tail marks block next old new after
-  gone-more tail marks block at next old mid new piece after gone lower reads can found = record {
+  pub gone-more : (tail : ℕ) (marks : List Mark) (block at next : ℕ) (old mid new : D) (piece after : PieceValue) → HasGone tail marks block at old mid piece → next < at → ReadsBelow disk tail mid new after → (disk.is_observable → IsNextFrom (disk.contents mid) tail marks at (Some next)) → HasGone tail marks block next old new after
+  gone-more tail marks block at next old mid new piece after gone lower reads found = record {
     below = let low = gone.below in omega arith;
-    reads = OnlyReads-trans old mid new gone.reads reads;
-    can = can;
+    reads = reads-more tail old mid new piece after gone.reads reads;
     down = λ reported pages h page wrong.
         let down = gone.down reported pages h page wrong in
-        let same = sym (same-bytes old mid gone.reads reported) in
+        let same = sym (same-bytes old mid gone.reads.reads reported) in
         let further = found reported pages h down.below (subst (λ image. IsPageNotRight pages h image tail marks at down.below) (sym same) down.wrong) in
         goes-on pages h (disk.contents old) tail marks block at next page down (subst (λ image. GoesDown pages h image tail marks at down.below next) same further);
   }

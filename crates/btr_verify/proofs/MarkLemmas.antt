@@ -17,11 +17,11 @@ use Rattle.btr_pages.proofs.KnownLemmas.{known-at, block-at}
 use Rattle.btr_hist.specs.declared.entry.Entry.{Entry}
 use Rattle.btr_streams.specs.declared.snapshot.Snapshot.{Snapshot}
 use Rattle.btr_verify.specs.declared.judging.Mark.{Mark}
-use Rattle.btr_log.specs.Reads.{OnlyReads}
 use Rattle.btr_verify.specs.Trees.{AreStoredAt}
-use Rattle.btr_verify.specs.Judging.{CanReadTo, IsPageRead, IsKnownPage, AreMarked, AreMarksOf, CanJudge, IsMarkOf}
+use Rattle.btr_verify.specs.Judging.{ReadsBelow, IsPageRead, IsKnownPage, AreMarked, AreMarksOf, CanJudge, IsMarkOf}
 use Rattle.btr_verify.proofs.JudgeLemmas.{stored-page}
-use Rattle.btr_log.proofs.OnlyReading.{OnlyReads-trans, same-bytes}
+use Rattle.btr_verify.proofs.ReadLemmas.{reads-more}
+use Rattle.btr_log.proofs.OnlyReading.{same-bytes}
 
 -- ---- the page in a block
 
@@ -55,18 +55,16 @@ marked-more pages h n marks mark marked last =
 module _ {D : Type 0} (disk : Ghosts D) where
   -- The pages of the blocks so far were judged. The calls only read.
   pub record HasMarked (tail : ℕ) (nodes : TreesValue) (snapshot : Snapshot) (old new : D) (piece : PieceValue) (n : ℕ) (marks : List Mark) : Type 0 where
-    pub reads : OnlyReads disk old new
-    pub can : CanReadTo disk tail piece new
+    pub reads : ReadsBelow disk tail old new piece
     pub marked : disk.is_observable → AreMarksOf (disk.contents old) nodes snapshot n marks
 
   -- One block more was judged, by its page.
-  pub has-more : (tail : ℕ) (nodes : TreesValue) (snapshot : Snapshot) (old mid new : D) (piece after : PieceValue) (n : ℕ) (marks : List Mark) (page : Option NodePage) (mark : Mark) → HasMarked tail nodes snapshot old mid piece n marks → OnlyReads disk mid new → CanReadTo disk tail after new → (disk.is_observable → IsKnownPage (disk.contents mid) nodes n page) → ((pages : Pages) (h : List Entry) (image : Image) (block : ℕ) → CanJudge pages h image block marks snapshot page → IfSome page (IsMarkOf pages h block mark)) → HasMarked tail nodes snapshot old new after (n + 1) (marks ++ mark ∷ [])
-  has-more tail nodes snapshot old mid new piece after n marks page mark so_far reads can known says = record {
-    reads = OnlyReads-trans old mid new so_far.reads reads;
-    can = can;
+  pub has-more : (tail : ℕ) (nodes : TreesValue) (snapshot : Snapshot) (old mid new : D) (piece after : PieceValue) (n : ℕ) (marks : List Mark) (page : Option NodePage) (mark : Mark) → HasMarked tail nodes snapshot old mid piece n marks → ReadsBelow disk tail mid new after → (disk.is_observable → IsKnownPage (disk.contents mid) nodes n page) → ((pages : Pages) (h : List Entry) (image : Image) (block : ℕ) → CanJudge pages h image block marks snapshot page → IfSome page (IsMarkOf pages h block mark)) → HasMarked tail nodes snapshot old new after (n + 1) (marks ++ mark ∷ [])
+  has-more tail nodes snapshot old mid new piece after n marks page mark so_far reads known says = record {
+    reads = reads-more tail old mid new piece after so_far.reads reads;
     marked = λ reported pages h trees.
         let before = so_far.marked reported pages h trees in
-        let stored = subst (λ image. AreStoredAt image pages) (same-bytes old mid so_far.reads reported) trees.stored in
+        let stored = subst (λ image. AreStoredAt image pages) (same-bytes old mid so_far.reads.reads reported) trees.stored in
         let is = known reported pages trees.known stored in
         marked-more pages h n marks mark before (subst (λ o. IfSome o (IsMarkOf pages h n mark)) (sym is) (says pages h (disk.contents mid) n (record { of = trees.of; is = is; stored = stored; marked = before })));
   }

@@ -3,6 +3,7 @@ use Rattle.std.specs.Prelude.{◌≡◌, ℕ, ◌^◌, ◌<◌, ◌≤◌, List,
 use Rattle.btr_disk.specs.declared.disk.Disk.{Ghosts}
 use Rattle.btr_disk.specs.Bytes.{Image}
 use Rattle.btr_log.specs.Piece.{PieceValue, IsPieceOf}
+use Rattle.btr_log.specs.Reads.{OnlyReads}
 use Rattle.btr_tree.specs.History.{Past}
 use Rattle.btr_tree.specs.NewNodes.{NewNodeValue}
 use Rattle.btr_tree.specs.Root.{root_part}
@@ -32,6 +33,11 @@ module _ {D : Type 0} (disk : Ghosts D) where
     pub inside : tail ≤ disk.size d
     pub addressable : tail ≤ 2 ^ 32
     pub holds : disk.is_observable → IsPieceOf (disk.contents d) piece
+
+  -- The calls between two states of a device wrote nothing, and after them blocks below the tail can be read into the piece.
+  pub record ReadsBelow (tail : ℕ) (old new : D) (piece : PieceValue) : Type 0 where
+    pub reads : OnlyReads disk old new
+    pub can : CanReadTo tail piece new
 
 -- If the block has a page that stands rightly among others, it was read.
 abbrev pub IsPageRead : Image → ℕ → Option NodePage → Type 0

@@ -2,7 +2,7 @@
 ghost use Rattle.std.specs.Prelude.{◌<◌, IfErr, IfOk, IfSome};
 ghost use Rattle.btr_log.specs.Reads.{OnlyReads};
 ghost use Rattle.btr_verify.specs.Trees.{VerifyCause};
-ghost use Rattle.btr_verify.specs.Judging.{CanReadTo, IsNamedFrom, IsNextFrom};
+ghost use Rattle.btr_verify.specs.Judging.{CanReadTo, IsNamedFrom, IsNextFrom, ReadsBelow};
 
 use crate::judging::{Mark, first_not_right, is_wrong_below};
 use crate::reading::read_page;
@@ -43,8 +43,7 @@ fn wrong_child<D: Disk>(
 ) -> Result<Option<u64>, VerifyFault>
     requires below { block < tail }
     requires can { CanReadTo ⟦<D as Disk>⟧ tail piece.old disk.old }
-    ensures reads { OnlyReads ⟦<D as Disk>⟧ disk.old disk.new }
-    ensures can { CanReadTo ⟦<D as Disk>⟧ tail piece.new disk.new }
+    ensures reads { ReadsBelow ⟦<D as Disk>⟧ tail disk.old disk.new piece.new }
     ensures lower { IfOk result (λ o. IfSome o (λ child. child < block)) }
     ensures child { D.is_observable → IfOk result (IsNextFrom (D.contents disk.old) tail marks.now block) }
     ensures cause { IfErr result (VerifyCause ⟦<D as Disk>⟧ disk.old disk.new) }

@@ -4,9 +4,8 @@ ghost use Rattle.btr_disk.specs.Bytes.{Image};
 ghost use Rattle.btr_node.specs.Page.{Keeps};
 ghost use Rattle.btr_tree.specs.PageNodes.{Pages};
 ghost use Rattle.btr_hist.specs.declared.entry.Entry.{Entry as EntrySpec};
-ghost use Rattle.btr_log.specs.Reads.{OnlyReads};
 ghost use Rattle.btr_verify.specs.Trees.{VerifyCause};
-ghost use Rattle.btr_verify.specs.Judging.{AreMarksOf, CanJudge, CanReadTo, IsKnownPage, IsMarkOf};
+ghost use Rattle.btr_verify.specs.Judging.{AreMarksOf, CanJudge, CanReadTo, IsKnownPage, IsMarkOf, ReadsBelow};
 
 use crate::judging::{Mark, judge};
 use crate::reading::read_page;
@@ -28,8 +27,7 @@ pub(crate) fn mark_blocks<D: Disk>(
     tail: u64,
 ) -> Result<Vec<Mark>, VerifyFault>
     requires can { CanReadTo ⟦<D as Disk>⟧ tail piece.old disk.old }
-    ensures reads { OnlyReads ⟦<D as Disk>⟧ disk.old disk.new }
-    ensures can { CanReadTo ⟦<D as Disk>⟧ tail piece.new disk.new }
+    ensures reads { ReadsBelow ⟦<D as Disk>⟧ tail disk.old disk.new piece.new }
     ensures marked { D.is_observable → IfOk result (λ marks. AreMarksOf (D.contents disk.old) nodes.now snapshot.now tail marks.items) }
     ensures cause { IfErr result (VerifyCause ⟦<D as Disk>⟧ disk.old disk.new) }
 {
@@ -52,8 +50,7 @@ fn known_page<D: Disk>(
 ) -> Result<Option<NodePage>, VerifyFault>
     requires below { block < tail }
     requires can { CanReadTo ⟦<D as Disk>⟧ tail piece.old disk.old }
-    ensures reads { OnlyReads ⟦<D as Disk>⟧ disk.old disk.new }
-    ensures can { CanReadTo ⟦<D as Disk>⟧ tail piece.new disk.new }
+    ensures reads { ReadsBelow ⟦<D as Disk>⟧ tail disk.old disk.new piece.new }
     ensures keeps { IfOk result (λ o. IfSome o (λ page. Keeps page)) }
     ensures page { D.is_observable → IfOk result (IsKnownPage (D.contents disk.old) nodes.now block) }
     ensures cause { IfErr result (VerifyCause ⟦<D as Disk>⟧ disk.old disk.new) }

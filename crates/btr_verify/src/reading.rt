@@ -2,9 +2,8 @@
 ghost use Rattle.std.specs.Prelude.{◌≡◌, ◌<◌, IfErr, IfOk, IfSome, OnOk};
 ghost use Rattle.btr_log.specs.Piece.{HoldsBlocks};
 ghost use Rattle.btr_node.specs.Page.{Fits, Keeps};
-ghost use Rattle.btr_log.specs.Reads.{OnlyReads};
 ghost use Rattle.btr_verify.specs.Trees.{VerifyCause};
-ghost use Rattle.btr_verify.specs.Judging.{CanReadTo, IsPageRead};
+ghost use Rattle.btr_verify.specs.Judging.{CanReadTo, IsPageRead, ReadsBelow};
 
 use crate::verifying::VerifyFault;
 use btr_disk::Disk;
@@ -21,8 +20,7 @@ pub(crate) fn read_page<D: Disk>(
 ) -> Result<Option<NodePage>, VerifyFault>
     requires below { block < tail }
     requires can { CanReadTo ⟦<D as Disk>⟧ tail piece.old disk.old }
-    ensures reads { OnlyReads ⟦<D as Disk>⟧ disk.old disk.new }
-    ensures can { CanReadTo ⟦<D as Disk>⟧ tail piece.new disk.new }
+    ensures reads { ReadsBelow ⟦<D as Disk>⟧ tail disk.old disk.new piece.new }
     ensures keeps { IfOk result (λ o. IfSome o (λ page. Keeps page)) }
     ensures fits { IfOk result (λ o. IfSome o (λ page. Fits page)) }
     ensures page { D.is_observable → IfOk result (IsPageRead (D.contents disk.old) block) }
@@ -36,8 +34,7 @@ pub(crate) fn read_page<D: Disk>(
 fn hold<D: Disk>(piece: &mut Piece, disk: &mut D, tail: u64, block: u64) -> Result<(), VerifyFault>
     requires below { block < tail }
     requires can { CanReadTo ⟦<D as Disk>⟧ tail piece.old disk.old }
-    ensures reads { OnlyReads ⟦<D as Disk>⟧ disk.old disk.new }
-    ensures can { CanReadTo ⟦<D as Disk>⟧ tail piece.new disk.new }
+    ensures reads { ReadsBelow ⟦<D as Disk>⟧ tail disk.old disk.new piece.new }
     ensures held { OnOk result (HoldsBlocks piece.new block 1) }
     ensures cause { IfErr result (VerifyCause ⟦<D as Disk>⟧ disk.old disk.new) }
 {

@@ -7,8 +7,13 @@ use Rattle.std.proofs.lemmas.Bool.Decides.{nat_tests}
 use Rattle.btr_base.specs.declared.cell.Cell.{Cell}
 use Rattle.btr_base.specs.declared.grid.Grid.{Grid}
 use Rattle.btr_base.specs.Agg.{AggValue, joined}
-use Rattle.btr_base.specs.Windows.{window_of, window_at, begin_of}
-use Rattle.btr_window.specs.Accumulate.{add_part, IsStart, AreStarts}
+use Rattle.btr_base.specs.Range.{RangeValue, IsRange}
+use Rattle.btr_base.specs.Span.{SpanValue}
+use Rattle.btr_base.specs.Windows.{window_of, window_at, begin_of, IsGrid}
+use Rattle.btr_tree.specs.Root.{root_part}
+use Rattle.btr_tree.proofs.RootLemmas.{root-meets}
+use Rattle.btr_window.specs.Accumulate.{add_part, IsStart, AreStarts, MeetsWindows}
+use Rattle.btr_window.specs.declared.part.WindowRange.{WindowRange}
 use Rattle.btr_window.proofs.Adding.{cell}
 use Rattle.btr_window.proofs.Cells.{in_window}
 
@@ -48,3 +53,11 @@ starts-part grid (c ∷ []) start a all is =
       | false ↦ (all.0, (is, tt))
     ]
 starts-part grid (c ∷ d ∷ cs) start a all is = (all.0, starts-part grid (d ∷ cs) start a all.1 is)
+
+-- ---- A range that begins at a start.
+
+-- The windows of a range that begins at a start meet the span of the root.
+pub root-windows : (w : WindowRange) (inside : RangeValue) (span : SpanValue) → IsGrid w.grid.first w.grid.width → IsStart w.grid w.range.from → IsRange inside → inside ≡ w.range → span ≡ root_part → MeetsWindows w span
+root-windows w inside span grid begins is same whole =
+    let first = begins.1 in
+    record { is_grid = grid; behind = omega (arith, ints); met = root-meets inside w.range span is same whole }

@@ -1,4 +1,4 @@
-use Rattle.std.proofs.Common.{refl, ap, ◌∙◌, inl, arith}
+use Rattle.std.proofs.Common.{refl, ◌∙◌, inl, arith}
 use Rattle.std.proofs.lemmas.Result.{err_from_is_err_and}
 use Rattle.btr_base.specs.Changes.{changes as changes_of}
 use Rattle.btr_base.proofs.ChangesLemmas.{changes-cut}

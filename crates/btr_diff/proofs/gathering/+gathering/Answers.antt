@@ -12,11 +12,11 @@ use Rattle.btr_tree.specs.NodeSource.{AreSlotsAt, IfRefused, UsesSource}
 use Rattle.btr_tree.proofs.NodeLemmas.{slot-first, prefix-none, prefix-part, prefix-done}
 use Rattle.btr_tree.proofs.RangeSlotLemmas.{prefix-gap}
 use Rattle.btr_tree.proofs.SourceLemmas.{place-safe, place-below, uses-then}
-use Rattle.btr_diff.specs.Comparison.{AreReady, IsPlace}
+use Rattle.btr_diff.specs.Comparison.{AreReady}
 use Rattle.btr_diff.proofs.Found.{found-leaf, safe-leaf, refused-earlier}
 use Rattle.btr_diff.proofs.Nodes.{ready-later, ready-leaf, ready-slot, ready-next, ready-done, slot-in_domain}
-use Rattle.btr_diff.proofs.Newer.{leaf-some, older-visited, older-slots, nodes-slot, nodes-more}
-use Rattle.btr_diff.proofs.Slots.{slots-part, slots-place}
+use Rattle.btr_diff.proofs.Newer.{leaf-some, older-visited, older-slots, nodes-more}
+use Rattle.btr_diff.proofs.Slots.{slots-part, slots-place, older-next, older-end}
 use Rattle.btr_diff.proofs.gathering.+gathering.Goals as goal
 
 -- ---- One place.
@@ -104,7 +104,8 @@ gather_slots-loop-i-preserved g t c =
     let slots = src.inner_slot c.args.slots.now in
     let places = src.inner_place c.args.slots.now in
     let told = src.told c.args.state.now in
-    let place : (h : Past) → AreSlotsAt (src.IsAt told) places slots span h → IsPlace (src.site c.place.result) (src.IsAt (src.told c.loop-i.state)) part h = λ h at. slots-place (src.IsAt (src.told c.loop-i.state)) places slots span h i part (src.site c.place.result) (subst (λ u. AreSlotsAt (src.IsAt u) places slots span h) (sym so_far.same) at) number c.slot.ensures c.place.ensures in
+    let now = src.told c.loop-i.state in
+    let site = src.site c.place.result in
     record {
       place = omega arith;
       same = done.uses.same ∙ so_far.same;
@@ -115,13 +116,11 @@ gather_slots-loop-i-preserved g t c =
           let is = slots-part (src.IsAt told) places slots span h i part at c.slot.ensures in
           let skipped = prefix-gap at.below start h slots c.loop-i.from i at.all next.0 (omega arith) next.3 in
           let before = so_far.points h at ∙ ap (λ x. c.args.points.now.items ++ x) (sym skipped) in
-          let here = place h at in
+          let here = slots-place src.IsAt told now places slots span i part site so_far.same number c.slot.ensures c.place.ensures h at in
           points-more c.args.points.now.items (within start (slot_start at.below start i) (bag h)) (points_of part.height part.start (bag h)) (within start (slot_start at.below start (i + 1)) (bag h)) c.loop-i.points.items c.gather_place.new.points.items (prefix-part at.below start i h part is) before (done.points here.0 h here.1);
       older = λ h at.
-          let is = slots-part (src.IsAt told) places slots span h i part at c.slot.ensures in
           let few = nodes-more at.below start c.loop-i.from i (bag h) c.args.older.now c.loop-i.older next.0 (so_far.older h at) in
-          let here = done.older.bounded h (place h at) in
-          let all = nodes-slot at.below start i part (bag h) c.args.older.now c.loop-i.older c.gather_place.new.older 0 is few (omega arith) in
+          let all = older-next src.IsAt told now places slots span i part site so_far.same number c.slot.ensures c.place.ensures c.args.older.now c.loop-i.older c.gather_place.new.older _ done.older h at few in
           omega arith;
       never_falls = let low = so_far.never_falls in
           let high = done.older.never_falls in omega arith;
@@ -137,26 +136,12 @@ gather_slots-returns-in_err-gather_place-clause-uses g t c =
 pub gather_slots-returns-in_err-gather_place-clause-older : goal.gather_slots-returns-in_err-gather_place-clause-older
 gather_slots-returns-in_err-gather_place-clause-older g t c =
     let src = g.S.NodeSource in
-    let span = c.args.span in
-    let start = span.start in
-    let i = c.in-Some.i in
-    let part = c.slot.result in
+    let here = c.args.slots.now in
     let next = c.in-Some.ensures in
-    let number : i < 64 = next.1 in
     let so_far = c.loop-i.invariant in
-    let done = c.in_err-gather_place.ensures.older in
-    let low = so_far.never_falls in
-    let high = done.never_falls in
-    let slots = src.inner_slot c.args.slots.now in
-    let places = src.inner_place c.args.slots.now in
-    let told = src.told c.args.state.now in
+    let few = λ (h : Past) (at : AreSlotsAt (src.IsAt (src.told c.args.state.now)) (src.inner_place here) (src.inner_slot here) c.args.span h). nodes-more at.below c.args.span.start c.loop-i.from c.in-Some.i (bag h) c.args.older.now c.loop-i.older next.0 (so_far.older h at) in
     let p = err_from_is_err_and c.from_residual.result c.from_residual.ensures.1 in
-    rw (p.1, p.2) (older-slots (src.IsAt told) places slots span (i + 1) c.args.older.now c.gather_place.new.older _ (omega arith) (λ h at.
-    let is = slots-part (src.IsAt told) places slots span h i part at c.slot.ensures in
-    let place = slots-place (src.IsAt (src.told c.loop-i.state)) places slots span h i part (src.site c.place.result) (subst (λ u. AreSlotsAt (src.IsAt u) places slots span h) (sym so_far.same) at) number c.slot.ensures c.place.ensures in
-    let few = nodes-more at.below start c.loop-i.from i (bag h) c.args.older.now c.loop-i.older next.0 (so_far.older h at) in
-    let here = done.bounded h place in
-    nodes-slot at.below start i part (bag h) c.args.older.now c.loop-i.older c.gather_place.new.older _ is few (omega (arith, here))) (omega arith))
+    rw (p.1, p.2) (older-end src.IsAt (src.told c.args.state.now) (src.told c.loop-i.state) (src.inner_place here) (src.inner_slot here) c.args.span c.in-Some.i c.slot.result (src.site c.place.result) so_far.same next.1 c.slot.ensures c.place.ensures c.args.older.now c.loop-i.older c.gather_place.new.older _ c.in_err-gather_place.ensures.older so_far.never_falls few)
 
 pub gather_slots-returns-clause-ready : goal.gather_slots-returns-clause-ready
 gather_slots-returns-clause-ready g t c =

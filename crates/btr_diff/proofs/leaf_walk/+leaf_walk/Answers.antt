@@ -8,14 +8,14 @@ use Rattle.btr_base.specs.Bag.{IsInOrder, is_within, within}
 use Rattle.btr_base.proofs.ListLemmas.{each-filter}
 use Rattle.btr_base.proofs.WithinLemmas.{within-in_order}
 use Rattle.btr_tree.specs.EachHistory.{points_in}
-use Rattle.btr_tree.specs.History.{Past, bag}
+use Rattle.btr_tree.specs.History.{bag}
 use Rattle.btr_tree.specs.Nodes.{is_inner}
 use Rattle.btr_tree.specs.NodeSource.{AreSafeSlots, AreSlotsAt, IfRefused, UsesSource}
 use Rattle.btr_tree.proofs.SourceLemmas.{uses-then}
 use Rattle.btr_diff.proofs.Found.{found-leaf, found-inner, safe-leaf, safe-inner, refused-earlier}
 use Rattle.btr_diff.proofs.Nodes.{safe-points, no-points}
-use Rattle.btr_diff.proofs.Slots.{adds-as, adds-first, adds-slot, adds-passed, adds-done, slots-inner, slots-part, slots-slot, slot-points}
-use Rattle.btr_diff.proofs.Newer.{slot-visited, slot-walked, below-sum, bounded-slot, bounded-exit}
+use Rattle.btr_diff.proofs.Slots.{adds-as, adds-first, adds-slot, adds-passed, adds-done, slots-inner, slots-part, slots-slot, newer-next, newer-end, slot-points}
+use Rattle.btr_diff.proofs.Newer.{slot-visited, slot-walked, below-sum, bounded-slot}
 use Rattle.btr_diff.proofs.leaf_walk.+leaf_walk.Goals as goal
 
 -- ---- One slot.
@@ -126,40 +126,37 @@ compare_points_with_slots-loop-i-init g t c =
     }
 
 pub compare_points_with_slots-loop-i-preserved : goal.compare_points_with_slots-loop-i-preserved
-unfolding slots-slot
 compare_points_with_slots-loop-i-preserved g t c =
     let src = g.S.NodeSource in
     let span = c.args.task.span in
-    let start = span.start in
     let by = c.args.task.by in
+    let told = src.told c.args.state.now in
+    let at = src.told c.loop-i.state in
     let i = c.loop-i.i in
     let part = c.slot.result in
     let new = c.args.new.now in
+    let slot = c.newer_slot-slot.result in
+    let read = c.newer_slot-slot.ensures in
     let low : i < 64 = omega arith in
     let before = c.loop-i.invariant in
     let done = c.in_ok-compare_points_with_slot.ensures in
-    let uses = done.uses in
-    let up = uses.rises in
+    let up = done.uses.rises in
     let was = before.rises in
-    let read = c.newer_slot-slot.ensures in
-    let is_slot = λ (k : Past) (slots : AreSlotsAt (src.IsAt (src.told c.args.state.now)) (src.inner_place new) (src.inner_slot new) span k).
-    slots-slot (src.IsAt (src.told c.loop-i.state)) (src.inner_place new) (src.inner_slot new) span k i part c.newer_slot-slot.result.version c.newer_slot-slot.result.count (src.site c.newer_slot-slot.result.place) (subst (λ t. AreSlotsAt (src.IsAt t) (src.inner_place new) (src.inner_slot new) span k) (sym before.same) slots) low c.slot.ensures read.version read.count read.place in
     record {
-      same = uses.same ∙ before.same;
+      same = done.uses.same ∙ before.same;
       rises = omega arith;
       adds = λ h k same slots agree.
-          let is = slots-part (src.IsAt (src.told c.args.state.now)) (src.inner_place new) (src.inner_slot new) span k i part slots c.slot.ensures in
+          let is = slots-part (src.IsAt told) (src.inner_place new) (src.inner_slot new) span k i part slots c.slot.ensures in
           let old = slot-points span slots.below i part h c.args.old.now slots.above low is same in
-          adds-slot by c.args.changed.now c.loop-i.changed c.compare_points_with_slot.new.changed slots.below start i part h k is (before.adds h k same slots agree) (done.adds h k old (is_slot k slots) agree);
+          let is_slot = slots-slot src.IsAt told at (src.inner_place new) (src.inner_slot new) span i part (src.site slot.place) before.same low c.slot.ensures read.place slot.version slot.count read.version read.count k slots in
+          adds-slot by c.args.changed.now c.loop-i.changed c.compare_points_with_slot.new.changed slots.below span.start i part h k is (before.adds h k same slots agree) (done.adds h k old is_slot agree);
       bounded = λ k slots.
-          let is = slots-part (src.IsAt (src.told c.args.state.now)) (src.inner_place new) (src.inner_slot new) span k i part slots c.slot.ensures in
-          bounded-slot slots.below start i part k by.since c.args.steps.now c.loop-i.steps c.compare_points_with_slot.new.steps is (before.bounded k slots) (done.newer.bounded k (is_slot k slots));
+          newer-next src.IsAt told at (src.inner_place new) (src.inner_slot new) span i part (src.site slot.place) before.same low c.slot.ensures read.place slot.version slot.count read.version read.count by c.args.steps.now c.loop-i.steps c.compare_points_with_slot.new.steps done.newer k slots (before.bounded k slots);
       never_falls = let down = before.never_falls in
           let high = done.newer.never_falls in omega arith;
     }
 
 pub compare_points_with_slots-loop-i-preserved-then-slot-task : goal.compare_points_with_slots-loop-i-preserved-then-slot-task
-unfolding slots-slot
 compare_points_with_slots-loop-i-preserved-then-slot-task g t c =
     let src = g.S.NodeSource in
     let span = c.args.task.span in
@@ -179,7 +176,7 @@ compare_points_with_slots-loop-i-preserved-then-slot-task g t c =
       rises = before.rises;
       adds = λ h k same slots agree.
           let is = slots-part (src.IsAt told) (src.inner_place new) (src.inner_slot new) span k i part slots refl in
-          let here = slots-slot (src.IsAt told) (src.inner_place new) (src.inner_slot new) span k i part slot.version slot.count (src.site slot.place) slots low refl read.version read.count read.place in
+          let here = slots-slot src.IsAt told told (src.inner_place new) (src.inner_slot new) span i part (src.site slot.place) refl low refl read.place slot.version slot.count read.version read.count k slots in
           adds-slot by c.args.changed.now changed changed slots.below start i part h k is (before.adds h k same slots agree) (adds-passed (src.IsAt told) by changed part slot.version slot.count (src.site slot.place) h k c.if-slot-task.true here agree);
       bounded = λ k slots.
           let is = slots-part (src.IsAt told) (src.inner_place new) (src.inner_slot new) span k i part slots refl in
@@ -206,27 +203,13 @@ compare_points_with_slots-returns-clause-newer g t c =
     }
 
 pub compare_points_with_slots-returns-in_err-compare_points_with_slot-clause-newer : goal.compare_points_with_slots-returns-in_err-compare_points_with_slot-clause-newer
-unfolding slots-slot
 compare_points_with_slots-returns-in_err-compare_points_with_slot-clause-newer g t c =
     let src = g.S.NodeSource in
-    let span = c.args.task.span in
-    let i = c.loop-i.i in
-    let part = c.slot.result in
     let new = c.args.new.now in
-    let since = c.args.task.by.since in
-    let low : i < 64 = omega arith in
-    let before = c.loop-i.invariant in
-    let done = c.compare_points_with_slot.ensures.newer in
+    let slot = c.newer_slot-slot.result in
     let read = c.newer_slot-slot.ensures in
-    record {
-      bounded = λ k slots.
-          let inner = slots-inner (src.IsAt (src.told c.args.state.now)) (src.inner_place new) (src.inner_slot new) span k slots in
-          let is = slots-part (src.IsAt (src.told c.args.state.now)) (src.inner_place new) (src.inner_slot new) span k i part slots c.slot.ensures in
-          let slot = slots-slot (src.IsAt (src.told c.loop-i.state)) (src.inner_place new) (src.inner_slot new) span k i part c.newer_slot-slot.result.version c.newer_slot-slot.result.count (src.site c.newer_slot-slot.result.place) (subst (λ t. AreSlotsAt (src.IsAt t) (src.inner_place new) (src.inner_slot new) span k) (sym before.same) slots) low c.slot.ensures read.version read.count read.place in
-          bounded-exit span.height slots.below span.start i k since c.args.steps.now c.compare_points_with_slot.new.steps slots.above inner low (bounded-slot slots.below span.start i part k since c.args.steps.now c.loop-i.steps c.compare_points_with_slot.new.steps is (before.bounded k slots) (done.bounded k slot));
-      never_falls = let down = before.never_falls in
-          let high = done.never_falls in omega arith;
-    }
+    let before = c.loop-i.invariant in
+    newer-end src.IsAt (src.told c.args.state.now) (src.told c.loop-i.state) (src.inner_place new) (src.inner_slot new) c.args.task.span c.loop-i.i c.slot.result (src.site slot.place) before.same (omega arith) c.slot.ensures read.place slot.version slot.count read.version read.count c.args.task.by c.args.steps.now c.loop-i.steps c.compare_points_with_slot.new.steps c.compare_points_with_slot.ensures.newer before.never_falls before.bounded
 
 pub compare_points_with_slots-returns-in_err-compare_points_with_slot-clause-uses : goal.compare_points_with_slots-returns-in_err-compare_points_with_slot-clause-uses
 compare_points_with_slots-returns-in_err-compare_points_with_slot-clause-uses g t c =

@@ -1,17 +1,17 @@
 use Rattle.std.specs.Prelude.{Ok, Err}
-use Rattle.std.proofs.Common.{◌+◌, ◌<◌, refl, sym, ◌∙◌, subst, arith}
+use Rattle.std.proofs.Common.{◌<◌, refl, sym, ◌∙◌, subst, arith}
 use Rattle.std.proofs.lemmas.Result.{on_ok_weaker, err_from_is_err_and}
 use Rattle.btr_base.specs.Span.{slot_of}
 use Rattle.btr_tree.specs.EachHistory.{points_in}
-use Rattle.btr_tree.specs.History.{Past, bag}
+use Rattle.btr_tree.specs.History.{bag}
 use Rattle.btr_tree.specs.Nodes.{is_inner}
 use Rattle.btr_tree.specs.NodeSource.{AreSafeSlots, AreSlotsAt, IsFoundAt, IsSafeFound, IfRefused, UsesSource}
 use Rattle.btr_tree.proofs.SourceLemmas.{place-safe, place-below, uses-then}
 use Rattle.btr_diff.specs.Comparison.{ArePoints, CountsOlder, IsPlace, AreSlotsOf}
 use Rattle.btr_diff.proofs.Found.{found-nothing, found-leaf, found-inner, safe-leaf, safe-inner, refused-weaker, refused-earlier}
 use Rattle.btr_diff.proofs.Nodes.{safe-points, no-points, slot-in_domain}
-use Rattle.btr_diff.proofs.Slots.{adds-first, adds-slot, adds-passed, adds-done, slots-inner, slots-part, slots-place, slots-slot}
-use Rattle.btr_diff.proofs.Newer.{leaf-some, slot-visited, slot-walked, below-sum, bounded-slot, bounded-exit, older-visited, older-inner, older-slots, nodes-slot}
+use Rattle.btr_diff.proofs.Slots.{adds-first, adds-slot, adds-passed, adds-done, slots-inner, slots-part, slots-place, slots-slot, older-next, older-end, newer-next, newer-end}
+use Rattle.btr_diff.proofs.Newer.{leaf-some, slot-visited, slot-walked, below-sum, bounded-slot, older-visited, older-inner, older-slots, nodes-slot}
 use Rattle.btr_diff.proofs.tree_walk.+tree_walk.Goals as goal
 
 -- ---- What was found of the newer tree.
@@ -321,25 +321,22 @@ compare_slots-compare_slot-requires g t c κs o =
     (omega arith, (o.0, (o.1.0, (o.1.1.0, (o.1.1.1.0, (o.1.1.1.1.0, (o.1.1.1.1.1.0, (o.1.1.1.1.1.1.0, (o.1.1.1.1.1.1.1, ((c.requires.task.0, inside), (before, record { safe = here; newer = omega (arith, c.if-slot-task.false) })))))))))))
 
 pub compare_slots-loop-i-preserved : goal.compare_slots-loop-i-preserved
-unfolding slots-slot
 compare_slots-loop-i-preserved g t c =
     let src = g.S.NodeSource in
     let span = c.args.task.span in
-    let start = span.start in
     let by = c.args.task.by in
     let told = src.told c.args.state.now in
     let at = src.told c.loop-i.state in
     let i = c.loop-i.i in
     let part = c.slot.result in
+    let is_part = c.slot.ensures in
+    let place = src.site c.place-place.result in
+    let slot = c.newer_slot-slot.result in
+    let read = c.newer_slot-slot.ensures in
     let old = c.args.old.now in
     let new = c.args.new.now in
     let low : i < 64 = omega arith in
     let before = c.loop-i.invariant in
-    let read = c.newer_slot-slot.ensures in
-    let is_old : (h : Past) → AreSlotsAt (src.IsAt told) (src.inner_place old) (src.inner_slot old) span h → IsPlace (src.site c.place-place.result) (src.IsAt at) part h = λ h slots.
-    slots-place (src.IsAt at) (src.inner_place old) (src.inner_slot old) span h i part (src.site c.place-place.result) (subst (λ u. AreSlotsAt (src.IsAt u) (src.inner_place old) (src.inner_slot old) span h) (sym before.same) slots) low c.slot.ensures c.place-place.ensures in
-    let is_slot = λ (k : Past) (slots : AreSlotsAt (src.IsAt told) (src.inner_place new) (src.inner_slot new) span k).
-    slots-slot (src.IsAt at) (src.inner_place new) (src.inner_slot new) span k i part c.newer_slot-slot.result.version c.newer_slot-slot.result.count (src.site c.newer_slot-slot.result.place) (subst (λ u. AreSlotsAt (src.IsAt u) (src.inner_place new) (src.inner_slot new) span k) (sym before.same) slots) low c.slot.ensures read.version read.count read.place in
     let done = c.in_ok-compare_slot.ensures in
     let up = done.uses.rises in
     let was_risen = before.rises in
@@ -347,15 +344,14 @@ compare_slots-loop-i-preserved g t c =
       same = done.uses.same ∙ before.same;
       rises = omega arith;
       adds = λ h k was slots agree.
-          let is = slots-part (src.IsAt told) (src.inner_place new) (src.inner_slot new) span k i part slots c.slot.ensures in
-          adds-slot by c.args.findings.now.changed c.loop-i.findings.changed c.compare_slot.new.findings.changed slots.below start i part h k is (before.adds h k was slots agree) (done.adds h k (is_old h was) (is_slot k slots) agree);
+          let is = slots-part (src.IsAt told) (src.inner_place new) (src.inner_slot new) span k i part slots is_part in
+          let is_old = slots-place src.IsAt told at (src.inner_place old) (src.inner_slot old) span i part place before.same low is_part c.place-place.ensures h was in
+          let is_slot = slots-slot src.IsAt told at (src.inner_place new) (src.inner_slot new) span i part (src.site slot.place) before.same low is_part read.place slot.version slot.count read.version read.count k slots in
+          adds-slot by c.args.findings.now.changed c.loop-i.findings.changed c.compare_slot.new.findings.changed slots.below span.start i part h k is (before.adds h k was slots agree) (done.adds h k is_old is_slot agree);
       newer = λ k slots.
-          let is = slots-part (src.IsAt told) (src.inner_place new) (src.inner_slot new) span k i part slots c.slot.ensures in
-          bounded-slot slots.below start i part k by.since c.args.steps.now c.loop-i.steps c.compare_slot.new.steps is (before.newer k slots) (done.newer.bounded k (is_slot k slots));
+          newer-next src.IsAt told at (src.inner_place new) (src.inner_slot new) span i part (src.site slot.place) before.same low is_part read.place slot.version slot.count read.version read.count by c.args.steps.now c.loop-i.steps c.compare_slot.new.steps done.newer k slots (before.newer k slots);
       older = λ h slots.
-          let is = slots-part (src.IsAt told) (src.inner_place old) (src.inner_slot old) span h i part slots c.slot.ensures in
-          let here = done.older.bounded h (is_old h slots) in
-          let all = nodes-slot slots.below start i part (bag h) c.args.findings.now.older c.loop-i.findings.older c.compare_slot.new.findings.older 0 is (before.older h slots) (omega arith) in
+          let all = older-next src.IsAt told at (src.inner_place old) (src.inner_slot old) span i part place before.same low is_part c.place-place.ensures c.args.findings.now.older c.loop-i.findings.older c.compare_slot.new.findings.older _ done.older h slots (before.older h slots) in
           omega arith;
       newer_never_falls = let down = before.newer_never_falls in
           let high = done.newer.never_falls in omega arith;
@@ -364,7 +360,6 @@ compare_slots-loop-i-preserved g t c =
     }
 
 pub compare_slots-loop-i-preserved-then-slot-task : goal.compare_slots-loop-i-preserved-then-slot-task
-unfolding slots-slot
 compare_slots-loop-i-preserved-then-slot-task g t c =
     let src = g.S.NodeSource in
     let span = c.args.task.span in
@@ -385,7 +380,7 @@ compare_slots-loop-i-preserved-then-slot-task g t c =
       rises = before.rises;
       adds = λ h k was slots agree.
           let is = slots-part (src.IsAt told) (src.inner_place new) (src.inner_slot new) span k i part slots refl in
-          let here = slots-slot (src.IsAt told) (src.inner_place new) (src.inner_slot new) span k i part slot.version slot.count (src.site slot.place) slots low refl read.version read.count read.place in
+          let here = slots-slot src.IsAt told told (src.inner_place new) (src.inner_slot new) span i part (src.site slot.place) refl low refl read.place slot.version slot.count read.version read.count k slots in
           adds-slot by c.args.findings.now.changed changed changed slots.below start i part h k is (before.adds h k was slots agree) (adds-passed (src.IsAt told) by changed part slot.version slot.count (src.site slot.place) h k c.if-slot-task.true here agree);
       newer = λ k slots.
           let is = slots-part (src.IsAt told) (src.inner_place new) (src.inner_slot new) span k i part slots refl in
@@ -424,25 +419,15 @@ compare_slots-returns-clause-older g t c =
     older-slots (src.IsAt (src.told c.args.state.now)) (src.inner_place c.args.old.now) (src.inner_slot c.args.old.now) c.args.task.span c.loop-i.i c.args.findings.now.older c.loop-i.findings.older _ (omega arith) (λ h slots. let few = so_far.older h slots in omega arith) so_far.older_never_falls
 
 pub compare_slots-returns-in_err-compare_slot-clause-sound : goal.compare_slots-returns-in_err-compare_slot-clause-sound
-unfolding slots-slot
 compare_slots-returns-in_err-compare_slot-clause-sound g t c =
     let src = g.S.NodeSource in
-    let span = c.args.task.span in
-    let start = span.start in
-    let by = c.args.task.by in
     let told = src.told c.args.state.now in
     let at = src.told c.loop-i.state in
-    let i = c.loop-i.i in
-    let part = c.slot.result in
-    let old = c.args.old.now in
-    let new = c.args.new.now in
-    let low : i < 64 = omega arith in
-    let before = c.loop-i.invariant in
+    let same = c.loop-i.invariant.same in
+    let slot = c.newer_slot-slot.result in
     let read = c.newer_slot-slot.ensures in
-    let is_old : (h : Past) → AreSlotsAt (src.IsThere told) (src.inner_place old) (src.inner_slot old) span h → IsPlace (src.site c.place-place.result) (src.IsThere at) part h = λ h slots.
-    slots-place (src.IsThere at) (src.inner_place old) (src.inner_slot old) span h i part (src.site c.place-place.result) (subst (λ u. AreSlotsAt (src.IsThere u) (src.inner_place old) (src.inner_slot old) span h) (sym before.same) slots) low c.slot.ensures c.place-place.ensures in
-    let is_slot = λ (k : Past) (slots : AreSlotsAt (src.IsThere told) (src.inner_place new) (src.inner_slot new) span k).
-    slots-slot (src.IsThere at) (src.inner_place new) (src.inner_slot new) span k i part c.newer_slot-slot.result.version c.newer_slot-slot.result.count (src.site c.newer_slot-slot.result.place) (subst (λ u. AreSlotsAt (src.IsThere u) (src.inner_place new) (src.inner_slot new) span k) (sym before.same) slots) low c.slot.ensures read.version read.count read.place in
+    let is_old = slots-place src.IsThere told at (src.inner_place c.args.old.now) (src.inner_slot c.args.old.now) c.args.task.span c.loop-i.i c.slot.result (src.site c.place-place.result) same (omega arith) c.slot.ensures c.place-place.ensures in
+    let is_slot = slots-slot src.IsThere told at (src.inner_place c.args.new.now) (src.inner_slot c.args.new.now) c.args.task.span c.loop-i.i c.slot.result (src.site slot.place) same (omega arith) c.slot.ensures read.place slot.version slot.count read.version read.count in
     let p = err_from_is_err_and c.from_residual.result c.from_residual.ensures.1 in
     rw (p.1, p.2) (refused-weaker {A = Unit {0}} _ _ (Err c.in_err-compare_slot.field-0.0) (λ e f h k was slots. f h k (is_old h was) (is_slot k slots)) c.in_err-compare_slot.ensures.sound)
 
@@ -454,57 +439,18 @@ compare_slots-returns-in_err-compare_slot-clause-uses g t c =
     rw (p.1, p.2) (uses-then src.told src.faults (λ u a b. IfRefused (src.IsCaused u a b)) (λ u a b. IfRefused (src.IsCaused u a b)) c.args.state.now c.loop-i.state c.compare_slot.new.state _ _ (refused-earlier src.IsCaused g.met.S.NodeSource.caused_earlier) before c.in_err-compare_slot.ensures.uses)
 
 pub compare_slots-returns-in_err-compare_slot-clause-newer : goal.compare_slots-returns-in_err-compare_slot-clause-newer
-unfolding slots-slot
 compare_slots-returns-in_err-compare_slot-clause-newer g t c =
     let src = g.S.NodeSource in
-    let span = c.args.task.span in
-    let start = span.start in
-    let by = c.args.task.by in
-    let told = src.told c.args.state.now in
-    let at = src.told c.loop-i.state in
-    let i = c.loop-i.i in
-    let part = c.slot.result in
-    let old = c.args.old.now in
     let new = c.args.new.now in
-    let low : i < 64 = omega arith in
-    let before = c.loop-i.invariant in
+    let slot = c.newer_slot-slot.result in
     let read = c.newer_slot-slot.ensures in
-    let is_old : (h : Past) → AreSlotsAt (src.IsAt told) (src.inner_place old) (src.inner_slot old) span h → IsPlace (src.site c.place-place.result) (src.IsAt at) part h = λ h slots.
-    slots-place (src.IsAt at) (src.inner_place old) (src.inner_slot old) span h i part (src.site c.place-place.result) (subst (λ u. AreSlotsAt (src.IsAt u) (src.inner_place old) (src.inner_slot old) span h) (sym before.same) slots) low c.slot.ensures c.place-place.ensures in
-    let is_slot = λ (k : Past) (slots : AreSlotsAt (src.IsAt told) (src.inner_place new) (src.inner_slot new) span k).
-    slots-slot (src.IsAt at) (src.inner_place new) (src.inner_slot new) span k i part c.newer_slot-slot.result.version c.newer_slot-slot.result.count (src.site c.newer_slot-slot.result.place) (subst (λ u. AreSlotsAt (src.IsAt u) (src.inner_place new) (src.inner_slot new) span k) (sym before.same) slots) low c.slot.ensures read.version read.count read.place in
-    let done = c.in_err-compare_slot.ensures.newer in
-    record {
-      bounded = λ k slots.
-          let inner = slots-inner (src.IsAt told) (src.inner_place new) (src.inner_slot new) span k slots in
-          let is = slots-part (src.IsAt told) (src.inner_place new) (src.inner_slot new) span k i part slots c.slot.ensures in
-          bounded-exit span.height slots.below start i k by.since c.args.steps.now c.compare_slot.new.steps slots.above inner low (bounded-slot slots.below start i part k by.since c.args.steps.now c.loop-i.steps c.compare_slot.new.steps is (before.newer k slots) (done.bounded k (is_slot k slots)));
-      never_falls = let down = before.newer_never_falls in
-          let high = done.never_falls in omega arith;
-    }
+    let before = c.loop-i.invariant in
+    newer-end src.IsAt (src.told c.args.state.now) (src.told c.loop-i.state) (src.inner_place new) (src.inner_slot new) c.args.task.span c.loop-i.i c.slot.result (src.site slot.place) before.same (omega arith) c.slot.ensures read.place slot.version slot.count read.version read.count c.args.task.by c.args.steps.now c.loop-i.steps c.compare_slot.new.steps c.in_err-compare_slot.ensures.newer before.newer_never_falls before.newer
 
 pub compare_slots-returns-in_err-compare_slot-clause-older : goal.compare_slots-returns-in_err-compare_slot-clause-older
 compare_slots-returns-in_err-compare_slot-clause-older g t c =
     let src = g.S.NodeSource in
-    let span = c.args.task.span in
-    let start = span.start in
-    let by = c.args.task.by in
-    let told = src.told c.args.state.now in
-    let at = src.told c.loop-i.state in
-    let i = c.loop-i.i in
-    let part = c.slot.result in
     let old = c.args.old.now in
-    let new = c.args.new.now in
-    let low : i < 64 = omega arith in
     let before = c.loop-i.invariant in
-    let read = c.newer_slot-slot.ensures in
-    let is_old : (h : Past) → AreSlotsAt (src.IsAt told) (src.inner_place old) (src.inner_slot old) span h → IsPlace (src.site c.place-place.result) (src.IsAt at) part h = λ h slots.
-    slots-place (src.IsAt at) (src.inner_place old) (src.inner_slot old) span h i part (src.site c.place-place.result) (subst (λ u. AreSlotsAt (src.IsAt u) (src.inner_place old) (src.inner_slot old) span h) (sym before.same) slots) low c.slot.ensures c.place-place.ensures in
-    let done = c.in_err-compare_slot.ensures.older in
-    let down = before.older_never_falls in
-    let high = done.never_falls in
     let p = err_from_is_err_and c.from_residual.result c.from_residual.ensures.1 in
-    rw (p.1, p.2) (older-slots (src.IsAt told) (src.inner_place old) (src.inner_slot old) span (i + 1) c.args.findings.now.older c.compare_slot.new.findings.older _ (omega arith) (λ h slots.
-    let is = slots-part (src.IsAt told) (src.inner_place old) (src.inner_slot old) span h i part slots c.slot.ensures in
-    let here = done.bounded h (is_old h slots) in
-    nodes-slot slots.below start i part (bag h) c.args.findings.now.older c.loop-i.findings.older c.compare_slot.new.findings.older _ is (before.older h slots) (omega (arith, here))) (omega arith))
+    rw (p.1, p.2) (older-end src.IsAt (src.told c.args.state.now) (src.told c.loop-i.state) (src.inner_place old) (src.inner_slot old) c.args.task.span c.loop-i.i c.slot.result (src.site c.place-place.result) before.same (omega arith) c.slot.ensures c.place-place.ensures c.args.findings.now.older c.loop-i.findings.older c.compare_slot.new.findings.older _ c.in_err-compare_slot.ensures.older before.older_never_falls before.older)

@@ -19,12 +19,12 @@ returns-in-Ok-clause-read g c reported =
     let judge = c.read_log-read.new.judge in
     let read = c.in-Ok.ensures.walked in
     let is = walked-of c.new-walk.result new judge _ (made.same_super ∙ c.first_reading.ensures) read in
-    log-judged g.D.Disk g.J.Judge c.args.found c.args.disk d made.device new.loader judge (record { nodes = new.loader.nodes; tail = new.place.gate }) is.1 read.closed is.0.inside refl reported
+    rw (c.into_parts-disk.ensures.loader, c.into_parts-disk.ensures.place) (log-judged g.D.Disk g.J.Judge c.args.found c.args.disk d made.device new.loader judge (record { nodes = new.loader.nodes; tail = new.place.gate }) is.1 read.closed is.0.inside refl reported)
 
-pub returns-clause-cause : goal.returns-clause-cause
-returns-clause-cause g c =
+pub returns-in-Err-clause-cause : goal.returns-in-Err-clause-cause
+returns-in-Err-clause-cause g c =
     let made = c.new-walk.ensures in
     let d = log_device c.new-walk.result.log in
     let after = log_device c.read_log-read.new.self.log in
     let here = subst (λ s. LogCause g.D.Disk g.J.Judge s d after c.in-Err.cause) (made.same_super ∙ c.first_reading.ensures) c.in-Err.ensures.cause in
-    rw c.into_disk-disk.ensures (cause-judged g.D.Disk g.J.Judge c.args.found c.args.disk d made.device after c.in-Err.cause here)
+    rw c.into_parts-disk.ensures.device (cause-judged g.D.Disk g.J.Judge c.args.found c.args.disk d made.device after c.in-Err.cause here)

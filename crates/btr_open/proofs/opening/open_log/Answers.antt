@@ -18,8 +18,9 @@ returns-in-Ok-clause-read g c =
     let judge = c.read_log-read.new.judge in
     let read = c.in-Ok.ensures.walked in
     let is = walked-of w new judge c.args.found made.same_super read in
-    engine-read judge c.args.found c.args.disk c.into_disk-disk.result c.args.synced.value w.log new.log c.at-log.result new.loader new.place c.over.result
-    made.device c.read_log-read.ensures.walks.reads is.0 is.1 read.closed c.into_disk-disk.ensures c.at-log.ensures c.over.ensures
+    let parts = c.into_parts-disk.ensures in
+    engine-read judge c.args.found c.args.disk c.into_parts-disk.result.0 c.args.synced.value w.log new.log c.at-log.result new.loader new.place c.over.result
+    made.device c.read_log-read.ensures.walks.reads is.0 is.1 read.closed parts.device (rw parts.place at c.at-log.ensures) (rw parts.loader at c.over.ensures)
 
 pub returns-in-Err-clause-cause : goal.returns-in-Err-clause-cause
 returns-in-Err-clause-cause g c =
@@ -31,4 +32,4 @@ returns-in-Err-clause-cause g c =
     let plain = cause-plain _ (λ before e root. tt) disk w.found (log_device w.log) after cause c.in-Err.ensures.cause in
     let here = subst (λ d. StoreCause disk w.found d after cause) made.device plain in
     let found = subst (λ s. StoreCause disk s c.args.disk after cause) made.same_super here in
-    subst (λ d. StoreCause disk c.args.found c.args.disk d cause) (sym c.into_disk-disk.ensures) found
+    subst (λ d. StoreCause disk c.args.found c.args.disk d cause) (sym c.into_parts-disk.ensures.device) found

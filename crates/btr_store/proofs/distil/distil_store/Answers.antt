@@ -3,7 +3,7 @@ use Rattle.std.proofs.Common.{inl, inr}
 use Rattle.std.proofs.lemmas.Bool.{cases_lt}
 use Rattle.btr_store.specs.Distil.{Distils, DistilsInTurn, DistilsStore, SaysSomeReport}
 use Rattle.btr_store.proofs.TranscriptLemmas.{still_said}
-use Rattle.btr_store.proofs.WorkLemmas.{does_rightly, does_more}
+use Rattle.btr_store.proofs.WorkLemmas.{does_store}
 use Rattle.btr_store.proofs.DistilLemmas.{distils_allowed, distils_reported, turn_reported, distils_store, distils_store_in_order}
 use Rattle.btr_store.proofs.distil.distil_store.Goals as goal
 
@@ -15,14 +15,12 @@ returns-clause-says g c =
     still_said SaysSomeReport c.distil-said.result c.close_hall.result.said c.close_hall.ensures.said c.distil-said.ensures.says
 
 pub returns-clause-done : goal.returns-clause-done
-returns-clause-done g c = λ seen h held.
+returns-clause-done g c =
     let disk = g.D.Disk in
     let workers = c.args.workers in
     let said = c.distil-said.result in
     let reported = c.close_hall.result.said in
-    let failed = c.close_hall.result.failed in
     let begun = c.in_ok-hall.ensures.begun in
-    let on = begun.opened.stood seen h held in
     let hall = c.in_ok-hall.hall in
     let session = c.in_ok-hall.session in
     let last = c.distil-said.new.session in
@@ -30,23 +28,15 @@ returns-clause-done g c = λ seen h held.
     let new = c.close_hall.result.disk in
     elim (cases_lt 1 workers) [
       | inl many ↦
-          does_more disk (λ start log own. Distils start log start.history said own) (λ start log own. DistilsStore start log workers reported own) old new
+          does_store disk (λ start log low own. Distils start log low said own) (λ start log own. DistilsStore start log workers reported own) old new hall session last
+          (λ start log own is. distils_allowed start log said own is)
           (λ start log own works legal is. distils_store disk old new start log workers own reported works legal many
           (distils_reported start log start.history said reported own c.close_hall.ensures.said is))
-          failed
-          (does_rightly disk (λ start log low own. Distils start log low said own) old new hall session last
-          (λ start log own is. distils_allowed start log said own is)
-          begun h on.at_rest.of c.distil-said.ensures.does
-          (λ own goes. c.close_hall.ensures.works old begun.opened session own begun.begins goes h on)
-          failed (c.close_hall.ensures.failed old begun.opened h))
+          begun c.distil-said.ensures.does (c.close_hall.ensures.works old begun.opened) c.close_hall.result.failed (c.close_hall.ensures.failed old begun.opened)
       | inr few ↦
-          does_more disk (λ start log own. DistilsInTurn start log start.history said own) (λ start log own. DistilsStore start log workers reported own) old new
+          does_store disk (λ start log low own. DistilsInTurn start log low said own) (λ start log own. DistilsStore start log workers reported own) old new hall session last
+          (λ start log own is. distils_allowed start log said own is.did)
           (λ start log own works legal is. distils_store_in_order disk old new start log workers own reported works legal
           (turn_reported start log start.history said reported own c.close_hall.ensures.said is))
-          failed
-          (does_rightly disk (λ start log low own. DistilsInTurn start log low said own) old new hall session last
-          (λ start log own is. distils_allowed start log said own is.did)
-          begun h on.at_rest.of (c.distil-said.ensures.in_turn few)
-          (λ own goes. c.close_hall.ensures.works old begun.opened session own begun.begins goes h on)
-          failed (c.close_hall.ensures.failed old begun.opened h))
+          begun (c.distil-said.ensures.in_turn few) (c.close_hall.ensures.works old begun.opened) c.close_hall.result.failed (c.close_hall.ensures.failed old begun.opened)
     ]

@@ -3,7 +3,7 @@ use Rattle.std.specs.Result.{result_ok}
 use Rattle.std.proofs.Common.{inl, inr}
 use Rattle.std.proofs.lemmas.Bool.{cases_lt}
 use Rattle.btr_store.specs.Load.{LoadsRows, LoadsRowsInTurn, LoadsStore}
-use Rattle.btr_store.proofs.WorkLemmas.{does_rightly, does_more}
+use Rattle.btr_store.proofs.WorkLemmas.{does_store}
 use Rattle.btr_store.proofs.LoadLemmas.{says_some, loads_said, turn_said, loads_if_allowed, loads_reported, turn_reported, loads_store, loads_store_in_order}
 use Rattle.btr_store.proofs.load.load_store.Goals as goal
 
@@ -14,7 +14,7 @@ pub returns-clause-says : goal.returns-clause-says
 returns-clause-says g c = says_some (result_ok c.load-loaded.result) c.say_loaded-said.result c.close_hall.result.said c.close_hall.ensures.said c.say_loaded-said.ensures
 
 pub returns-clause-done : goal.returns-clause-done
-returns-clause-done g c = λ seen h held.
+returns-clause-done g c =
     let disk = g.D.Disk in
     let rows = c.args.rows in
     let batch = c.args.batch in
@@ -22,9 +22,7 @@ returns-clause-done g c = λ seen h held.
     let loaded = c.load-loaded.result in
     let said = c.say_loaded-said.result in
     let reported = c.close_hall.result.said in
-    let failed = c.close_hall.result.failed in
     let begun = c.in_ok-hall.ensures.begun in
-    let on = begun.opened.stood seen h held in
     let hall = c.in_ok-hall.hall in
     let session = c.in_ok-hall.session in
     let last = c.load-loaded.new.session in
@@ -32,25 +30,19 @@ returns-clause-done g c = λ seen h held.
     let new = c.close_hall.result.disk in
     elim (cases_lt 1 workers) [
       | inl many ↦
-          does_more disk (λ start log own. LoadsRows start log start.history rows batch said own) (λ start log own. LoadsStore start log rows batch workers reported own) old new
+          does_store disk (λ start log low own. LoadsRows start log low rows batch said own) (λ start log own. LoadsStore start log rows batch workers reported own) old new hall session last
+          (λ start log own is. loads_if_allowed start log start.history rows batch is.loaded own is.loads)
           (λ start log own works legal is. loads_store disk old new start log rows batch workers own reported works many
           (loads_reported start log start.history rows batch said reported own c.close_hall.ensures.said is))
-          failed
-          (does_rightly disk (λ start log low own. LoadsRows start log low rows batch said own) old new hall session last
-          (λ start log own is. loads_if_allowed start log start.history rows batch is.loaded own is.loads)
-          begun h on.at_rest.of
+          begun
           (loads_said hall session last rows batch loaded said c.load-loaded.ensures.loads c.load-loaded.ensures.refused c.say_loaded-said.ensures)
-          (λ own goes. c.close_hall.ensures.works old begun.opened session own begun.begins goes h on)
-          failed (c.close_hall.ensures.failed old begun.opened h))
+          (c.close_hall.ensures.works old begun.opened) c.close_hall.result.failed (c.close_hall.ensures.failed old begun.opened)
       | inr few ↦
-          does_more disk (λ start log own. LoadsRowsInTurn start log start.history rows batch said own) (λ start log own. LoadsStore start log rows batch workers reported own) old new
+          does_store disk (λ start log low own. LoadsRowsInTurn start log low rows batch said own) (λ start log own. LoadsStore start log rows batch workers reported own) old new hall session last
+          (λ start log own is. loads_if_allowed start log start.history rows batch is.did.loaded own is.did.loads)
           (λ start log own works legal is. loads_store_in_order disk old new start log rows batch workers own reported works
           (turn_reported start log start.history rows batch said reported own c.close_hall.ensures.said is))
-          failed
-          (does_rightly disk (λ start log low own. LoadsRowsInTurn start log low rows batch said own) old new hall session last
-          (λ start log own is. loads_if_allowed start log start.history rows batch is.did.loaded own is.did.loads)
-          begun h on.at_rest.of
+          begun
           (turn_said hall session last rows batch loaded said (c.load-loaded.ensures.in_turn few) c.load-loaded.ensures.refused c.say_loaded-said.ensures)
-          (λ own goes. c.close_hall.ensures.works old begun.opened session own begun.begins goes h on)
-          failed (c.close_hall.ensures.failed old begun.opened h))
+          (c.close_hall.ensures.works old begun.opened) c.close_hall.result.failed (c.close_hall.ensures.failed old begun.opened)
     ]

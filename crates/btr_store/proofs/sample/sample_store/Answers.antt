@@ -2,7 +2,7 @@
 use Rattle.btr_store.specs.Sample.{Samples, SaysSomeSample}
 use Rattle.btr_store.proofs.TranscriptLemmas.{still_said}
 use Rattle.btr_store.specs.SampleLaw.{SamplesStore}
-use Rattle.btr_store.proofs.WorkLemmas.{does_rightly, does_more}
+use Rattle.btr_store.proofs.WorkLemmas.{does_store}
 use Rattle.btr_store.proofs.SampleLemmas.{samples_allowed, samples_reported}
 use Rattle.btr_store.proofs.SampleLawLemmas.{samples_store}
 use Rattle.btr_store.proofs.sample.sample_store.Goals as goal
@@ -15,27 +15,16 @@ returns-clause-says g c =
     still_said (SaysSomeSample c.args.streams) c.sample-said.result c.close_hall.result.said c.close_hall.ensures.said c.sample-said.ensures.says
 
 pub returns-clause-done : goal.returns-clause-done
-returns-clause-done g c = λ seen h held.
-    let disk = g.D.Disk in
+returns-clause-done g c =
     let number = c.args.number in
     let streams = c.args.streams in
     let points = c.args.points in
     let said = c.sample-said.result in
     let reported = c.close_hall.result.said in
-    let failed = c.close_hall.result.failed in
     let begun = c.in_ok-hall.ensures.begun in
-    let on = begun.opened.stood seen h held in
-    let hall = c.in_ok-hall.hall in
-    let session = c.in_ok-hall.session in
-    let old = c.args.disk in
-    let new = c.close_hall.result.disk in
-    does_more disk (λ start log own. Samples number streams points start log start.history said own) (λ start log own. SamplesStore number streams points start log reported own) old new
+    does_store g.D.Disk (λ start log low own. Samples number streams points start log low said own) (λ start log own. SamplesStore number streams points start log reported own) c.args.disk c.close_hall.result.disk c.in_ok-hall.hall c.in_ok-hall.session c.sample-said.new.session
+    (λ start log own is. samples_allowed number streams points start log start.history said own is)
     (λ start log own works legal is.
     samples_store number streams points start log own works.each_once works.follows legal reported
     (samples_reported number streams points start log start.history said reported own c.close_hall.ensures.said is))
-    failed
-    (does_rightly disk (λ start log low own. Samples number streams points start log low said own) old new hall session c.sample-said.new.session
-    (λ start log own is. samples_allowed number streams points start log start.history said own is)
-    begun h on.at_rest.of c.sample-said.ensures.does
-    (λ own goes. c.close_hall.ensures.works old begun.opened session own begun.begins goes h on)
-    failed (c.close_hall.ensures.failed old begun.opened h))
+    begun c.sample-said.ensures.does (c.close_hall.ensures.works c.args.disk begun.opened) c.close_hall.result.failed (c.close_hall.ensures.failed c.args.disk begun.opened)

@@ -10,8 +10,10 @@ loop-child-init g c =
     let disk = g.D.Disk in
     record {
       below = c.requires.below;
-      reads = no-calls c.args.disk.now (λ reported. g.met.D.Disk.only_now reported c.args.disk.now);
-      can = c.requires.can;
+      reads = record {
+        reads = no-calls c.args.disk.now (λ reported. g.met.D.Disk.only_now reported c.args.disk.now);
+        can = c.requires.can;
+      };
       down = λ reported pages h page wrong. goes-nowhere pages h (disk.contents c.args.disk.now) c.args.tail c.args.marks.now c.args.block page wrong;
     }
 
@@ -26,4 +28,4 @@ loop-child-preserved g c =
     let disk = g.D.Disk in
     let l = c.loop-child in
     let lower = subst (λ o. IfSome o (λ child. child < l.at)) c.in-Some.is c.in_ok-wrong_child.ensures.lower in
-    gone-more disk c.args.tail c.args.marks.now c.args.block l.at c.in-Some.child c.args.disk.now l.disk c.wrong_child.new.disk l.piece c.wrong_child.new.piece l.invariant lower c.wrong_child.ensures.reads c.wrong_child.ensures.can (λ reported. subst (IsNextFrom (disk.contents l.disk) c.args.tail c.args.marks.now l.at) c.in-Some.is (c.in_ok-wrong_child.ensures.child reported))
+    gone-more disk c.args.tail c.args.marks.now c.args.block l.at c.in-Some.child c.args.disk.now l.disk c.wrong_child.new.disk l.piece c.wrong_child.new.piece l.invariant lower c.wrong_child.ensures.reads (λ reported. subst (IsNextFrom (disk.contents l.disk) c.args.tail c.args.marks.now l.at) c.in-Some.is (c.in_ok-wrong_child.ensures.child reported))

@@ -38,7 +38,7 @@ returns-clause-verified g c reported pages h to =
     let again = c.deref-2.ensures.value in
     let same : marks ≡ c.in_ok-marks.marks.items = cc in
     let one : marks ≡ c.deref-2.result.now = cc in
-    let bytes = sym (same-bytes c.args.disk.now c.mark_blocks.new.disk c.mark_blocks.ensures.reads reported) in
+    let bytes = sym (same-bytes c.args.disk.now c.mark_blocks.new.disk c.mark_blocks.ensures.reads.reads reported) in
     let marked = subst (AreMarked pages h tail) (sym same) (c.in_ok-marks.ensures.marked reported pages h to.trees) in
     let judged : WereJudged pages h nodes snapshot marks = record { image = disk.contents c.args.disk.now; tail = tail; trees = to.trees; below = c.requires.below; marked = marked } in
     let fails = c.in-Some.ensures pages h judged to.each in

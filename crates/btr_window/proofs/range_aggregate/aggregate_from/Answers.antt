@@ -1,17 +1,13 @@
-use Rattle.std.proofs.Common.{◌≡◌, ap, ◌∙◌, inl, arith}
-use Rattle.std.proofs.lemmas.Int.{ints}
+use Rattle.std.proofs.Common.{ap, ◌∙◌, inl, arith}
 use Rattle.std.proofs.lemmas.Result.{err_from_is_err_and}
 use Rattle.btr_base.proofs.AggLemmas.{joined-none}
-use Rattle.btr_base.specs.declared.limits.TheConstants.{END}
 use Rattle.btr_base.specs.Agg.{AggValue, agg_within, joined}
 use Rattle.btr_base.specs.Span.{SpanValue}
-use Rattle.btr_base.specs.Range.{RangeValue}
 use Rattle.btr_tree.specs.History.{bag}
 use Rattle.btr_tree.specs.Nodes.{points_of, above_root}
-use Rattle.btr_tree.specs.Change.{end_of}
 use Rattle.btr_tree.specs.EachHistory.{points_in}
 use Rattle.btr_tree.proofs.FromLemmas.{uses-walk}
-use Rattle.btr_tree.proofs.RootLemmas.{end-root, root-points}
+use Rattle.btr_tree.proofs.RootLemmas.{root-meets, root-points}
 use Rattle.btr_window.proofs.range_aggregate.aggregate_from.Goals as goal
 
 pub returns-in_err-at-clause-same : goal.returns-in_err-at-clause-same
@@ -32,15 +28,7 @@ sum_in_place-requires-clause-room g c =
     omega arith
 
 pub sum_in_place-requires-clause-meets : goal.sum_in_place-requires-clause-meets
-sum_in_place-requires-clause-meets g c =
-    let end : end_of c.root_span.result ≡ END = ap end_of c.root_span.ensures ∙ end-root in
-    let start = ap (λ (s : SpanValue). s.start) c.root_span.ensures in
-    let full = c.range.invariant.not_empty in
-    let high = c.range.invariant.ends in
-    let low = c.range.invariant.begins in
-    let from = ap (λ (r : RangeValue). r.from) c.range.view_is in
-    let to = ap (λ (r : RangeValue). r.to) c.range.view_is in
-    (omega (arith, ints), omega (arith, ints))
+sum_in_place-requires-clause-meets g c = root-meets _ _ _ c.range.invariant c.range.view_is c.root_span.ensures
 
 pub returns-in-Ok-clause-agg : goal.returns-in-Ok-clause-agg
 returns-in-Ok-clause-agg g c o h is =

@@ -1,19 +1,16 @@
-use Rattle.std.proofs.Common.{◌≡◌, [], ap, ◌∙◌, subst, sym, arith}
-use Rattle.std.proofs.lemmas.Int.{ints}
-use Rattle.btr_base.specs.declared.limits.TheConstants.{END}
+use Rattle.std.proofs.Common.{[], ap, ◌∙◌, subst, sym, arith}
 use Rattle.btr_base.specs.Bag.{within}
-use Rattle.btr_base.specs.Range.{RangeValue}
 use Rattle.btr_base.specs.Span.{SpanValue}
 use Rattle.btr_tree.specs.History.{bag}
 use Rattle.btr_tree.specs.Nodes.{points_of, above_root}
-use Rattle.btr_tree.specs.Change.{end_of}
 use Rattle.btr_tree.proofs.MemoryLemmas.{link-few}
-use Rattle.btr_tree.proofs.RootLemmas.{end-root, root-points}
+use Rattle.btr_tree.proofs.RootLemmas.{root-points}
 use Rattle.btr_tree.specs.Shape.{IsChild}
 use Rattle.btr_tree.specs.Slots.{node_of}
 use Rattle.btr_tree.proofs.VersionLemmas.{bag-in_order}
 use Rattle.btr_window.specs.Accumulate.{add_points, counted, AreStarts}
 use Rattle.btr_window.proofs.Cells.{cells-are, cells-as}
+use Rattle.btr_window.proofs.Starts.{root-windows}
 use Rattle.btr_window.proofs.window_walk.cells_of.Goals as goal
 
 pub walk_place-requires-clause-room : goal.walk_place-requires-clause-room
@@ -24,15 +21,7 @@ walk_place-requires-clause-room c =
 
 pub walk_place-requires-clause-meets : goal.walk_place-requires-clause-meets
 walk_place-requires-clause-meets c =
-    let end : end_of c.root_span.result ≡ END = ap end_of c.root_span.ensures ∙ end-root in
-    let start = ap (λ (s : SpanValue). s.start) c.root_span.ensures in
-    let full = c.range.invariant.not_empty in
-    let high = c.range.invariant.ends in
-    let low = c.range.invariant.begins in
-    let from = ap (λ (r : RangeValue). r.from) c.range.view_is in
-    let to = ap (λ (r : RangeValue). r.to) c.range.view_is in
-    let first = c.requires.begins.1 in
-    record { is_grid = c.requires.grid; behind = omega (arith, ints); met = (omega (arith, ints), omega (arith, ints)) }
+    root-windows _ _ _ c.requires.grid c.requires.begins c.range.invariant c.range.view_is c.root_span.ensures
 
 pub returns-in-Ok : goal.returns-in-Ok
 returns-in-Ok c h tree =

@@ -1,18 +1,11 @@
-use Rattle.std.proofs.Common.{◌≡◌, sym, ap, ◌∙◌, arith, to_z, of_z, w64}
+use Rattle.std.proofs.Common.{◌≡◌, sym, ◌∙◌, arith, to_z, of_z, w64}
 use Rattle.std.proofs.lemmas.Int.{to_z-of_z}
 use Rattle.btr_tree.specs.History.{bag}
-use Rattle.btr_base.specs.Windows.{begin_of}
-use Rattle.btr_tree.proofs.RangeSlotLemmas.{range-from, range-to}
-use Rattle.btr_window.proofs.Cells.{cells-none}
+use Rattle.btr_window.proofs.Ranges.{range-no_windows}
 use Rattle.btr_window.proofs.window_walk.windows.Goals as goal
 
 pub returns-then-to-range : goal.returns-then-to-range
 returns-then-to-range c h tree =
-    let width = c.args.width in
-    let range = c.args.range in
-    let from = range-from _ _ c.range.invariant c.range.view_is in
-    let to = range-to _ _ c.range.invariant c.range.view_is in
-    let begin : c.begin_of-to.result ≡ begin_of range.from width range.to = c.begin_of-to.ensures ∙ ap (λ f. begin_of f width (to_z w64 (of_z w64 c.range.inside.to))) from ∙ ap (begin_of range.from width) to in
     let fits : to_z w64 (of_z w64 c.begin_of-to.result) ≡ c.begin_of-to.result = grind (arith, to_z-of_z) in
-    let same : c.begin_of-to.result ≡ range.from = sym fits ∙ ap (to_z w64) c.if-to-range.true ∙ from in
-    c.new.ensures.items ∙ sym (cells-none range.from width range.from (begin_of range.from width range.to) (bag h) (sym begin ∙ same))
+    c.new.ensures.items
+    ∙ sym (range-no_windows _ _ c.args.width _ (bag h) c.range.invariant c.range.view_is c.begin_of-to.ensures fits c.if-to-range.true)

@@ -120,19 +120,8 @@ pub invariant_of-self : goal.invariant_of-self
 invariant_of-self g c =
     let old = c.args.self.now in
     let f = fails g (goal.at.invariant_of-self g c).In-Err in
-    let go = subst (λ l. Goes old (super_of old) l c.stopped-self.result (board_of old).entries) (sym (ap log_in c.put_back.ensures)) (goes_fault old c.append.new.self (c.args.extent.now ++ []) c.in-Err.fault c.stopped-self.result c.stopped-self.ensures.stopped f.cause f.appends.kept) in
-    record {
-      marked = go.marked;
-      counted = go.counted;
-      ends = go.ends;
-      began = go.began;
-      called = go.called;
-      failed = go.failed;
-      followable = go.followable;
-      behind = go.behind;
-      large = go.large;
-      same_blocks = go.same_blocks;
-    }
+    subst (λ l. Goes old (super_of old) l c.stopped-self.result (board_of old).entries) (sym (ap log_in c.put_back.ensures))
+    (goes_fault old c.append.new.self (c.args.extent.now ++ []) c.in-Err.fault c.stopped-self.result c.stopped-self.ensures.stopped f.cause f.appends.kept)
 
 pub returns-in-Err : goal.returns-in-Err
 returns-in-Err g c =
@@ -170,7 +159,7 @@ invariant_of-self-then-is_err g c =
     let extents : log.extents_of c.stop.new.self ≡ log.extents_of c.append.new.self = c.stop.ensures.extents in
     let blocks : log.log_blocks c.stop.new.self ≡ log.log_blocks c.append.new.self = c.stop.ensures.kept.blocks in
     let faults : log.faults_at c.stop.new.self ≡ log.faults_at c.append.new.self = c.stop.ensures.kept.faults in
-    let go = subst (λ l. Goes old (super_of old) l true (board_of old).entries) (sym (ap log_in c.put_back-then-is_err.ensures)) (record {
+    subst (λ l. Goes old (super_of old) l true (board_of old).entries) (sym (ap log_in c.put_back-then-is_err.ensures)) (record {
       marked = sym c.stop.ensures.stopped;
       counted = omega (arith, old.counted, w.appended.extents, extents);
       ends = omega (arith, old.ends, w.appended.extents, w.appended.tail, two, extents, tail);
@@ -181,19 +170,7 @@ invariant_of-self-then-is_err g c =
       behind = omega (arith, old.behind, w.appended.tail, tail);
       large = omega (arith, old.large, w.appends.kept.blocks, blocks);
       same_blocks = old.same_blocks ∙ sym w.appends.kept.blocks ∙ sym blocks;
-    }) in
-    record {
-      marked = go.marked;
-      counted = go.counted;
-      ends = go.ends;
-      began = go.began;
-      called = go.called;
-      failed = go.failed;
-      followable = go.followable;
-      behind = go.behind;
-      large = go.large;
-      same_blocks = go.same_blocks;
-    }
+    })
 
 pub returns-then-is_err : goal.returns-then-is_err
 returns-then-is_err g c =
@@ -233,7 +210,7 @@ invariant_of-self-2 g c =
     let w = its_takes g a in
     let between = marks_between (super_of old) c.args.format old.followable.format_to c.requires.format in
     let two = two_blocks old c.args.format (c.args.extent.now ++ []) (whole c.requires.bytes) in
-    let go = subst (λ l. Goes old c.next_super-next.result l old.stopped (board_of old).entries) (sym (ap log_in c.put_back-2.ensures)) (record {
+    subst (λ l. Goes old c.next_super-next.result l old.stopped (board_of old).entries) (sym (ap log_in c.put_back-2.ensures)) (record {
       marked = old.marked ∙ c.requires.runs ∙ sym w.appended.runs;
       counted = omega (arith, old.counted, w.appended.extents);
       ends = omega (arith, old.ends, w.appended.extents, w.appended.tail, two);
@@ -244,19 +221,7 @@ invariant_of-self-2 g c =
       behind = omega (arith, ap (λ (s : Super). s.tail) (is_next g a));
       large = omega (arith, old.large, w.appends.kept.blocks);
       same_blocks = ap (λ (s : Super). s.blocks) (is_next g a) ∙ old.same_blocks ∙ sym w.appends.kept.blocks;
-    }) in
-    record {
-      marked = go.marked;
-      counted = go.counted;
-      ends = go.ends;
-      began = go.began;
-      called = go.called;
-      failed = go.failed;
-      followable = go.followable;
-      behind = go.behind;
-      large = go.large;
-      same_blocks = go.same_blocks;
-    }
+    })
 
 pub returns : goal.returns
 returns g c =

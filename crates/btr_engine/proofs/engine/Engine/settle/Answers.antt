@@ -18,16 +18,4 @@ invariant_of-self-in-Written g c =
     let second = subst (λ s. Goes old s c.args.log (stopped_after old.stopped c.args.how) (settled_board (board_of old) (written_in c.args.how)).entries) chosen first in
     let third = subst (λ n. Goes old c.super_after-self.result c.args.log (stopped_after old.stopped c.args.how) n) (ap (λ (b : Kept). b.entries) board) second in
     let fourth = subst (λ s. Goes old c.super_after-self.result c.args.log s c.accept.new.self.entries) stopped third in
-    let go = subst (λ l. Goes old c.super_after-self.result l old.stopped c.accept.new.self.entries) (sym (ap log_in c.put_back.ensures)) fourth in
-    record {
-      marked = go.marked;
-      counted = go.counted;
-      ends = go.ends;
-      began = go.began;
-      called = go.called;
-      failed = go.failed;
-      followable = go.followable;
-      behind = go.behind;
-      large = go.large;
-      same_blocks = go.same_blocks;
-    }
+    subst (λ l. Goes old c.super_after-self.result l old.stopped c.accept.new.self.entries) (sym (ap log_in c.put_back.ensures)) fourth

@@ -15,14 +15,14 @@ make-make_child-requires g t c κs within =
       omega arith,
       (
         within,
-        (
-          record {
+        record {
+          below = record {
             can = l.invariant.can;
             page_read = read-still c.args.block c.args.self.now.limit l.self.limit c.args.page.now l.invariant.read.limit c.requires.can.page_read;
             device = λ reported. device-still g.D.Disk c.args.disk.now l.disk c.args.self.now l.self c.args.block c.args.page.now l.nodes l.invariant.read reported (l.invariant.device reported);
-          },
-          slot-there c.args.page.now c.slots-slot-items.result.now l.i c.slot-item.result c.slots-slot-items.ensures c.loop-i-test.true c.slot-item.is,
-        ),
+          };
+          slot = slot-there c.args.page.now c.slots-slot-items.result.now l.i c.slot-item.result c.slots-slot-items.ensures c.loop-i-test.true c.slot-item.is;
+        },
       ),
     )
 
@@ -91,7 +91,7 @@ make_child-returns-then-at-clause-makes g t c =
     record {
       grows = grows-none c.args.self.now.limit c.args.nodes.now;
       made = λ reported.
-          made-wrong (g.D.Disk.contents c.args.disk.now) c.args.self.now.limit at.block at.i at.page.now slot (c.requires.can.device reported).stored c.requires.slot some c.args.nodes.now (KnowsChild at.block c.args.nodes.now slot) at.block (inl (omega (arith, c.if-at.true), refl));
+          made-wrong (g.D.Disk.contents c.args.disk.now) c.args.self.now.limit at.block at.i at.page.now slot (c.requires.can.below.device reported).stored c.requires.can.slot some c.args.nodes.now (KnowsChild at.block c.args.nodes.now slot) at.block (inl (omega (arith, c.if-at.true), refl));
     }
 
 pub make_child-returns-then-is_some-clause-makes : goal.make_child-returns-then-is_some-clause-makes
@@ -114,14 +114,11 @@ make_child-make_unknown-requires g t c κs within =
         within,
         (
           c.requires.can,
-          (
-            c.requires.slot,
-            record {
-              some = omega (arith, c.count.ensures, c.if-count-eq0.false);
-              lower = omega (arith, c.if-at.false);
-              fresh = none-got (λ k. k.now) c.get.result (node_at c.args.nodes.now slot.child) c.get.ensures (sym c.is_some.ensures ∙ c.if-is_some.false);
-            },
-          ),
+          record {
+            some = omega (arith, c.count.ensures, c.if-count-eq0.false);
+            lower = omega (arith, c.if-at.false);
+            fresh = none-got (λ k. k.now) c.get.result (node_at c.args.nodes.now slot.child) c.get.ensures (sym c.is_some.ensures ∙ c.if-is_some.false);
+          },
         ),
       ),
     )
@@ -136,7 +133,7 @@ make_unknown-returns-in_default-clause-makes g t c =
       grows = grows-none c.args.self.now.limit c.args.nodes.now;
       made = λ reported.
           let none : HasNoPage image slot.child = subst (λ o. MatchOption o (HasNoPage image slot.child) (IsStoredPage image slot.child)) c.in_default.is (c.in_ok-child.ensures.stored reported) in
-          made-wrong image c.args.self.now.limit at.block at.i at.page.now slot (c.requires.can.device reported).stored c.requires.slot unknown.some c.args.nodes.now (KnowsChild at.block c.args.nodes.now slot) slot.child (inr (inl (unknown.lower, none, refl)));
+          made-wrong image c.args.self.now.limit at.block at.i at.page.now slot (c.requires.can.below.device reported).stored c.requires.can.slot unknown.some c.args.nodes.now (KnowsChild at.block c.args.nodes.now slot) slot.child (inr (inl (unknown.lower, none, refl)));
     }
 
 pub make_unknown-returns-then-not-is_child-clause-makes : goal.make_unknown-returns-then-not-is_child-clause-makes
@@ -150,7 +147,7 @@ make_unknown-returns-then-not-is_child-clause-makes g t c =
       grows = grows-none c.args.self.now.limit c.args.nodes.now;
       made = λ reported.
           let stored = subst (λ o. MatchOption o (HasNoPage image slot.child) (IsStoredPage image slot.child)) c.in-Some.is (c.in_ok-child.ensures.stored reported) in
-          made-wrong image c.args.self.now.limit at.block at.i at.page.now slot (c.requires.can.device reported).stored c.requires.slot unknown.some c.args.nodes.now (KnowsChild at.block c.args.nodes.now slot) at.block (inr (inr (unknown.lower, child, stored, (λ fits. absurd (let yes = c.is_child.ensures.1 fits in let no = c.if-not-is_child.true in cc)), refl)));
+          made-wrong image c.args.self.now.limit at.block at.i at.page.now slot (c.requires.can.below.device reported).stored c.requires.can.slot unknown.some c.args.nodes.now (KnowsChild at.block c.args.nodes.now slot) at.block (inr (inr (unknown.lower, child, stored, (λ fits. absurd (let yes = c.is_child.ensures.1 fits in let no = c.if-not-is_child.true in cc)), refl)));
     }
 
 pub make_unknown-make-requires : goal.make_unknown-make-requires
@@ -160,17 +157,17 @@ make_unknown-make-requires g t c κs within =
     let child = c.in-Some.child in
     let slot = at.slot.now in
     let fits : IsChildPage at.page.now at.i slot child = c.is_child.ensures.0 c.if-not-is_child.false in
-    let falls = height-falls at.page.now at.i slot child c.requires.can.page_read.keeps c.requires.slot fits in (
+    let falls = height-falls at.page.now at.i slot child c.requires.can.below.page_read.keeps c.requires.can.slot fits in (
       omega arith,
       (
         within,
         (
           record {
-            can = can-on g.D.Disk c.args.self.now c.page.new.self c.args.disk.now c.page.new.disk c.requires.can.can c.page.ensures.reads;
+            can = can-on g.D.Disk c.args.self.now c.page.new.self c.args.disk.now c.page.new.disk c.requires.can.below.can c.page.ensures.reads;
             page_read = read-still slot.child c.args.self.now.limit c.page.new.self.limit child c.page.ensures.reads.limit (subst (λ o. IfSome o (IsReadPage slot.child c.args.self.now.limit)) c.in-Some.is c.in_ok-child.ensures.found);
             device = λ reported. device-still g.D.Disk c.args.disk.now c.page.new.disk c.args.self.now c.page.new.self slot.child child c.args.nodes.now c.page.ensures.reads reported (record {
               stored = subst (λ o. MatchOption o (HasNoPage (g.D.Disk.contents c.args.disk.now) slot.child) (IsStoredPage (g.D.Disk.contents c.args.disk.now) slot.child)) c.in-Some.is (c.in_ok-child.ensures.stored reported);
-              own = (c.requires.can.device reported).own;
+              own = (c.requires.can.below.device reported).own;
             });
           },
           c.requires.unknown.fresh,
@@ -190,5 +187,5 @@ make_unknown-returns-clause-makes g t c =
       grows = grows-in g.D.Disk c.args.disk.now c.page.new.disk c.args.self.now c.page.new.self c.args.nodes.now c.make.new.nodes c.page.ensures.reads makes.grows;
       made = λ reported.
           let stored = subst (λ o. MatchOption o (HasNoPage image slot.child) (IsStoredPage image slot.child)) c.in-Some.is (c.in_ok-child.ensures.stored reported) in
-          made-down image c.args.self.now.limit at.block at.i at.page.now slot (c.requires.can.device reported).stored c.requires.slot unknown.some child c.args.nodes.now c.make.new.nodes o c.requires.can.page_read.below unknown.lower stored fits (made-in g.D.Disk c.args.disk.now c.page.new.disk c.args.self.now c.page.new.self slot.child child c.args.nodes.now c.make.new.nodes (IsSome (node_at c.make.new.nodes slot.child)) o c.page.ensures.reads reported (makes.made reported));
+          made-down image c.args.self.now.limit at.block at.i at.page.now slot (c.requires.can.below.device reported).stored c.requires.can.slot unknown.some child c.args.nodes.now c.make.new.nodes o c.requires.can.below.page_read.below unknown.lower stored fits (made-in g.D.Disk c.args.disk.now c.page.new.disk c.args.self.now c.page.new.self slot.child child c.args.nodes.now c.make.new.nodes (IsSome (node_at c.make.new.nodes slot.child)) o c.page.ensures.reads reported (makes.made reported));
     }) c.make.ensures.makes

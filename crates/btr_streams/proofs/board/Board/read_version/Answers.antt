@@ -1,8 +1,7 @@
-use Rattle.std.specs.Prelude.{◌≡◌, ◌≤◌, length, slice_get, Some}
-use Rattle.std.proofs.Common.{sym, ap, ◌∙◌, subst, arith}
-use Rattle.std.proofs.lemmas.Option.{slice_get_within}
+use Rattle.std.specs.Prelude.{◌≡◌, slice_get, Some}
+use Rattle.std.proofs.Common.{sym, ap, ◌∙◌}
 use Rattle.btr_streams.specs.Board.{Kept}
-use Rattle.btr_streams.proofs.BoardRead.{kind-of, few-of}
+use Rattle.btr_streams.proofs.BoardRead.{not-past, kind-of, few-of}
 use Rattle.btr_streams.proofs.board.Board.read_version.Goals.{In-Some}
 use Rattle.btr_streams.proofs.board.Board.read_version.Goals as goal
 
@@ -13,9 +12,8 @@ there c =
 
 pub unreachable-requires : goal.unreachable-requires
 unreachable-requires c =
-    let past : length c.args.self.now.streams ≤ c.args.stream = subst (λ (b : Kept). length b.streams ≤ c.args.stream) c.self.view_is c.in_default.ensures in
     let room = c.requires.room in
-    omega (arith, past, slice_get_within c.args.self.now.streams c.args.stream room.kept room.there)
+    not-past (record { streams = c.self.inside.streams; entries = c.self.inside.entries }) c.args.self.now c.args.stream room.kept c.self.view_is c.in_default.ensures room.there
 
 pub with_version-requires-clause-there : goal.with_version-requires-clause-there
 with_version-requires-clause-there c = there (goal.at.with_version-requires-clause-there c).In-Some

@@ -1,11 +1,10 @@
-use Rattle.std.specs.Prelude.{◌≡◌, ◌≤◌, length, slice_get, slice_set, Some}
-use Rattle.std.proofs.Common.{sym, ap, ◌∙◌, subst, arith}
-use Rattle.std.proofs.lemmas.Option.{slice_get_within}
+use Rattle.std.specs.Prelude.{◌≡◌, slice_get, slice_set, Some}
+use Rattle.std.proofs.Common.{sym, ap, ◌∙◌}
 use Rattle.btr_board.specs.Numbers.{number_of}
 use Rattle.btr_streams.specs.Board.{Kept}
 use Rattle.btr_streams.specs.Stage.{with_earliest}
 use Rattle.btr_streams.proofs.BoardNext.{formed-earliest}
-use Rattle.btr_streams.proofs.BoardRead.{made-of}
+use Rattle.btr_streams.proofs.BoardRead.{not-past, made-of}
 use Rattle.btr_streams.proofs.board.Board.with_earliest.Goals.{In-Some}
 use Rattle.btr_streams.proofs.board.Board.with_earliest.Goals as goal
 
@@ -16,9 +15,8 @@ there c =
 
 pub unreachable-requires : goal.unreachable-requires
 unreachable-requires c =
-    let past : length c.args.self.now.streams ≤ c.args.stream = subst (λ (b : Kept). length b.streams ≤ c.args.stream) c.self.view_is c.in_default.ensures in
     let room = c.requires.room in
-    omega (arith, past, slice_get_within c.args.self.now.streams c.args.stream room.kept room.there)
+    not-past (record { streams = c.self.inside.streams; entries = c.self.inside.entries }) c.args.self.now c.args.stream room.kept c.self.view_is c.in_default.ensures room.there
 
 pub invariant_of-result : goal.invariant_of-result
 invariant_of-result c =
