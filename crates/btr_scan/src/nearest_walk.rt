@@ -84,8 +84,10 @@ pub fn nearest_in_place<S: NodeSource, L>(
     ensures uses { UsesSource S.told S.faults S.IsCaused state.old state.new result }
     ensures bounded { RisesUpTo (2 * span.height + 1) steps.old steps.new }
 {
+    let mut found = None;
     match toward {
-        Toward::Forward => next_in_span::<S, L>(state, span, at, time, steps),
-        Toward::Backward => previous_in_span::<S, L>(state, span, at, time, steps),
+        Toward::Forward => next_in_span::<S, L>(state, span, at, time, &mut found, steps)?,
+        Toward::Backward => previous_in_span::<S, L>(state, span, at, time, &mut found, steps)?,
     }
+    Ok(found)
 }

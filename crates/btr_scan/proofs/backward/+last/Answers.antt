@@ -1,7 +1,7 @@
 use Rattle.std.specs.Prelude.{None}
 use Rattle.std.specs.List.{last_or}
 use Rattle.std.proofs.Common.{suc, List, ap, ◌∙◌, arith}
-use Rattle.std.proofs.lemmas.Result.{IfOk-weaker, IfErr-weaker}
+use Rattle.std.proofs.lemmas.Result.{on_ok_weaker, IfErr-weaker}
 use Rattle.btr_base.specs.declared.point.Point.{Point}
 use Rattle.btr_tree.specs.History.{bag}
 use Rattle.btr_tree.specs.Nodes.{is_inner}
@@ -16,7 +16,7 @@ last_in_place-returns-in-Inner-clause-some g t c =
     let source = g.S.NodeSource in
     let slots = c.in-Inner.slots in
     let safe = safe-slots (source.IsSafe (source.told c.args.state.now)) source.count source.leaf_points source.inner_slot source.inner_place (source.count (source.site c.args.at)) c.args.span c.in_ok-visit.field-0 c.in-Inner.version slots c.in_ok-visit.ensures.safe c.in-Inner.is in
-    IfOk-weaker c.last_in_slots.result _ _ (λ r none count. some-found (source.inner_slot slots) r safe.some (λ e. (none e).1)) c.last_in_slots.ensures.none
+    on_ok_weaker c.last_in_slots.result (λ none count. some-found (source.inner_slot slots) c.last_in_slots.new.found safe.some (λ e. (none e).1)) c.last_in_slots.ensures.none
 
 pub last_in_place-returns-in-Leaf-clause-some : goal.last_in_place-returns-in-Leaf-clause-some
 last_in_place-returns-in-Leaf-clause-some g t c count =
@@ -29,20 +29,20 @@ pub last_in_place-returns-in-Inner-clause-point : goal.last_in_place-returns-in-
 last_in_place-returns-in-Inner-clause-point g t c =
     let source = g.S.NodeSource in
     let span = c.args.span in
-    IfOk-weaker c.last_in_slots.result _ _ (λ r point above h at.
+    on_ok_weaker c.last_in_slots.result (λ point above h at.
     let slots = inner-found (source.IsAt (source.told c.args.state.now)) source.leaf_points source.inner_slot source.inner_place span above h c.in_ok-visit.field-0 c.in-Inner.version c.in-Inner.slots (c.in_ok-visit.ensures.found above h at) c.in-Inner.is in
     point h (slots-same source.IsAt _ _ _ _ span h c.in_ok-visit.ensures.uses.same slots) ∙ ap (λ e. last_within span.start e (bag h)) (end-slot span slots.below slots.above)) c.last_in_slots.ensures.point
 
 pub last_in_slots-returns-in-None-clause-point : goal.last_in_slots-returns-in-None-clause-point
 last_in_slots-returns-in-None-clause-point g t c h at =
-    none-to-at _ _ _ c.args.span h c.args.to at c.requires.place c.in-None.ensures
+    c.requires.empty ∙ none-to-at _ _ _ c.args.span h c.args.to at c.requires.place c.in-None.ensures
 
 pub last_in_slots-returns-in-Some-clause-point : goal.last_in_slots-returns-in-Some-clause-point
 last_in_slots-returns-in-Some-clause-point g t c =
     let i = c.in-Some.i in
     let next = c.in-Some.ensures in
-    IfOk-weaker c.last_in_place.result _ _ (λ r point h at.
-    last-at _ _ _ c.args.span h c.args.to i c.slot.result r at next.0 c.requires.place next.1 next.2 c.slot.ensures (point (is_inner (suc at.below) c.args.span.start) h (held-at _ _ _ c.args.span c.slot.result h i _ at (omega (arith, next.0)) c.slot.ensures c.place.ensures))) c.last_in_place.ensures.point
+    on_ok_weaker c.last_in_place.result (λ point h at.
+    last-at _ _ _ c.args.span h c.args.to i c.slot.result c.last_in_place.new.found at next.0 c.requires.place next.1 next.2 c.slot.ensures (point (is_inner (suc at.below) c.args.span.start) h (held-at _ _ _ c.args.span c.slot.result h i _ at (omega (arith, next.0)) c.slot.ensures c.place.ensures))) c.last_in_place.ensures.point
 
 pub last_in_slots-returns-in-Some-clause-sound : goal.last_in_slots-returns-in-Some-clause-sound
 last_in_slots-returns-in-Some-clause-sound g t c =

@@ -2,7 +2,7 @@ use Rattle.std.specs.Prelude.{None}
 use Rattle.std.specs.List.{last_or}
 use Rattle.std.proofs.Common.{◌≡◌, ◌≤ℤ◌, List, ◌∙◌, ap, sym, arith, w64}
 use Rattle.std.proofs.lemmas.Int.{ints, to_z-of_z}
-use Rattle.std.proofs.lemmas.Result.{IfOk-weaker}
+use Rattle.std.proofs.lemmas.Result.{on_ok_weaker}
 use Rattle.btr_base.specs.declared.point.Point.{Point}
 use Rattle.btr_base.specs.Span.{SpanValue}
 use Rattle.btr_base.proofs.WithinLemmas.{within-before}
@@ -18,7 +18,7 @@ returns-then-time-span-clause-point g c above h at =
     let same = to_z-of_z w64 c.args.time c.ranges.time in
     let early = c.if-time-span.true in
     let start = ap (λ (u : SpanValue). u.start) c.span.view_is in
-    sym (ap (λ (x : List Point). last_or None x) (none-before_start c.args.time span.start (end_of span) (bag h) (omega (arith, ints)) (omega (arith, ints))))
+    c.requires.empty ∙ sym (ap (λ (x : List Point). last_or None x) (none-before_start c.args.time span.start (end_of span) (bag h) (omega (arith, ints)) (omega (arith, ints))))
 
 pub returns-then-time-end-clause-point : goal.returns-then-time-end-clause-point
 returns-then-time-end-clause-point g c =
@@ -27,7 +27,7 @@ returns-then-time-end-clause-point g c =
     let late = c.if-time-end.true in
     let end : c.end.result ≡ end_of span = c.end.ensures.end in
     let high : end_of span ≤ℤ c.args.time = omega (arith, ints) in
-    IfOk-weaker c.last_in_place.result _ _ (λ r point above h at.
+    on_ok_weaker c.last_in_place.result (λ point above h at.
     point above h at ∙ ap (λ (x : List Point). last_or None x) (sym (all-before_end c.args.time span.start (end_of span) (bag h) high))) c.last_in_place.ensures.point
 
 pub returns-clause-point : goal.returns-clause-point
@@ -37,7 +37,7 @@ returns-clause-point g c =
     let early = c.if-time-end.false in
     let end : c.end.result ≡ end_of span = c.end.ensures.end in
     let low : c.args.time ≤ℤ end_of span = omega (arith, ints) in
-    IfOk-weaker c.previous_in_place.result _ _ (λ r point above h at.
+    on_ok_weaker c.previous_in_place.result (λ point above h at.
     point above h at
     ∙ ap (λ x. last_within span.start x (bag h)) same
     ∙ ap (λ (x : List Point). last_or None x) (sym (within-before span.start (end_of span) c.args.time (bag h) low))) c.previous_in_place.ensures.point
