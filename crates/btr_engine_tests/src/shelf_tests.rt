@@ -1,4 +1,4 @@
-//! Sealed stores as shelves: answers from nodes that are fetched, and devices that are no shelf.
+//! Sealed stores as shelves: answers from nodes that are fetched, by one thread and by two, and devices that are no shelf.
 use crate::fixture::{
     Change, ID, MemEngine, changed, device_of, empty_store, insert, no_wrong, opened, step,
     two_entries,
@@ -12,6 +12,7 @@ use btr_shelf::DiskNodes;
 use btr_tree::NodeFault;
 use std::alloc::{AllocError, Global};
 use std::test::Fail;
+use std::thread::{Threads, join};
 
 /// Seals a store, and returns the bytes of its device.
 fn sealed(alloc: Global, engine: MemEngine) -> Result<Vec<u8>, Fail> {
@@ -241,6 +242,42 @@ fn a_shelf_finds_its_streams(rt: HostRuntime) -> Result<(), Fail> {
         ) == (5, Some(0), Some(1), None)
     );
     Ok(())
+}
+
+/// What two threads find that ask the same at once.
+type InTwo = (
+    Result<Option<usize>, AllocError>,
+    Result<Option<usize>, AllocError>,
+);
+
+/// Asks one shelf in two threads, each with a device and a snapshot of its own.
+fn ask_in_two<R: Threads>(
+    rt: &R,
+    alloc: Global,
+    shelf: &Shelf,
+    disks: (MemDisk, MemDisk),
+    snapshots: (Snapshot, Snapshot),
+) -> InTwo {
+    let (here, there) = disks;
+    let (mine, other) = snapshots;
+    join(
+        rt,
+        move || first_other(alloc, shelf, here, &mine),
+        move || first_other(alloc, shelf, there, &other),
+    )
+}
+
+#[test]
+fn two_threads_ask_one_shelf(rt: HostRuntime) -> Result<(), Fail> {
+    let alloc = rt.alloc();
+    let bytes = large_store(alloc)?;
+    let shelf = shelf_of(alloc, &bytes)?;
+    let snapshot = opened(alloc, disk_of(alloc, &bytes)?)?.admit()?;
+    let snapshots = (snapshot.share()?, snapshot);
+    let disks = (disk_of(alloc, &bytes)?, disk_of(alloc, &bytes)?);
+    let (here, there) = ask_in_two(&rt, alloc, &shelf, disks, snapshots);
+    no_wrong(here?)?;
+    no_wrong(there?)
 }
 
 // ---- what is no shelf

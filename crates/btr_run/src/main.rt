@@ -105,7 +105,9 @@ fn access_of(alloc: Global, words: &[String]) -> Result<Access, AllocError>
     ensures { IfOk result (λ a. (a ≡ accesses.Read) ↔ IsReader (command_of (map string_bytes words.now))) }
 {
     match read_words(alloc, words)? {
-        Some(Command::Ask | Command::Check | Command::Ship { .. }) => Ok(Access::Read),
+        Some(Command::Ask { .. }) => Ok(Access::Read),
+        Some(Command::Check) => Ok(Access::Read),
+        Some(Command::Ship { .. }) => Ok(Access::Read),
         _ => Ok(Access::Write),
     }
 }

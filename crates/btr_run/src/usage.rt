@@ -5,7 +5,7 @@ const COMMANDS: [&str; 12] = [
     "format --blocks N",
     "live [--materialize] [--batch B]",
     "live --group B [--materialize]",
-    "ask",
+    "ask [--cold]",
     "load [--workers K] [--batch B]",
     "distil [--workers K]",
     "checkpoint",

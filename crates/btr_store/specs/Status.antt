@@ -5,21 +5,23 @@ use Rattle.btr_text.specs.declared.reply.Reason.TheVariants as reasons
 use Rattle.btr_store.specs.declared.report_line.ReportLine.{ReportLine}
 use Rattle.btr_store.specs.declared.report_line.ReportLine.TheVariants as lines
 use Rattle.btr_store.specs.declared.status.Status.{Status}
-use Rattle.btr_store.specs.declared.status.Status.TheVariants.{Done, Refused, Full, OutOfMemory, DeviceFault}
+use Rattle.btr_store.specs.declared.status.Status.TheVariants.{Done, Refused, Full, Damaged, OutOfMemory, DeviceFault}
 
 -- The order of the statuses.
 abbrev pub status_rank : Status → ℕ
 status_rank Done = 0
 status_rank Refused = 1
 status_rank Full = 2
-status_rank OutOfMemory = 3
-status_rank DeviceFault = 4
+status_rank Damaged = 3
+status_rank OutOfMemory = 4
+status_rank DeviceFault = 5
 
 -- The number with which the program ends.
 abbrev pub code_of : Status → ℕ
 code_of Done = 0
 code_of Refused = 1
 code_of Full = 8
+code_of Damaged = 7
 code_of OutOfMemory = 9
 code_of DeviceFault = 5
 
@@ -31,6 +33,7 @@ greater a b = if nat_lt (status_rank a) (status_rank b) then b else a
 abbrev pub status_of_reason : Reason → Status
 status_of_reason reasons.Device = DeviceFault
 status_of_reason reasons.Memory = OutOfMemory
+status_of_reason (reasons.Damaged block) = Damaged
 status_of_reason (reasons.Full need left) = Full
 status_of_reason reason = Refused
 

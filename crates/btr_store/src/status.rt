@@ -17,6 +17,9 @@ pub enum Status {
     /// The device has too few blocks left for an entry.
     Full,
 
+    /// A block of the device is damaged.
+    Damaged,
+
     /// There was no memory.
     OutOfMemory,
 
@@ -32,6 +35,7 @@ impl Status {
         match reason {
             Reason::Device => Status::DeviceFault,
             Reason::Memory => Status::OutOfMemory,
+            Reason::Damaged { .. } => Status::Damaged,
             Reason::Full { .. } => Status::Full,
             _ => Status::Refused,
         }
@@ -61,8 +65,9 @@ impl Status {
             Status::Done => 0,
             Status::Refused => 1,
             Status::Full => 2,
-            Status::OutOfMemory => 3,
-            Status::DeviceFault => 4,
+            Status::Damaged => 3,
+            Status::OutOfMemory => 4,
+            Status::DeviceFault => 5,
         }
     }
 
@@ -85,6 +90,7 @@ impl Status {
             Status::Done => 0,
             Status::Refused => 1,
             Status::Full => 8,
+            Status::Damaged => 7,
             Status::OutOfMemory => 9,
             Status::DeviceFault => 5,
         }

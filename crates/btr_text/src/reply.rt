@@ -95,6 +95,11 @@ pub enum Reason {
     /// The device failed.
     Device,
 
+    /// This block of the device is damaged, and the answer needs its node.
+    Damaged {
+        block: u64,
+    },
+
     /// The store takes no more commits, since the device failed after this number of entries.
     Stopped {
         entries: u64,

@@ -105,6 +105,7 @@ pub fn append_reason(out: &mut Vec<u8>, reason: Reason) -> Result<(), AllocError
         Reason::Memory => append_refusal(out, b"memory"),
         Reason::Full { need, left } => append_refusal2(out, b"full", need, left),
         Reason::Device => append_refusal(out, b"device"),
+        Reason::Damaged { block } => append_refusal1(out, b"damaged", block),
         Reason::Stopped { entries } => append_refusal1(out, b"stopped", entries),
         Reason::Sealed => append_refusal(out, b"sealed"),
         Reason::Superseded { version } => append_refusal1(out, b"superseded", version),

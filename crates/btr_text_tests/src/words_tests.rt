@@ -30,8 +30,12 @@ impl Row for Words {
 }
 
 const COMMANDS: &[Words] = &[
-    Words(&["ask"], Some(Command::Ask)),
-    Words(&["ask", "--"], Some(Command::Ask)),
+    Words(&["ask"], Some(Command::Ask { cold: false })),
+    Words(&["ask", "--"], Some(Command::Ask { cold: false })),
+    Words(&["ask", "--cold"], Some(Command::Ask { cold: true })),
+    Words(&["ask", "--cold", "--cold"], None),
+    Words(&["ask", "--cold=1"], None),
+    Words(&["ask", "--col"], None),
     Words(&["checkpoint"], Some(Command::Checkpoint)),
     Words(&["checkpoint", "--"], Some(Command::Checkpoint)),
     Words(&["seal"], Some(Command::Seal)),

@@ -334,7 +334,7 @@ benign_script batch s t lines replies script room runs = benign_from batch Done 
 
 -- ---- questions alone
 
-benign_question : (h : List Entry) (line : Option Line) → IsBenign (status_of_reply (model_reply h (question h line)))
+pub benign_question : (h : List Entry) (line : Option Line) → IsBenign (status_of_reply (model_reply h (question h line)))
 benign_question h None = inr (inl refl)
 benign_question h (Some (lines.Create id)) = inr (inl refl)
 benign_question h (Some (lines.Insert id added)) = inr (inl refl)
@@ -348,7 +348,7 @@ benign_question h (Some (lines.Retire id first)) = inr (inl refl)
 benign_question h (Some (lines.Ask id query)) = benign_ask h id query
 benign_question h (Some lines.Streams) = inl refl
 
-benign_answered : (h : List Entry) (m : Meaning) (reply : LineReply) → IsBenign (status_of_reply (model_reply h m)) → IsAnswerOrNoMemory h m reply → IsBenign (status_of_reply reply)
+pub benign_answered : (h : List Entry) (m : Meaning) (reply : LineReply) → IsBenign (status_of_reply (model_reply h m)) → IsAnswerOrNoMemory h m reply → IsBenign (status_of_reply reply)
 benign_answered h (Commits e) reply benign is = along reply (model_reply h (Commits e)) is benign
 benign_answered h (Asks query) reply benign is =
     ⊎_elim (λ answered. along reply (model_reply h (Asks query)) answered benign) (λ lacks. along reply (No reasons.Memory) lacks (inr (inr refl))) is

@@ -1,5 +1,5 @@
 -- A run ends with status 5 only if a call of the device failed.
-use Rattle.std.specs.Prelude.{◌≡◌, ℕ, List, Option, Some, None}
+use Rattle.std.specs.Prelude.{◌≡◌, ℕ, true, false, List, Option, Some, None}
 use Rattle.std.proofs.Common.{refl, sym, ◌∙◌, ap, arith, ⊎_elim}
 use Rattle.btr_io.specs.declared.source.Source.{Ghosts as SourceGhosts}
 use Rattle.btr_io.specs.declared.sink.Sink.{Ghosts as SinkGhosts}
@@ -12,8 +12,12 @@ use Rattle.btr_rows.specs.Streams.{list_of}
 use Rattle.btr_text.specs.Input.{questions_of, script_of}
 use Rattle.btr_text.specs.declared.script.ScriptLine.{ScriptLine}
 use Rattle.btr_load.specs.There.{AreDistinct}
+use Rattle.btr_open.specs.declared.sealed.SealedFault.{SealedFault}
+use Rattle.btr_open.specs.declared.sealed.SealedFault.TheVariants as openings
+use Rattle.btr_open.specs.Sealed.{SealedCause}
 use Rattle.btr_store.specs.declared.status.Status.{Status}
 use Rattle.btr_store.specs.declared.status.Status.TheVariants as statuses
+use Rattle.btr_store.specs.declared.transcript.Transcript.{Transcript}
 use Rattle.btr_store.specs.Status.{code_of}
 use Rattle.btr_store.specs.Load.{LoadsStore}
 use Rattle.btr_store.specs.Live.{LivesStore}
@@ -24,7 +28,7 @@ use Rattle.btr_store.specs.SampleLaw.{SamplesStore}
 use Rattle.btr_top.specs.declared.checkpoint.CheckpointKind.{CheckpointKind}
 use Rattle.btr_top.specs.declared.checkpoint.CheckpointKind.TheVariants as kinds
 use Rattle.btr_top.specs.declared.ending.Ending.{Ending}
-use Rattle.btr_top.specs.declared.ending.Ending.TheVariants.{Usage, NoSource, TooLong, OutOfMemory, NoDevice, NoStore, Damaged, Occupied, TooSmall, Formatted, Checkpointed, Sealed, Stands, Full, Shipped, CutShort, Replied}
+use Rattle.btr_top.specs.declared.ending.Ending.TheVariants.{Usage, NoSource, TooLong, OutOfMemory, NoDevice, NoStore, Damaged, Occupied, TooSmall, Formatted, Checkpointed, Sealed, Unsealed, Stands, Full, Shipped, CutShort, Replied}
 use Rattle.btr_top.specs.Ending.{status_of, text_of, Writes, Shows}
 use Rattle.btr_top.specs.Command.{InputCause, CommandCause}
 use Rattle.btr_top.specs.Format.{FormatCause}
@@ -32,9 +36,11 @@ use Rattle.btr_top.specs.Checkpoint.{CheckpointEnds}
 use Rattle.btr_top.specs.Check.{CheckCause}
 use Rattle.btr_top.specs.Work.{WorkSays, WorkCause, RowsCause}
 use Rattle.btr_top.specs.Ask.{QuestionsCause}
+use Rattle.btr_top.specs.Cold.{WereAnsweredCold, IsUnopened, ColdCause, ending_of_fault, pages_on}
 use Rattle.btr_top.specs.Live.{ScriptCause}
 use Rattle.btr_top.specs.Hear.{HearsFrames, HearingCause}
 use Rattle.btr_top.specs.Run.{Cause, RunCause}
+use Rattle.btr_top.proofs.ColdReplies.{replies_rose}
 use Rattle.btr_top.proofs.ShipCauses.{ship_fault}
 
 -- ---- statuses
@@ -43,6 +49,7 @@ fault_of_code : (s : Status) → code_of s ≡ 5 → s ≡ statuses.DeviceFault
 fault_of_code statuses.Done five = absurd (omega (arith, five))
 fault_of_code statuses.Refused five = absurd (omega (arith, five))
 fault_of_code statuses.Full five = absurd (omega (arith, five))
+fault_of_code statuses.Damaged five = absurd (omega (arith, five))
 fault_of_code statuses.OutOfMemory five = absurd (omega (arith, five))
 fault_of_code statuses.DeviceFault five = refl
 
@@ -84,6 +91,7 @@ module _ {D : Type 0} (disk : Ghosts D) (old new : D) where
   work_fault What (Formatted made) why five = absurd why.0
   work_fault What (Checkpointed kind entries) why five = absurd why.0
   work_fault What Sealed why five = absurd why.0
+  work_fault What Unsealed why five = absurd why.0
   work_fault What (Stands entries) why five = absurd why.0
   work_fault What (Full need room) why five = absurd why.0
   work_fault What (Shipped frames) why five = absurd why.0
@@ -103,11 +111,37 @@ module _ {D : Type 0} (disk : Ghosts D) (old new : D) where
   asked_fault lines (Formatted made) why five = absurd why.0
   asked_fault lines (Checkpointed kind entries) why five = absurd why.0
   asked_fault lines Sealed why five = absurd why.0
+  asked_fault lines Unsealed why five = absurd why.0
   asked_fault lines (Stands entries) why five = absurd why.0
   asked_fault lines (Full need room) why five = absurd why.0
   asked_fault lines (Shipped frames) why five = absurd why.0
   asked_fault lines (CutShort cut) why five = absurd why.0
   asked_fault lines (Replied transcript) why five = why.plain.faulted (fault_of_code transcript.status five)
+
+  unopened_fault : (fault : SealedFault) → SealedCause disk old new fault → status_of (ending_of_fault fault) ≡ 5 → Failed
+  unopened_fault openings.NotAStore cause five = absurd (omega (arith, five))
+  unopened_fault openings.Unsealed cause five = absurd (omega (arith, five))
+  unopened_fault (openings.Damaged block) cause five = absurd (omega (arith, five))
+  unopened_fault openings.Fault cause five = cause
+  unopened_fault openings.Want cause five = absurd (omega (arith, five))
+
+  replied_fault : (lines : List ScriptLine) (transcript : Transcript) → WereAnsweredCold disk lines old new transcript → code_of transcript.status ≡ 5 → Failed
+  replied_fault lines transcript were five =
+      let none : statuses.Done ≡ statuses.DeviceFault → Rose (disk.faults old) (disk.faults old) = λ done. absurd (cc) in
+      replies_rose disk.is_observable (pages_on disk old) were.shelf (disk.faults old) (disk.faults old) (disk.faults new) statuses.Done (omega arith) none lines were.replies were.answers.each
+      (sym were.is_transcript.same_status ∙ fault_of_code transcript.status five)
+
+  cold_fault : (lines : List ScriptLine) (e : Ending) → ColdCause disk lines old new e → status_of e ≡ 5 → Failed
+  cold_fault lines e cold five =
+      ⊎_elim
+      (λ (replied : (transcript : Transcript) × (e ≡ Replied transcript) × WereAnsweredCold disk lines old new transcript).
+      replied_fault lines replied.0 replied.2 (sym (ap status_of replied.1) ∙ five))
+      (λ other.
+      ⊎_elim
+      (λ lacks. let nine : status_of e ≡ 9 = ap status_of lacks in absurd (omega (arith, nine, five)))
+      (λ (un : IsUnopened disk old new e). unopened_fault un.fault un.cause (sym (ap status_of un.ends) ∙ five))
+      other)
+      cold.why
 
   format_fault : (blocks : ℕ) (e : Ending) → FormatCause disk blocks old new e → status_of e ≡ 5 → Failed
   format_fault blocks Usage why five = absurd why
@@ -122,6 +156,7 @@ module _ {D : Type 0} (disk : Ghosts D) (old new : D) where
   format_fault blocks (Formatted made) why five = absurd (omega (arith, five))
   format_fault blocks (Checkpointed kind entries) why five = absurd why
   format_fault blocks Sealed why five = absurd why
+  format_fault blocks Unsealed why five = absurd why
   format_fault blocks (Stands entries) why five = absurd why
   format_fault blocks (Full need room) why five = absurd why
   format_fault blocks (Shipped frames) why five = absurd why
@@ -141,6 +176,7 @@ module _ {D : Type 0} (disk : Ghosts D) (old new : D) where
   checkpoint_fault kind (Formatted made) why five = absurd why.0
   checkpoint_fault kind (Checkpointed done entries) why five = absurd (omega (arith, five))
   checkpoint_fault kind Sealed why five = absurd (omega (arith, five))
+  checkpoint_fault kind Unsealed why five = absurd why.0
   checkpoint_fault kind (Stands entries) why five = absurd why.0
   checkpoint_fault kind (Full need room) why five = absurd (omega (arith, five))
   checkpoint_fault kind (Shipped frames) why five = absurd why.0
@@ -160,6 +196,7 @@ module _ {D : Type 0} (disk : Ghosts D) (old new : D) where
   check_fault (Formatted made) why five = absurd why
   check_fault (Checkpointed kind entries) why five = absurd why
   check_fault Sealed why five = absurd why
+  check_fault Unsealed why five = absurd why
   check_fault (Stands entries) why five = absurd (omega (arith, five))
   check_fault (Full need room) why five = absurd why
   check_fault (Shipped frames) why five = absurd why
@@ -180,6 +217,7 @@ input_five source given rest (TooSmall asked has) why five = why
 input_five source given rest (Formatted made) why five = why
 input_five source given rest (Checkpointed kind entries) why five = why
 input_five source given rest Sealed why five = why
+input_five source given rest Unsealed why five = why
 input_five source given rest (Stands entries) why five = why
 input_five source given rest (Full need room) why five = why
 input_five source given rest (Shipped frames) why five = why
@@ -212,8 +250,10 @@ module _ {S K D : Type 0} (source : SourceGhosts S) (sink : SinkGhosts K) (disk 
   cause_fault (Some (LiveGroups threshold materialize)) e why five =
       read_fault (λ input. ScriptCause disk (Shared threshold) materialize (script_of input)) e
       (λ input cause. work_fault disk old new (λ said start log own. SharesStore threshold materialize (script_of input) start log said own) e cause.0) why five
-  cause_fault (Some Ask) e why five =
+  cause_fault (Some (Ask false)) e why five =
       read_fault (λ input. QuestionsCause disk (questions_of input)) e (λ input. asked_fault disk old new (questions_of input) e) why five
+  cause_fault (Some (Ask true)) e why five =
+      read_fault (λ input. ColdCause disk (questions_of input)) e (λ input. cold_fault disk old new (questions_of input) e) why five
   cause_fault (Some (Load workers batch)) e why five =
       read_fault
       (λ input was now end. AreDistinct (list_of (rows_of input)).streams × RowsCause disk workers batch (list_of (rows_of input)) was now end) e

@@ -11,7 +11,7 @@ use Rattle.btr_super.specs.Format as format
 use Rattle.btr_words.specs.declared.command.Command.{Command}
 use Rattle.btr_words.specs.declared.command.Command.TheVariants.{Format}
 use Rattle.btr_top.specs.declared.ending.Ending.{Ending}
-use Rattle.btr_top.specs.declared.ending.Ending.TheVariants.{Usage, NoSource, TooLong, OutOfMemory, NoDevice, NoStore, Damaged, Occupied, TooSmall, Formatted, Checkpointed, Sealed, Stands, Full, Shipped, CutShort, Replied}
+use Rattle.btr_top.specs.declared.ending.Ending.TheVariants.{Usage, NoSource, TooLong, OutOfMemory, NoDevice, NoStore, Damaged, Occupied, TooSmall, Formatted, Checkpointed, Sealed, Unsealed, Stands, Full, Shipped, CutShort, Replied}
 use Rattle.btr_top.specs.Ending.{status_of, text_of, Writes, Shows}
 use Rattle.btr_top.specs.Format.{CanFormat, FormatCause}
 use Rattle.btr_top.specs.Run.{Cause, RunCause, DeviceAndSinkWork}
@@ -36,6 +36,7 @@ module _ {D : Type 0} (disk : Ghosts D) (old new : D) (reported : disk.is_observ
   made (Formatted blocks) why = refl
   made (Checkpointed kind entries) why = absurd why
   made Sealed why = absurd why
+  made Unsealed why = absurd why
   made (Stands entries) why = absurd why
   made (Full need room) why = absurd why
   made (Shipped frames) why = absurd why

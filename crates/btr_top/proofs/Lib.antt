@@ -7,6 +7,8 @@ mod CheckpointCauses
 -- why a command ends so
 mod LineLists
 mod AskedLines
+mod ColdReplies
+mod ColdCauses
 mod ShipCauses
 mod HeardLemmas
 mod HeardCauses
@@ -38,6 +40,7 @@ mod StoreCompletes
 mod LiveCompletes
 mod WorkCompletes
 mod AskCompletes
+mod ColdCompletes
 mod FormatCompletes
 mod CheckpointCompletes
 mod CheckCompletes

@@ -1,5 +1,5 @@
 -- If the device and the input suffice, and nothing fails, a run comes to its end.
-use Rattle.std.specs.Prelude.{Option, Some, None}
+use Rattle.std.specs.Prelude.{true, false, Option, Some, None}
 use Rattle.std.proofs.Common.{refl, sym, subst, inr, ⊎_elim}
 use Rattle.btr_io.specs.declared.source.Source.{Ghosts as SourceGhosts}
 use Rattle.btr_io.specs.declared.sink.Sink.{Ghosts as SinkGhosts}
@@ -16,6 +16,7 @@ use Rattle.btr_top.specs.declared.live.FeedKind.TheVariants.{Own, Shared}
 use Rattle.btr_top.specs.Run.{Cause, RunCause, CanRun, IsPlainStatus}
 use Rattle.btr_top.proofs.LiveCompletes.{benign_live}
 use Rattle.btr_top.proofs.AskCompletes.{benign_ask}
+use Rattle.btr_top.proofs.ColdCompletes.{benign_ask_cold}
 use Rattle.btr_top.proofs.WorkCompletes.{benign_load, benign_distil, benign_sample}
 use Rattle.btr_top.proofs.CheckpointCompletes.{benign_checkpoint}
 use Rattle.btr_top.proofs.CheckCompletes.{benign_check}
@@ -30,8 +31,10 @@ module _ {S K D : Type 0} (source : SourceGhosts S) (sink : SinkGhosts K) (disk 
       benign_live source disk (Own batch) materialize given rest old new sound one can source_reported reported source_works device_works e why
   plain_cause (Some (LiveGroups threshold materialize)) can e why =
       benign_live source disk (Shared threshold) materialize given rest old new sound one can source_reported reported source_works device_works e why
-  plain_cause (Some Ask) can e why =
+  plain_cause (Some (Ask false)) can e why =
       benign_ask source disk given rest old new sound can source_reported reported source_works device_works e why
+  plain_cause (Some (Ask true)) can e why =
+      benign_ask_cold source disk given rest old new can source_reported reported source_works device_works e why
   plain_cause (Some (Load workers batch)) can e why =
       benign_load source disk workers batch given rest old new sound one can source_reported reported source_works device_works e why
   plain_cause (Some (Distil workers)) can e why = benign_distil disk workers old new sound one can reported device_works e why.1

@@ -1,5 +1,5 @@
 -- A device whose store is missing or damaged is left as it was by each command that opens a store, which ends by a refusal.
-use Rattle.std.specs.Prelude.{◌≡◌, ℕ, List, Option, Some, None}
+use Rattle.std.specs.Prelude.{◌≡◌, ℕ, true, false, List, Option, Some, None}
 use Rattle.std.proofs.Common.{refl, sym, subst, inl, inr, ⊎_elim}
 use Rattle.btr_io.specs.declared.source.Source.{Ghosts as SourceGhosts}
 use Rattle.btr_io.specs.declared.sink.Sink.{Ghosts as SinkGhosts}
@@ -24,7 +24,7 @@ use Rattle.btr_words.specs.declared.command.Command.TheVariants.{Format, Load, A
 use Rattle.btr_top.specs.declared.checkpoint.CheckpointKind.{CheckpointKind}
 use Rattle.btr_top.specs.declared.checkpoint.CheckpointKind.TheVariants as kinds
 use Rattle.btr_top.specs.declared.ending.Ending.{Ending}
-use Rattle.btr_top.specs.declared.ending.Ending.TheVariants.{Usage, NoSource, TooLong, OutOfMemory, NoDevice, NoStore, Damaged, Occupied, TooSmall, Formatted, Checkpointed, Sealed, Stands, Full, Shipped, CutShort, Replied}
+use Rattle.btr_top.specs.declared.ending.Ending.TheVariants.{Usage, NoSource, TooLong, OutOfMemory, NoDevice, NoStore, Damaged, Occupied, TooSmall, Formatted, Checkpointed, Sealed, Unsealed, Stands, Full, Shipped, CutShort, Replied}
 use Rattle.btr_top.specs.Ending.{status_of, text_of, Writes, Shows}
 use Rattle.btr_top.specs.Command.{InputCause, CommandCause, IsKept}
 use Rattle.btr_top.specs.Checkpoint.{CheckpointEnds}
@@ -87,6 +87,7 @@ input_refused source given rest (TooSmall asked has) why = absurd why
 input_refused source given rest (Formatted made) why = absurd why
 input_refused source given rest (Checkpointed kind entries) why = absurd why
 input_refused source given rest Sealed why = absurd why
+input_refused source given rest Unsealed why = absurd why
 input_refused source given rest (Stands entries) why = absurd why
 input_refused source given rest (Full need room) why = absurd why
 input_refused source given rest (Shipped frames) why = absurd why
@@ -121,6 +122,7 @@ module _ {D : Type 0} (disk : Ghosts D) (only_now : disk.is_observable → (d : 
   work_refused What (Formatted made) why = absurd why.0
   work_refused What (Checkpointed kind entries) why = absurd why.0
   work_refused What Sealed why = absurd why.0
+  work_refused What Unsealed why = absurd why.0
   work_refused What (Stands entries) why = absurd why.0
   work_refused What (Full need room) why = absurd why.0
   work_refused What (Shipped frames) why = absurd why.0
@@ -140,6 +142,7 @@ module _ {D : Type 0} (disk : Ghosts D) (only_now : disk.is_observable → (d : 
   asked_refused lines (Formatted made) why = absurd why.0
   asked_refused lines (Checkpointed kind entries) why = absurd why.0
   asked_refused lines Sealed why = absurd why.0
+  asked_refused lines Unsealed why = absurd why.0
   asked_refused lines (Stands entries) why = absurd why.0
   asked_refused lines (Full need room) why = absurd why.0
   asked_refused lines (Shipped frames) why = absurd why.0
@@ -159,6 +162,7 @@ module _ {D : Type 0} (disk : Ghosts D) (only_now : disk.is_observable → (d : 
   checkpoint_refused kind (Formatted made) why = absurd why.0
   checkpoint_refused kind (Checkpointed done entries) why = absurd (unsound (why.1 reported))
   checkpoint_refused kind Sealed why = absurd (unsound (why.0 reported))
+  checkpoint_refused kind Unsealed why = absurd why.0
   checkpoint_refused kind (Stands entries) why = absurd why.0
   checkpoint_refused kind (Full need room) why = absurd (unsound (why.0 reported))
   checkpoint_refused kind (Shipped frames) why = absurd why.0
@@ -191,7 +195,8 @@ module _ {D : Type 0} (disk : Ghosts D) (only_now : disk.is_observable → (d : 
     cause_refused (Some (LiveGroups threshold materialize)) e opens why =
         read_refused (λ input. ScriptCause disk (Shared threshold) materialize (script_of input)) e
         (λ input cause. work_refused (λ said start log own. SharesStore threshold materialize (script_of input) start log said own) e cause.0) why
-    cause_refused (Some Ask) e opens why =
+    cause_refused (Some (Ask true)) e opens why = absurd opens
+    cause_refused (Some (Ask false)) e opens why =
         read_refused (λ input. QuestionsCause disk (questions_of input)) e (λ input. asked_refused (questions_of input) e) why
     cause_refused (Some (Load workers batch)) e opens why =
         read_refused

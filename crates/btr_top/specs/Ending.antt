@@ -5,8 +5,8 @@ use Rattle.btr_io.specs.Faults.{Rose}
 use Rattle.btr_text.specs.Text.{line_text}
 use Rattle.btr_top.specs.declared.ending.Ending.{Ending}
 use Rattle.btr_top.specs.declared.ending.Ending.TheVariants.{Usage, NoSource, TooLong, OutOfMemory, NoDevice, NoStore}
-use Rattle.btr_top.specs.declared.ending.Ending.TheVariants.{Damaged, Occupied, TooSmall, Formatted, Checkpointed, Sealed, Stands, Full}
-use Rattle.btr_top.specs.declared.ending.Ending.TheVariants.{Shipped, CutShort, Replied}
+use Rattle.btr_top.specs.declared.ending.Ending.TheVariants.{Damaged, Occupied, TooSmall, Formatted, Checkpointed, Sealed, Unsealed}
+use Rattle.btr_top.specs.declared.ending.Ending.TheVariants.{Stands, Full, Shipped, CutShort, Replied}
 use Rattle.btr_top.specs.declared.checkpoint.CheckpointKind.TheVariants.{Plain, Seal}
 use Rattle.btr_top.specs.declared.command.TheConstants.{MAX_INPUT}
 use Rattle.btr_store.specs.Status.{code_of}
@@ -35,6 +35,7 @@ status_of (TooSmall asked blocks) = 8
 status_of (Formatted blocks) = 0
 status_of (Checkpointed kind entries) = 0
 status_of Sealed = 1
+status_of Unsealed = 1
 status_of (Stands entries) = 0
 status_of (Full need left) = 8
 status_of (Shipped frames) = 0
@@ -60,6 +61,7 @@ text_of (Formatted blocks) = line_text (codes "formatted" ∷ decimal blocks ∷
 text_of (Checkpointed Plain entries) = line_text (codes "checkpoint" ∷ decimal entries ∷ [])
 text_of (Checkpointed Seal entries) = line_text (codes "sealed" ∷ decimal entries ∷ [])
 text_of Sealed = sealed_line
+text_of Unsealed = line_text (codes "no" ∷ codes "unsealed" ∷ [])
 text_of (Stands entries) = line_text (codes "stands" ∷ decimal entries ∷ [])
 text_of (Full need left) = line_text (codes "no" ∷ codes "full" ∷ decimal need ∷ decimal left ∷ [])
 text_of (Shipped frames) = []

@@ -1,5 +1,5 @@
 -- Why a run ends as it does: by its words, its input, its device and its sink; and what is promised if nothing fails.
-use Rattle.std.specs.Prelude.{◌≡◌, ◌⊎◌, ℕ, ◌+◌, Option, Some, None}
+use Rattle.std.specs.Prelude.{◌≡◌, ◌⊎◌, ℕ, ◌+◌, Bool, true, false, Option, Some, None}
 use Rattle.btr_io.specs.declared.source.Source.{Ghosts as SourceGhosts}
 use Rattle.btr_io.specs.declared.sink.Sink.{Ghosts as SinkGhosts}
 use Rattle.btr_io.specs.Bytes.{Gives}
@@ -18,6 +18,7 @@ use Rattle.btr_top.specs.Command.{IsKept}
 use Rattle.btr_top.specs.declared.live.FeedKind.TheVariants.{Own, Shared}
 use Rattle.btr_top.specs.Live.{LiveCause, CanLive}
 use Rattle.btr_top.specs.Ask.{AskCause, CanAsk}
+use Rattle.btr_top.specs.Cold.{IsKeptCold, AskColdCause, CanAskCold}
 use Rattle.btr_top.specs.Format.{FormatCause, FormatLeaves, CanFormat}
 use Rattle.btr_top.specs.Checkpoint.{CheckpointEnds, CanCheckpoint}
 use Rattle.btr_top.specs.Check.{CheckEnds, HoldsLegalStore}
@@ -36,7 +37,8 @@ Cause source sink disk (Some (Live batch materialize)) given rest before sent ol
     LiveCause source disk (Own batch) materialize given rest old new e
 Cause source sink disk (Some (LiveGroups threshold materialize)) given rest before sent old new e =
     LiveCause source disk (Shared threshold) materialize given rest old new e
-Cause source sink disk (Some Ask) given rest before sent old new e = AskCause source disk given rest old new e
+Cause source sink disk (Some (Ask false)) given rest before sent old new e = AskCause source disk given rest old new e
+Cause source sink disk (Some (Ask true)) given rest before sent old new e = AskColdCause source disk given rest old new e
 Cause source sink disk (Some (Load workers batch)) given rest before sent old new e =
     LoadCause source disk workers batch given rest old new e
 Cause source sink disk (Some (Distil workers)) given rest before sent old new e = (rest ≡ given) × DistilCause disk workers old new e
@@ -70,7 +72,8 @@ CanRun source disk None given old = ⊥
 CanRun source disk (Some (Format blocks)) given old = ⊥
 CanRun source disk (Some (Live batch materialize)) given old = CanLive source disk (Own batch) materialize given old
 CanRun source disk (Some (LiveGroups threshold materialize)) given old = CanLive source disk (Shared threshold) materialize given old
-CanRun source disk (Some Ask) given old = CanAsk source disk given old
+CanRun source disk (Some (Ask false)) given old = CanAsk source disk given old
+CanRun source disk (Some (Ask true)) given old = CanAskCold source disk given old
 CanRun source disk (Some (Load workers batch)) given old = CanLoad source disk batch given old
 CanRun source disk (Some (Distil workers)) given old = CanDistil disk old
 CanRun source disk (Some (Sample number streams points)) given old = CanSample disk number streams points old
@@ -82,12 +85,18 @@ CanRun source disk (Some Hear) given old = CanHear source disk given old
 
 -- The command only reads the device.
 abbrev pub IsReader : Option Command → Type 0
-IsReader command = (command ≡ Some Ask) ⊎ (command ≡ Some Check) ⊎ ((from : ℕ) × (command ≡ Some (Ship from)))
+IsReader command = ((cold : Bool) × (command ≡ Some (Ask cold))) ⊎ (command ≡ Some Check) ⊎ ((from : ℕ) × (command ≡ Some (Ship from)))
 
--- The command opens a store, and works on it or asks it. `check` and `ship` open none.
+-- Nothing was written on the device, and no crash leaves what it might not have left before. Of `ask --cold` it is said as a proposition.
+abbrev pub KeepsDevice : {D : Type 0} → Ghosts D → Option Command → D → D → Type 0
+KeepsDevice disk (Some (Ask true)) old new = IsKeptCold disk old new
+KeepsDevice disk command old new = IsKept disk old new
+
+-- The command opens a store, and works on it or asks it. `ask --cold`, `check` and `ship` open none.
 abbrev pub OpensStore : Option Command → Type 0
 OpensStore None = ⊥
 OpensStore (Some (Format blocks)) = ⊥
+OpensStore (Some (Ask true)) = ⊥
 OpensStore (Some Check) = ⊥
 OpensStore (Some (Ship from)) = ⊥
 OpensStore command = Unit {0}
@@ -147,4 +156,4 @@ module _ {S K D : Type 0} (source : SourceGhosts S) (sink : SinkGhosts K) (disk 
     pub unsound : disk.is_observable → OpensStore command → (IsUndamaged (disk.size old) (disk.contents old) → ⊥)
         → IsRefused disk old new status
     -- however `ask`, `check` or `ship` ends, nothing is written on the device
-    pub kept : IsReader command → IsKept disk old new
+    pub kept : IsReader command → KeepsDevice disk command old new

@@ -53,6 +53,9 @@ pub enum Ending {
     /// The store is sealed, so it takes no checkpoint.
     Sealed,
 
+    /// The store is not sealed, so it is not answered from without its nodes in memory.
+    Unsealed,
+
     /// The device holds a legal history of this many entries.
     Stands { entries: u64 },
 
@@ -148,6 +151,7 @@ fn status_of(ending: &Ending) -> u8
         Ending::Formatted { .. } => 0,
         Ending::Checkpointed { .. } => 0,
         Ending::Sealed => 1,
+        Ending::Unsealed => 1,
         Ending::Stands { .. } => 0,
         Ending::Full { .. } => 8,
         Ending::Shipped { .. } => 0,
@@ -181,6 +185,7 @@ fn text_of(alloc: Global, ending: &Ending) -> Result<Vec<u8>, AllocError>
             entries,
         } => done_text(alloc, b"sealed", *entries),
         Ending::Sealed => sealed_text(alloc),
+        Ending::Unsealed => line(alloc, b"no", &[b"unsealed"]),
         Ending::Stands { entries } => done_text(alloc, b"stands", *entries),
         Ending::Full { need, left } => two_numbers_text(alloc, b"full", *need, *left),
         Ending::NoDevice | Ending::Shipped { .. } | Ending::CutShort { .. } | Ending::Replied(_) =>

@@ -8,6 +8,7 @@
 mod ask;
 mod check;
 mod checkpoint;
+mod cold;
 mod distil;
 mod format_store;
 mod hear;

@@ -4,13 +4,13 @@ ghost use Rattle.btr_io.specs.Bytes.{Gives};
 ghost use Rattle.btr_words.specs.declared.command.Command.TheVariants.{Format};
 ghost use Rattle.btr_top.specs.declared.command.TheConstants.{MAX_INPUT};
 ghost use Rattle.btr_words.specs.Words.{command_of, IsInBounds};
-ghost use Rattle.btr_top.specs.Command.{IsKept};
 ghost use Rattle.btr_top.specs.Format.{FormatCause, FormatLeaves};
-ghost use Rattle.btr_top.specs.Run.{IsReader, RunCause, Runs, WritesAtEnd};
+ghost use Rattle.btr_top.specs.Run.{IsReader, KeepsDevice, RunCause, Runs, WritesAtEnd};
 
 use crate::ask::run_ask;
 use crate::check::run_check;
 use crate::checkpoint::{CheckpointKind, run_checkpoint};
+use crate::cold::run_ask_cold;
 use crate::command::CommandResult;
 use crate::distil::run_distil;
 use crate::ending::{Ending, show};
@@ -110,7 +110,8 @@ fn dispatch<R: Threads + Wait + Sync, S: Source, K: Sink, D: Disk + Send, P: Pac
     ensures later { K.faults sink.old ≤ K.faults sink.new }
     ensures format_leaves { D.is_observable → (blocks : ℕ) → command_of (map string_bytes words.now) ≡ Some (Format blocks)
         → FormatLeaves ⟦<D as Disk>⟧ blocks disk result.disk }
-    ensures kept { IsReader (command_of (map string_bytes words.now)) → IsKept ⟦<D as Disk>⟧ disk result.disk }
+    ensures kept { IsReader (command_of (map string_bytes words.now))
+        → KeepsDevice ⟦<D as Disk>⟧ (command_of (map string_bytes words.now)) disk result.disk }
 {
     match read_words(system.alloc, words) {
         Ok(Some(command)) => run_one(system, command, source, sink, disk, pace),
@@ -149,7 +150,7 @@ fn run_one<R: Threads + Wait + Sync, S: Source, K: Sink, D: Disk + Send, P: Pace
     ensures later { K.faults sink.old ≤ K.faults sink.new }
     ensures format_leaves { D.is_observable → (blocks : ℕ) → command ≡ Format blocks
         → FormatLeaves ⟦<D as Disk>⟧ blocks disk result.disk }
-    ensures kept { IsReader (Some command) → IsKept ⟦<D as Disk>⟧ disk result.disk }
+    ensures kept { IsReader (Some command) → KeepsDevice ⟦<D as Disk>⟧ (Some command) disk result.disk }
 {
     let alloc = system.alloc;
     match command {
@@ -165,7 +166,8 @@ fn run_one<R: Threads + Wait + Sync, S: Source, K: Sink, D: Disk + Send, P: Pace
             let feeds = FeedKind::Shared { threshold };
             run_live(system, feeds, materialize, source, disk, pace)
         }
-        Command::Ask => run_ask(alloc, source, disk),
+        Command::Ask { cold: false } => run_ask(alloc, source, disk),
+        Command::Ask { cold: true } => run_ask_cold(alloc, source, disk),
         Command::Load { workers, batch } => run_load(system, workers, batch, source, disk, pace),
         Command::Distil { workers } => run_distil(system, workers, disk, pace),
         Command::Sample {

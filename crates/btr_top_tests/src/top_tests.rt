@@ -3,6 +3,7 @@ mod bulk;
 mod cells;
 mod checkpoints;
 mod checks;
+mod cold;
 mod crashes;
 mod device;
 mod fixture;

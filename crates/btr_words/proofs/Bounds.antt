@@ -12,7 +12,7 @@ use Rattle.btr_words.specs.declared.command.Command.{Command}
 use Rattle.btr_words.specs.declared.command.Command.TheVariants.{Format, Load, Ask, Distil, Live, LiveGroups, Sample, Checkpoint, Seal, Check, Ship, Hear}
 use Rattle.btr_words.specs.Words.{Argument, Found, IsInBounds, Takes, Text, argument_named, batch_argument, batch_of, between, blocks_argument, command_of, format_of, group_argument, live_arguments, live_of}
 use Rattle.btr_words.specs.Words.{materialize_of, nothing, number_for, number_of, numbers_in_order, numbers_of, option_numbers, options_after, others, sample_arguments, sample_of}
-use Rattle.btr_words.specs.Words.{from_argument, ship_of}
+use Rattle.btr_words.specs.Words.{cold_argument, cold_of, from_argument, ship_of}
 use Rattle.btr_words.specs.Words.{sample_within, taken, without_marker, workers_argument, workers_of}
 use Rattle.btr_words.proofs.Found.{named_in_others, some_is}
 
@@ -205,7 +205,7 @@ in_bounds (word ∷ words) = go (is (codes "format")) (is (codes "load")) (is (c
 
     go : (b1 b2 b3 b4 b5 b6 b7 b8 b9 b10 b11 : Bool) → Good (cond b1 (option_and_then format_of (option_numbers (blocks_argument ∷ []) words))
         (cond b2 (option_map (λ found. Load (workers_of found) (batch_of found)) (option_numbers (workers_argument ∷ batch_argument ∷ []) words))
-        (cond b3 (option_map (λ found. Ask) (option_numbers [] words))
+        (cond b3 (option_map (λ found. Ask (cold_of found)) (option_numbers (cold_argument ∷ []) words))
         (cond b4 (option_map (λ found. Distil (workers_of found)) (option_numbers (workers_argument ∷ []) words))
         (cond b5 (option_and_then live_of (option_numbers live_arguments words))
         (cond b6 (option_and_then sample_of (numbers_in_order sample_arguments (without_marker words)))
@@ -216,7 +216,7 @@ in_bounds (word ∷ words) = go (is (codes "format")) (is (codes "load")) (is (c
         (cond b11 (option_map (λ found. Hear) (option_numbers [] words)) None)))))))))))
     go true b2 b3 b4 b5 b6 b7 b8 b9 b10 b11 = format_good words
     go false true b3 b4 b5 b6 b7 b8 b9 b10 b11 = load_good words
-    go false false true b4 b5 b6 b7 b8 b9 b10 b11 = mapped [] (λ found. Ask) (λ found h. tt) words
+    go false false true b4 b5 b6 b7 b8 b9 b10 b11 = mapped (cold_argument ∷ []) (λ found. Ask (cold_of found)) (λ found h. tt) words
     go false false false true b5 b6 b7 b8 b9 b10 b11 = mapped (workers_argument ∷ []) (λ found. Distil (workers_of found)) (workers_lie (workers_argument ∷ []) refl) words
     go false false false false true b6 b7 b8 b9 b10 b11 = live_good words
     go false false false false false true b7 b8 b9 b10 b11 = sample_good (without_marker words)

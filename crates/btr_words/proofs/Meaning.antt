@@ -13,7 +13,7 @@ use Rattle.clap.specs.declared.error.kind.ErrorKind.TheVariants.{InvalidSubcomma
 use Rattle.clap.proofs.FaultLemmas.{stopped_fault}
 use Rattle.btr_words.specs.declared.command.Command.{Command}
 use Rattle.btr_words.specs.declared.command.Command.TheVariants.{Format, Load, Ask, Distil, Live, LiveGroups, Checkpoint, Seal, Check, Ship, Hear}
-use Rattle.btr_words.specs.Words.{Argument, Found, argument_named, batch_argument, batch_of, blocks_argument, command_of, format_of, between, live_arguments, live_of, materialize_of, number_for}
+use Rattle.btr_words.specs.Words.{Argument, Found, argument_named, batch_argument, batch_of, blocks_argument, cold_argument, cold_of, command_of, format_of, between, live_arguments, live_of, materialize_of, number_for}
 use Rattle.btr_words.specs.Words.{from_argument, ship_of}
 use Rattle.btr_words.specs.Words.{numbers_in_order, option_numbers, sample_arguments, sample_of, sampled, without_marker, workers_argument, workers_of}
 use Rattle.btr_words.specs.Program.{batch_in, command_of_rows, flag_in, number_in, program_app, workers_in}
@@ -103,10 +103,12 @@ load_gives words = with_options (codes "load") (workers_argument ∷ batch_argum
     (batch_is (workers_argument ∷ batch_argument ∷ []) refl rows found reads)) words
 
 abbrev ask_meaning : List Text → Option Command
-ask_meaning words = option_map (λ found. Ask) (option_numbers [] words)
+ask_meaning words = option_map (λ found. Ask (cold_of found)) (option_numbers (cold_argument ∷ []) words)
 
-ask_gives : (words : List Text) → LeafGives (codes "ask") (options_leaf (codes "ask") []) ask_meaning words
-ask_gives words = with_options (codes "ask") [] (λ found. Ask) (λ rows found reads. refl) words
+ask_gives : (words : List Text) → LeafGives (codes "ask") (options_leaf (codes "ask") (cold_argument ∷ [])) ask_meaning words
+ask_gives words = with_options (codes "ask") (cold_argument ∷ []) (λ found. Ask (cold_of found))
+    (λ rows found reads. ap (λ (b : Bool). Some (Ask b)) (flag_at_end (map option_rule (cold_argument ∷ [])) (cold_argument ∷ []) (codes "cold") rows found
+    (blank_rules (cold_argument ∷ [])) refl reads)) words
 
 abbrev distil_meaning : List Text → Option Command
 distil_meaning words = option_map (λ found. Distil (workers_of found)) (option_numbers (workers_argument ∷ []) words)
@@ -324,7 +326,7 @@ words_give (word ∷ rest) = go (is (codes "format")) (is (codes "load")) (is (c
         (found (codes "ship") b10 (found (codes "hear") b11 None))))))))))))
     go true b2 b3 b4 b5 b6 b7 b8 b9 b10 b11 = named (codes "format") word rest (options_leaf (codes "format") (blocks_argument ∷ [])) (format_meaning rest) refl refl refl (format_gives rest)
     go false true b3 b4 b5 b6 b7 b8 b9 b10 b11 = named (codes "load") word rest (options_leaf (codes "load") (workers_argument ∷ batch_argument ∷ [])) (load_meaning rest) refl refl refl (load_gives rest)
-    go false false true b4 b5 b6 b7 b8 b9 b10 b11 = named (codes "ask") word rest (options_leaf (codes "ask") []) (ask_meaning rest) refl refl refl (ask_gives rest)
+    go false false true b4 b5 b6 b7 b8 b9 b10 b11 = named (codes "ask") word rest (options_leaf (codes "ask") (cold_argument ∷ [])) (ask_meaning rest) refl refl refl (ask_gives rest)
     go false false false true b5 b6 b7 b8 b9 b10 b11 = named (codes "distil") word rest (options_leaf (codes "distil") (workers_argument ∷ [])) (distil_meaning rest) refl refl refl (distil_gives rest)
     go false false false false true b6 b7 b8 b9 b10 b11 = named (codes "live") word rest (options_leaf (codes "live") live_arguments) (live_meaning rest) refl refl refl (live_gives rest)
     go false false false false false true b7 b8 b9 b10 b11 = named (codes "sample") word rest sample_leaf (sample_meaning rest) refl refl refl (sample_gives rest)

@@ -42,8 +42,11 @@ format_app = with_rule (new_app (codes "format")) (option_in (codes "blocks") 8 
 abbrev pub load_app : App
 load_app = with_rule (with_rule (new_app (codes "load")) workers_rule) batch_rule
 
+abbrev pub cold_rule : Rule
+cold_rule = flag_rule (codes "cold")
+
 abbrev pub ask_app : App
-ask_app = new_app (codes "ask")
+ask_app = with_rule (new_app (codes "ask")) cold_rule
 
 abbrev pub distil_app : App
 distil_app = with_rule (new_app (codes "distil")) workers_rule
@@ -149,7 +152,7 @@ command_with_rows name rows =
     else (if bytes_eq name (codes "check") then Some Check
     else (if bytes_eq name (codes "ship") then ship_in rows
     else (if bytes_eq name (codes "hear") then Some Hear
-    else Some Ask)))))))))
+    else Some (Ask (flag_in (codes "cold") rows)))))))))))
 
 -- The command of the subcommand that was found.
 abbrev pub command_of_rows : Option (Text × List Row) → Option Command

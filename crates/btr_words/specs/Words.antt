@@ -124,6 +124,9 @@ group_argument = record { name = codes "group"; takes = between 1 65536 }
 abbrev pub materialize_argument : Argument
 materialize_argument = record { name = codes "materialize"; takes = nothing }
 
+abbrev pub cold_argument : Argument
+cold_argument = record { name = codes "cold"; takes = nothing }
+
 abbrev pub live_arguments : List Argument
 live_arguments = batch_argument ∷ group_argument ∷ materialize_argument ∷ []
 
@@ -147,6 +150,10 @@ batch_of found = unwrap_or (number_for (codes "batch") found) 4096
 -- `--materialize` is there.
 abbrev pub materialize_of : Found → Bool
 materialize_of found = is_found (codes "materialize") found
+
+-- `--cold` is there.
+abbrev pub cold_of : Found → Bool
+cold_of found = is_found (codes "cold") found
 
 -- `live --group B` with this number, where `--batch` must not be there.
 abbrev pub live_groups_of : Found → ℕ → Option Command
@@ -188,7 +195,7 @@ command_with name words =
     if bytes_eq (codes "format") name then option_and_then format_of (option_numbers (blocks_argument ∷ []) words)
     else (if bytes_eq (codes "load") name
     then option_map (λ found. Load (workers_of found) (batch_of found)) (option_numbers (workers_argument ∷ batch_argument ∷ []) words)
-    else (if bytes_eq (codes "ask") name then option_map (λ found. Ask) (option_numbers [] words)
+    else (if bytes_eq (codes "ask") name then option_map (λ found. Ask (cold_of found)) (option_numbers (cold_argument ∷ []) words)
     else (if bytes_eq (codes "distil") name
     then option_map (λ found. Distil (workers_of found)) (option_numbers (workers_argument ∷ []) words)
     else (if bytes_eq (codes "live") name then option_and_then live_of (option_numbers live_arguments words)
@@ -209,7 +216,7 @@ command_of (name ∷ words) = command_with name words
 abbrev pub IsInBounds : Command → Type 0
 IsInBounds (Format blocks) = (8 ≤ blocks) × (blocks ≤ 4294967296)
 IsInBounds (Load workers batch) = (1 ≤ workers) × (workers ≤ 16) × (1 ≤ batch) × (batch ≤ 65536)
-IsInBounds Ask = Unit {0}
+IsInBounds (Ask cold) = Unit {0}
 IsInBounds (Distil workers) = (1 ≤ workers) × (workers ≤ 16)
 IsInBounds (Live batch materialize) = (1 ≤ batch) × (batch ≤ 65536)
 IsInBounds (LiveGroups threshold materialize) = (1 ≤ threshold) × (threshold ≤ 65536)

@@ -13,8 +13,11 @@ pub enum Command {
         batch: u32,
     },
 
-    /// `ask`: answer the questions of the input from the store.
-    Ask,
+    /// `ask [--cold]`: answer the questions of the input from the store. `--cold`: the store is sealed, and no node of it is held in
+    /// memory.
+    Ask {
+        cold: bool,
+    },
 
     /// `distil [--workers K]`: bring each output of the store up to date once, K workers at once, from 1 to 16.
     Distil {

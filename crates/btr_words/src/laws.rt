@@ -5,10 +5,17 @@ ghost use Rattle.btr_words.specs.declared.command.Command.TheVariants.{Ask, Chec
 ghost use Rattle.btr_words.specs.declared.command.Command.TheVariants.{Hear, Seal, Ship};
 ghost use Rattle.btr_words.specs.Words.{Text, command_of, number_of, loaded, sampled};
 
-/// The words of each command that has no flag and reads no rows, each option written as two words.
-pub fn commands_are_these()
+/// The words of `ask`, with its flag and without. The flag is there at most once, and has no text.
+pub fn commands_of_questions_are_these()
     ensures none { command_of [] ≡ None }
-    ensures ask { command_of (codes "ask" ∷ []) ≡ Some Ask }
+    ensures ask { command_of (codes "ask" ∷ []) ≡ Some (Ask false) }
+    ensures cold { command_of (codes "ask" ∷ codes "--cold" ∷ []) ≡ Some (Ask true) }
+    ensures twice { command_of (codes "ask" ∷ codes "--cold" ∷ codes "--cold" ∷ []) ≡ None }
+    ensures alone { (t : Text) → command_of (codes "ask" ∷ (codes "--cold=" ++ t) ∷ []) ≡ None }
+{}
+
+/// The words of each other command that has no flag and reads no rows, each option written as two words.
+pub fn commands_are_these()
     ensures checkpoint { command_of (codes "checkpoint" ∷ []) ≡ Some Checkpoint }
     ensures seal { command_of (codes "seal" ∷ []) ≡ Some Seal }
     ensures check { command_of (codes "check" ∷ []) ≡ Some Check }

@@ -1,10 +1,10 @@
 //! The commands and their arguments, as `clap` reads them.
 ghost use Rattle.std.specs.Prelude.{◌≡◌, IfOk, false};
 ghost use Rattle.clap.specs.Words.{app_of, rule_of};
-ghost use Rattle.btr_words.specs.Program.{first_app, main_app, program_app, format_app, load_app, distil_app};
+ghost use Rattle.btr_words.specs.Program.{first_app, main_app, program_app, format_app, load_app, ask_app, distil_app};
 ghost use Rattle.btr_words.specs.Program.{live_app, sample_app, ship_app};
 ghost use Rattle.btr_words.specs.Program.{batch_rule, group_rule, materialize_rule, workers_rule, number_rule, streams_rule, points_rule};
-ghost use Rattle.btr_words.specs.Program.{from_rule};
+ghost use Rattle.btr_words.specs.Program.{from_rule, cold_rule};
 
 use clap::{Arg, ArgAction, Command};
 use std::alloc::{AllocError, Global};
@@ -43,7 +43,7 @@ fn first_commands<'a>(alloc: Global) -> Result<Command<'a>, AllocError>
         .subcommand_required(true)
         .subcommand(format_command(alloc)?)?
         .subcommand(load_command(alloc)?)?
-        .subcommand(Command::new(alloc, "ask"))
+        .subcommand(ask_command(alloc)?)
 }
 
 /// Returns the description of `format --blocks N`. An `Err` means out of memory.
@@ -63,6 +63,13 @@ fn load_command<'a>(alloc: Global) -> Result<Command<'a>, AllocError>
     Command::new(alloc, "load")
         .arg(workers(alloc))?
         .arg(batch(alloc))
+}
+
+/// Returns the description of `ask [--cold]`. An `Err` means out of memory.
+fn ask_command<'a>(alloc: Global) -> Result<Command<'a>, AllocError>
+    ensures { IfOk result (λ c. app_of c ≡ ask_app) }
+{
+    Command::new(alloc, "ask").arg(cold(alloc))
 }
 
 /// Returns the description of `distil [--workers K]`. An `Err` means out of memory.
@@ -137,6 +144,16 @@ fn materialize<'a>(alloc: Global) -> Arg<'a>
 {
     Arg::new(alloc, "materialize")
         .long("materialize")
+        .action(ArgAction::SetTrue)
+}
+
+/// Returns the description of `--cold`.
+fn cold<'a>(alloc: Global) -> Arg<'a>
+    ensures local { result.global ≡ false }
+    ensures rule { rule_of result ≡ cold_rule }
+{
+    Arg::new(alloc, "cold")
+        .long("cold")
         .action(ArgAction::SetTrue)
 }
 

@@ -59,7 +59,8 @@ fn command_in(matches: &ArgMatches) -> Option<Command>
     } else if name == "hear" {
         Some(Command::Hear)
     } else {
-        Some(Command::Ask)
+        let cold = is_set(arguments, "cold");
+        Some(Command::Ask { cold })
     }
 }
 

@@ -66,6 +66,7 @@ const REFUSED: &[Refused] = &[
     Refused(Reason::Memory, "no memory\n"),
     Refused(Reason::Full { need: 9, left: 2 }, "no full 9 2\n"),
     Refused(Reason::Device, "no device\n"),
+    Refused(Reason::Damaged { block: 8 }, "no damaged 8\n"),
     Refused(
         Reason::Stopped {
             entries: 18446744073709551615,

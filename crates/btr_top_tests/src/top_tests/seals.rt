@@ -16,7 +16,7 @@ use std::test::Fail;
 use std::thread::Threads;
 
 /// A seal of the two entries.
-const SEAL: &str = "\
+pub(super) const SEAL: &str = "\
 $ seal
 < sealed 2
 = 0
@@ -29,6 +29,12 @@ $ live
 < no sealed
 = 1
 $ ask
+> aligned U 0 8 2 1
+< ok 1 2
+< 0 2 12 5 7
+< 4 1 -2 -2 -2
+= 0
+$ ask --cold
 > aligned U 0 8 2 1
 < ok 1 2
 < 0 2 12 5 7
@@ -83,7 +89,7 @@ fn each_command_is_refused_by_a_sealed_store(rt: HostRuntime) -> Result<(), Fail
 }
 
 /// An output that is not up to date, and a seal.
-const OUTPUT: &str = "\
+pub(super) const OUTPUT: &str = "\
 $ live
 > create U
 > insert U 0 5 3 7 4 -2
@@ -261,7 +267,7 @@ fn the_bytes_of_a_seal_are_those_of_its_format(rt: HostRuntime) -> Result<(), Fa
 }
 
 /// Returns the bytes of a sealed device.
-fn sealed_bytes(rt: &(impl AllocGlobal + Threads + Wait + Sync)) -> Result<Vec<u8>, Fail>
+pub(super) fn sealed_bytes(rt: &(impl AllocGlobal + Threads + Wait + Sync)) -> Result<Vec<u8>, Fail>
     ensures { IfOk result (λ bytes. length bytes.items % 4096 ≡ 0) }
 {
     Ok(sealed(rt)?.into_bytes())
@@ -357,7 +363,7 @@ fn each_byte_of_a_seal_counts(rt: HostRuntime) -> Result<(), Fail> {
 }
 
 /// Returns an empty store whose superblock is that of a sealed one without a checkpoint, and with these bytes at its first gate.
-fn sealed_by_hand(
+pub(super) fn sealed_by_hand(
     rt: &(impl AllocGlobal + Threads + Wait + Sync),
     gate: &[u8],
 ) -> Result<MemDisk, Fail> {

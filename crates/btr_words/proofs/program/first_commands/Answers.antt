@@ -12,4 +12,4 @@ returns c =
     c.in_ok-subcommand.ensures.shape (plain_fields _ (ap (λ (a : App). a.top.is_plain) c.in_ok-format_command.ensures)).globals ∙ ap₂ with_subcommand start (ap (λ (a : App). a.top) c.in_ok-format_command.ensures) in
     let with_load : app_of c.in_ok-subcommand-2.field-0 ≡ with_subcommand (with_subcommand (record { top = program_shape; subs = [] }) format_app.top) load_app.top =
     c.in_ok-subcommand-2.ensures.shape (plain_fields _ (ap (λ (a : App). a.top.is_plain) c.in_ok-load_command.ensures)).globals ∙ ap₂ with_subcommand with_format (ap (λ (a : App). a.top) c.in_ok-load_command.ensures) in
-    IfOk-weaker c.subcommand-3.result _ _ (λ m h. h.shape (plain_fields _ (ap (λ (a : App). a.top.is_plain) c.new-2.ensures.app)).globals ∙ ap₂ with_subcommand with_load (ap (λ (a : App). a.top) c.new-2.ensures.app)) c.subcommand-3.ensures
+    IfOk-weaker c.subcommand-3.result _ _ (λ m h. h.shape (plain_fields _ (ap (λ (a : App). a.top.is_plain) c.in_ok-ask_command.ensures)).globals ∙ ap₂ with_subcommand with_load (ap (λ (a : App). a.top) c.in_ok-ask_command.ensures)) c.subcommand-3.ensures

@@ -10,7 +10,7 @@ returns-in-Some-clause-page g c o =
     let first = c.args.self.now.start.value in
     let end = c.blocks-2.ensures in
     let low = c.if-block-blocks.false in
-    let size = c.args.self.now.sized in
+    let size = c.args.self.now.counts.same_size in
     let inside : c.args.block < disk.size first = omega arith in
     let same = subst (λ s. Same (disk.contents s.value) (disk.contents c.hold.new.self.disk)) held.start (c.hold.new.self.stays o) in
     page-there (disk.contents first) (disk.contents c.hold.new.self.disk) (disk.size first) c.args.block c.hold.new.self.bytes c.in-Some.page inside same (held.held o) held.long c.in-Some.ensures.found c.in-Some.ensures.fits
