@@ -91,7 +91,7 @@ expect 'the device after them' "$(compared device day)" 'same'
 wrong=
 named=0
 count=$(($(wc -c <device) / 4096))
-for block in $(awk -v n="$count" 'BEGIN { srand(3); for (k = 0; k < 60; k++) print 4 + int(rand() * (n - 6)) }'); do
+for block in $(awk -v n="$count" 'BEGIN { srand(3); for (k = 0; k < 30; k++) print 4 + int(rand() * (n - 6)) }'); do
     cp day device
     printf 'XXXX' | dd of=device bs=4096 seek="$block" conv=notrunc 2>/dev/null
     "$program" device ask --cold <lines1 >found
