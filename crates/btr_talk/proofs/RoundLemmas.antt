@@ -5,7 +5,7 @@ use Rattle.std.proofs.lemmas.List.Concat.{flat_map-append}
 use Rattle.btr_io.specs.declared.sink.Sink.{Ghosts as SinkGhosts}
 use Rattle.btr_lines.specs.Moments.{EachAfter}
 use Rattle.btr_talk.specs.declared.desk.Desk.{Ghosts as DeskGhosts}
-use Rattle.btr_talk.specs.Rounds.{Round, pieces_of, texts_of, said_in, moments_of, sink_after, IsRound}
+use Rattle.btr_talk.specs.Rounds.{Round, pieces_of, texts_of, said_in, moments_of, sink_after, GoesThrough, IsRound}
 
 module _ {K X : Type 0} (rounds : List (Round K X)) (r : Round K X) where
   -- one round more
@@ -20,6 +20,22 @@ module _ {K X : Type 0} (rounds : List (Round K X)) (r : Round K X) where
 
   pub moments_of-push : moments_of (rounds ++ r ∷ []) ≡ moments_of rounds ++ r.ready ∷ r.said ∷ []
   moments_of-push = flat_map-append (λ (s : Round K X). s.ready ∷ s.said ∷ []) rounds (r ∷ [])
+
+module _ {K X : Type 0} (goes_on : X → X → Type 0) (stays : (d : X) → goes_on d d) (then : (old mid new : X) → goes_on old mid → goes_on mid new → goes_on old new) where
+  -- the last desk is later
+  pub through-later : (begun : X) (moments : List (K × X)) (here there : X) → GoesThrough goes_on begun moments here → goes_on here there → GoesThrough goes_on begun moments there
+  through-later begun [] here there through goes = then begun here there through goes
+  through-later begun (moment ∷ moments) here there through goes = (through.0, through-later moment.1 moments here there through.1 goes)
+
+  -- one moment more, of the last desk, later
+  pub through-push : (begun : X) (moments : List (K × X)) (k : K) (here there : X) → GoesThrough goes_on begun moments here → goes_on here there → GoesThrough goes_on begun (moments ++ (k, there) ∷ []) there
+  through-push begun [] k here there through goes = (then begun here there through goes, stays there)
+  through-push begun (moment ∷ moments) k here there through goes = (through.0, through-push moment.1 moments k here there through.1 goes)
+
+  -- two moments more, of the same desk
+  pub through-push-two : (begun : X) (moments : List (K × X)) (k l : K) (here there : X) → GoesThrough goes_on begun moments here → goes_on here there → GoesThrough goes_on begun (moments ++ (k, there) ∷ (l, there) ∷ []) there
+  through-push-two begun [] k l here there through goes = (then begun here there through goes, (stays there, stays there))
+  through-push-two begun (moment ∷ moments) k l here there through goes = (through.0, through-push-two moment.1 moments k l here there through.1 goes)
 
 pub sink_after-push : {K X : Type 0} (before : K) (rounds : List (Round K X)) (r : Round K X) → sink_after before (rounds ++ r ∷ []) ≡ r.said.0
 sink_after-push before [] r = refl

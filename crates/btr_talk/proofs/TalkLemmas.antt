@@ -12,17 +12,17 @@ use Rattle.btr_lines.proofs.EachLemmas.{each_after-none, each_after-append, each
 use Rattle.btr_talk.specs.declared.desk.Desk.{Ghosts as DeskGhosts}
 use Rattle.btr_talk.specs.declared.turns.TalkEnd.{TalkEnd}
 use Rattle.btr_talk.specs.declared.turns.TalkEnd.TheVariants.{Ended, NoSource, NoSink, OutOfMemory}
-use Rattle.btr_talk.specs.Rounds.{Round, pieces_of, IsRound, IsAsked}
+use Rattle.btr_talk.specs.Rounds.{Round, pieces_of, GoesThrough, IsRound, IsAsked}
 use Rattle.btr_talk.specs.Ends.{Talks, EndsBy, end_of_read}
 use Rattle.btr_talk.specs.Reply.{Replies, StopsReply, StopsAtSink, StopsAtDesk}
 use Rattle.btr_talk.specs.Turn.{GoesOn, Talking, Turned}
-use Rattle.btr_talk.proofs.RoundLemmas.{pieces_of-push, texts_of-push, moments_of-push, sink_after-push, has_said}
+use Rattle.btr_talk.proofs.RoundLemmas.{pieces_of-push, texts_of-push, moments_of-push, through-later, through-push, through-push-two, sink_after-push, has_said}
 
 -- the calls that were counted before, and then
 counted-sum : (m n a b c : ℕ) → CountedTimes m a b → CountedTimes n b c → CountedTimes (m + n) a c
 counted-sum m n a b c h k = record { rose = omega (arith, h.rose, k.rose, h.exact, k.exact); exact = omega (arith, h.exact, k.exact) }
 
-module _ {S K X : Type 0} (source : SourceGhosts S) (sink : SinkGhosts K) (desk : DeskGhosts X) where
+module _ {S K X : Type 0} (source : SourceGhosts S) (sink : SinkGhosts K) (desk : DeskGhosts X) (stays : (d : X) → desk.goes_on d d) (then : (old mid new : X) → desk.goes_on old mid → desk.goes_on mid new → desk.goes_on old new) where
   pub talk-starts : {limit : ℕ} {given : S} {before : K} {begun : X} → desk.did begun begun [] [] → Talking source sink desk limit given before begun given before begun [] [] []
   talk-starts {limit} {given} {before} {begun} did = record {
     goes = record {
@@ -31,6 +31,7 @@ module _ {S K X : Type 0} (source : SourceGhosts S) (sink : SinkGhosts K) (desk 
       asks = each_after-none (IsAsked source given before []);
       counted = record { rose = omega arith; exact = omega arith };
       answers = record { noted = refl; passed = refl; no_fault = refl; did = did };
+      through = stays begun;
       lines = λ o. refl;
     };
     no_fault = refl;
@@ -41,11 +42,12 @@ module _ {S K X : Type 0} (source : SourceGhosts S) (sink : SinkGhosts K) (desk 
     talks_by : {now : S} {after : K} {here : X} {moments : List (K × X)} {asked : List (S × K)} (end : TalkEnd) (rounds : List (Round K X))
         → EachAfter (IsRound sink desk limit begun before) rounds → EachAfter (IsAsked source given before rounds) asked
         → CountedTimes (length asked) (source.calls given) (source.calls now)
-        → EndsBy source sink desk end limit given now before after begun here rounds moments → Talks source sink desk limit given now before after begun here end moments asked
-    talks_by end rounds made asks counted ended = record {
+        → GoesThrough desk.goes_on begun moments here → EndsBy source sink desk end limit given now before after begun here rounds moments → Talks source sink desk limit given now before after begun here end moments asked
+    talks_by end rounds made asks counted through ended = record {
       rounds = rounds;
       made = made;
       written = λ o first later e. has_said sink desk limit begun before o rounds first later made e;
+      through = through;
       asks = asks;
       counted = counted;
       ended = ended;
@@ -90,6 +92,7 @@ module _ {S K X : Type 0} (source : SourceGhosts S) (sink : SinkGhosts K) (desk 
         asks = asks_more;
         counted = counted_more;
         answers = t.goes.answers;
+        through = t.goes.through;
         lines = λ o. t.goes.lines o ∙ ap (λ b. pieces_of t.goes.rounds ++ b) (first o).first;
       }
 
@@ -102,7 +105,7 @@ module _ {S K X : Type 0} (source : SourceGhosts S) (sink : SinkGhosts K) (desk 
           → Talks source sink desk limit given later before after begun here (end_of_read fault) moments longer
       read_ends line rest Fault kept long part cause =
           let p = part refl in
-          talks_by NoSource t.goes.rounds t.goes.made asks_more counted_more (
+          talks_by NoSource t.goes.rounds t.goes.made asks_more counted_more t.goes.through (
             t.goes.answers,
             record {
               lines = λ o. (
@@ -115,12 +118,12 @@ module _ {S K X : Type 0} (source : SourceGhosts S) (sink : SinkGhosts K) (desk 
             },
           )
       read_ends line rest TooLong kept long part cause =
-          talks_by (end_of_read TooLong) t.goes.rounds t.goes.made asks_more counted_more (
+          talks_by (end_of_read TooLong) t.goes.rounds t.goes.made asks_more counted_more t.goes.through (
             t.goes.answers,
             λ o. let l = long o refl in (l.0, l.1, t.goes.lines o ∙ ap (λ b. pieces_of t.goes.rounds ++ b) l.2, l.3),
           )
       read_ends line rest Want kept long part cause =
-          talks_by OutOfMemory t.goes.rounds t.goes.made asks_more counted_more (record {
+          talks_by OutOfMemory t.goes.rounds t.goes.made asks_more counted_more t.goes.through (record {
             noted = t.goes.answers.noted;
             passed = t.goes.answers.passed;
             no_fault = t.goes.answers.no_fault;
@@ -168,6 +171,8 @@ module _ {S K X : Type 0} (source : SourceGhosts S) (sink : SinkGhosts K) (desk 
             no_fault = r.no_fault ∙ t.answers.no_fault;
             did = subst₂ (λ lines texts. desk.did begun there lines texts) (sym (pieces_of-push t.rounds round)) (sym (texts_of-push t.rounds round)) is_round.done.did;
           };
+          through = subst (λ l. GoesThrough desk.goes_on begun l there) (sym r.noted)
+              (through-push-two desk.goes_on stays then begun moments after said here there t.through r.goes);
           lines = λ o. t.lines o ∙ sym (append_assoc (pieces_of t.rounds) (line ∷ []) ahead) ∙ ap (λ l. l ++ ahead) (sym (pieces_of-push t.rounds round));
         }
 
@@ -179,26 +184,29 @@ module _ {S K X : Type 0} (source : SourceGhosts S) (sink : SinkGhosts K) (desk 
           (λ s. subst (λ e. Talks source sink desk limit given now before said begun there e longer asked) (sym s.0) (at_desk s.1)) (subst (λ l. StopsReply sink desk l after said here there moments longer end) is stopped)
         where
           at_sink : StopsAtSink sink desk line after said here there moments longer → Talks source sink desk limit given now before said begun there NoSink longer asked
-          at_sink s = talks_by NoSink t.rounds t.made t.asks t.counted (record {
-            piece = line;
-            text = s.text;
-            ready = (after, there);
-            done = record { within = within; unwritten = t.answers.passed; did = s.does begun _ _ t.answers.did };
-            next = λ o. (ahead, t.lines o);
-            noted = s.noted ∙ ap (λ l. l ++ (after, there) ∷ []) t.answers.noted;
-            part = s.part;
-            nothing_else = refl;
-            rose = subst (λ n. Rose n (sink.faults said)) t.answers.no_fault s.rose;
-          })
+          at_sink s = talks_by NoSink t.rounds t.made t.asks t.counted
+              (subst (λ l. GoesThrough desk.goes_on begun l there) (sym s.noted) (through-push desk.goes_on stays then begun moments after here there t.through s.goes)) (record {
+                piece = line;
+                text = s.text;
+                ready = (after, there);
+                done = record { within = within; unwritten = t.answers.passed; did = s.does begun _ _ t.answers.did };
+                next = λ o. (ahead, t.lines o);
+                noted = s.noted ∙ ap (λ l. l ++ (after, there) ∷ []) t.answers.noted;
+                part = s.part;
+                nothing_else = refl;
+                later = omega (arith, t.answers.no_fault, s.later);
+                rose = subst (λ n. Rose n (sink.faults said)) t.answers.no_fault s.rose;
+              })
 
           at_desk : StopsAtDesk sink desk line after said here there moments longer → Talks source sink desk limit given now before said begun there OutOfMemory longer asked
-          at_desk s = talks_by OutOfMemory t.rounds t.made t.asks t.counted (record {
-            noted = s.noted ∙ t.answers.noted;
-            passed = s.unwritten ∙ t.answers.passed;
-            no_fault = ap (λ k. sink.faults k) s.unwritten ∙ t.answers.no_fault;
-            did = ⊎_elim inl (λ l. inr (record { piece = line; text = l.0; did = l.1; next = λ o. (ahead, t.lines o) })) (s.lost begun _ _ t.answers.did);
-            first = λ o. (line ∷ ahead, t.lines o);
-          })
+          at_desk s = talks_by OutOfMemory t.rounds t.made t.asks t.counted
+              (subst (λ l. GoesThrough desk.goes_on begun l there) (sym s.noted) (through-later desk.goes_on stays then begun moments here there t.through s.goes)) (record {
+                noted = s.noted ∙ t.answers.noted;
+                passed = s.unwritten ∙ t.answers.passed;
+                no_fault = ap (λ k. sink.faults k) s.unwritten ∙ t.answers.no_fault;
+                did = ⊎_elim inl (λ l. inr (record { piece = line; text = l.0; did = l.1; next = λ o. (ahead, t.lines o) })) (s.lost begun _ _ t.answers.did);
+                first = λ o. (line ∷ ahead, t.lines o);
+              })
 
     -- the talk goes on, or the input has ended
     pub turned : {now : S} {after : K} {here : X} (held : List ℕ) {moments : List (K × X)} {asked : List (S × K)} (more : Bool)
@@ -206,7 +214,7 @@ module _ {S K X : Type 0} (source : SourceGhosts S) (sink : SinkGhosts K) (desk 
         → source.faults now ≡ source.faults given → (source.is_observable → more ≡ false → held ++ source.left now ≡ [])
         → Turned source sink desk limit given before begun now after here held moments asked (Ok more)
     turned held true t quiet none = record { goes = t; no_fault = quiet }
-    turned {now = now} held false t quiet none = talks_by Ended t.rounds t.made t.asks t.counted (
+    turned {now = now} held false t quiet none = talks_by Ended t.rounds t.made t.asks t.counted t.through (
       t.answers,
       record {
         lines = λ o. t.lines o ∙ append-nil (pieces_of t.rounds);
@@ -234,7 +242,7 @@ module _ {S K X : Type 0} (source : SourceGhosts S) (sink : SinkGhosts K) (desk 
   unfolding talk-starts
   no_talk {limit} {given} {before} {begun} did =
       let t : Talking source sink desk limit given before begun given before begun [] [] [] = talk-starts did in
-      talks_by OutOfMemory [] t.goes.made t.goes.asks t.goes.counted (record {
+      talks_by OutOfMemory [] t.goes.made t.goes.asks t.goes.counted t.goes.through (record {
         noted = refl;
         passed = refl;
         no_fault = refl;

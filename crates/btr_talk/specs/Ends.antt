@@ -10,7 +10,7 @@ use Rattle.btr_lines.specs.Moments.{EachAfter}
 use Rattle.btr_talk.specs.declared.desk.Desk.{Ghosts as DeskGhosts}
 use Rattle.btr_talk.specs.declared.turns.TalkEnd.{TalkEnd}
 use Rattle.btr_talk.specs.declared.turns.TalkEnd.TheVariants.{Ended, NoSource, TooLong, NoSink, OutOfMemory}
-use Rattle.btr_talk.specs.Rounds.{Round, pieces_of, texts_of, said_in, moments_of, sink_after, HasGiven, IsDone, IsRound, IsAsked}
+use Rattle.btr_talk.specs.Rounds.{Round, pieces_of, texts_of, said_in, moments_of, sink_after, GoesThrough, HasGiven, IsDone, IsRound, IsAsked}
 
 -- The end of a talk in which no line could be read.
 abbrev pub end_of_read : ReadAllFault → TalkEnd
@@ -59,6 +59,7 @@ module _ {S K X : Type 0} (source : SourceGhosts S) (sink : SinkGhosts K) (desk 
     pub noted : moments ≡ moments_of rounds ++ ready ∷ []
     pub part : sink.is_observable → (n : ℕ) × (n ≤ length text) × (sink.written after ≡ sink.written ready.0 ++ take n text)
     pub nothing_else : now ≡ ready.1
+    pub later : sink.faults before ≤ sink.faults after
     pub rose : Rose (sink.faults before) (sink.faults after)
 
   -- The next line was done, and its reply is lost.
@@ -88,14 +89,15 @@ module _ {S K X : Type 0} (source : SourceGhosts S) (sink : SinkGhosts K) (desk 
   EndsBy OutOfMemory limit given rest before after begun now rounds moments = RunsOut given before after begun now rounds moments
 
   -- A talk. There were rounds, one after another, which are the first lines of the input. After some of them the sink has just the
-  -- replies of these. Whenever the source was asked for more, each line that it had given was answered, and each call of the source is
-  -- among these moments.
+  -- replies of these. The desk of each moment is that of the moment before it, later. Whenever the source was asked for more, each line
+  -- that it had given was answered, and each call of the source is among these moments.
   pub record Talks (limit : ℕ) (given rest : S) (before after : K) (begun now : X) (end : TalkEnd) (moments : List (K × X))
       (asked : List (S × K)) : Type 0 where
     pub rounds : List (Round K X)
     pub made : EachAfter (IsRound sink desk limit begun before) rounds
     pub written : sink.is_observable → (first later : List (Round K X)) → rounds ≡ first ++ later
         → sink.written (sink_after before first) ≡ sink.written before ++ said_in first
+    pub through : GoesThrough desk.goes_on begun moments now
     pub asks : EachAfter (IsAsked source given before rounds) asked
     pub counted : CountedTimes (length asked) (source.calls given) (source.calls rest)
     pub ended : EndsBy end limit given rest before after begun now rounds moments

@@ -11,6 +11,7 @@ module _ {K X : Type 0} (sink : SinkGhosts K) (desk : DeskGhosts X) where
   -- The line was done, and then its reply was written and passed on.
   pub record Replies (line text : List ℕ) (before after : K) (old new : X) (moments longer : List (K × X)) : Type 0 where
     pub does : DoesLine desk.did line text old new
+    pub goes : desk.goes_on old new
     pub noted : longer ≡ moments ++ (before, new) ∷ (after, new) ∷ []
     pub written : sink.is_observable → sink.written after ≡ sink.written before ++ text
     pub passed : sink.is_observable → sink.passed_on after ≡ sink.written after
@@ -20,13 +21,16 @@ module _ {K X : Type 0} (sink : SinkGhosts K) (desk : DeskGhosts X) where
   pub record StopsAtSink (line : List ℕ) (before after : K) (old new : X) (moments longer : List (K × X)) : Type 0 where
     pub text : List ℕ
     pub does : DoesLine desk.did line text old new
+    pub goes : desk.goes_on old new
     pub noted : longer ≡ moments ++ (before, new) ∷ []
     pub part : sink.is_observable → (n : ℕ) × (n ≤ length text) × (sink.written after ≡ sink.written before ++ take n text)
+    pub later : sink.faults before ≤ sink.faults after
     pub rose : Rose (sink.faults before) (sink.faults after)
 
   -- Memory ran out: the line was not done, or its reply is lost.
   pub record StopsAtDesk (line : List ℕ) (before after : K) (old new : X) (moments longer : List (K × X)) : Type 0 where
     pub lost : MayLoseReply desk.did line old new
+    pub goes : desk.goes_on old new
     pub noted : longer ≡ moments
     pub unwritten : after ≡ before
 

@@ -40,6 +40,11 @@ module _ {K X : Type 0} where
   sink_after before [] = before
   sink_after before (r ∷ rounds) = sink_after r.said.0 rounds
 
+-- The desk of each of these moments is that of the moment before it, later; so is the last desk.
+abbrev pub GoesThrough : {K X : Type 0} → (X → X → Type 0) → X → List (K × X) → X → Type 0
+GoesThrough goes_on begun [] now = goes_on begun now
+GoesThrough goes_on begun (moment ∷ moments) now = goes_on begun moment.1 × GoesThrough goes_on moment.1 moments now
+
 module _ {S : Type 0} (source : SourceGhosts S) where
   -- The source has given just these lines since it was `given`, and a part of the next line.
   abbrev pub HasGiven : List (List ℕ) → S → S → Type 0

@@ -9,7 +9,7 @@ use Rattle.btr_talk.specs.declared.desk.Desk.{Ghosts as DeskGhosts}
 use Rattle.btr_talk.specs.declared.turns.TalkEnd.{TalkEnd}
 use Rattle.btr_talk.specs.declared.turns.Turns.{Turns}
 use Rattle.btr_talk.specs.declared.turns.TalkEnd.TheVariants.{Ended}
-use Rattle.btr_talk.specs.Rounds.{Round, pieces_of, IsRound, IsAsked}
+use Rattle.btr_talk.specs.Rounds.{Round, pieces_of, GoesThrough, IsRound, IsAsked}
 use Rattle.btr_talk.specs.Ends.{AnswersAll, Talks}
 
 module _ {S K X : Type 0} (source : SourceGhosts S) (sink : SinkGhosts K) (desk : DeskGhosts X) where
@@ -21,6 +21,7 @@ module _ {S K X : Type 0} (source : SourceGhosts S) (sink : SinkGhosts K) (desk 
     pub asks : EachAfter (IsAsked source given before rounds) asked
     pub counted : CountedTimes (length asked) (source.calls given) (source.calls now)
     pub answers : AnswersAll source sink desk before after begun here rounds moments
+    pub through : GoesThrough desk.goes_on begun moments here
     pub lines : source.is_observable → pieces (source.left given) ≡ pieces_of rounds ++ ahead
 
   -- A talk between two turns. The lines that are ahead are those of the bytes that are held and of what the source has left.

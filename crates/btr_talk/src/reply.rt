@@ -7,10 +7,14 @@ use crate::Desk;
 use crate::turns::TalkEnd;
 use btr_io::{Failed, Sink, write_all};
 use btr_lines::Moments;
+use std::marker::Sync;
+use std::sync::Wait;
+use std::thread::Threads;
 
 /// Does a line, writes its reply, and passes it on. The moment when the line was done is added to `moments`, and then the moment when
 /// its reply had been passed on. `text` is where the reply is made.
-pub(crate) fn reply<X: Desk, K: Sink>(
+pub(crate) fn reply<R: Threads + Wait + Sync, X: Desk, K: Sink>(
+    rt: &R,
     desk: &mut X,
     sink: &mut K,
     line: &[u8],
@@ -27,7 +31,7 @@ pub(crate) fn reply<X: Desk, K: Sink>(
         moments.old.items moments.new.items end) }
 {
     text.clear();
-    desk.answer(line, text)?;
+    desk.answer(rt, line, text)?;
     *moments = moments.and(sink, desk);
     write(sink, text)?;
     *moments = moments.and(sink, desk);

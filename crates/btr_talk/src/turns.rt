@@ -8,7 +8,9 @@ use crate::reply::reply;
 use btr_io::{Failed, ReadAllFault, Sink, Source};
 use btr_lines::{Lines, Moments};
 use std::alloc::{AllocError, Global};
+use std::marker::Sync;
 use std::sync::Wait;
+use std::thread::Threads;
 
 /// Why a talk ended.
 #[derive(Clone, Copy, PartialEq)]
@@ -86,7 +88,7 @@ struct Turns<S, K, X> {
 /// last line is answered when it ends. If it does, the last line is empty.
 ///
 /// Takes memory for the longest line, the longest reply and 64 KiB. It waits as long as the source does, so it may never return.
-pub fn talk<R: Wait, X: Desk, S: Source, K: Sink>(
+pub fn talk<R: Threads + Wait + Sync, X: Desk, S: Source, K: Sink>(
     rt: &R,
     alloc: Global,
     desk: &mut X,
@@ -138,7 +140,7 @@ impl<S, K, X> Turns<S, K, X> {
 
 impl<S: Source, K: Sink, X: Desk> Turns<S, K, X> {
     /// Takes turns until the talk ends.
-    fn run<R: Wait>(
+    fn run<R: Threads + Wait + Sync>(
         &mut self,
         rt: &R,
         desk: &mut X,
@@ -156,7 +158,7 @@ impl<S: Source, K: Sink, X: Desk> Turns<S, K, X> {
             result self.new.moments.items self.new.asked.items }
     {
         for _ in rt.forever() {
-            match self.turn(desk, source, sink, limit) {
+            match self.turn(rt, desk, source, sink, limit) {
                 Ok(true) => {}
                 Ok(false) => return TalkEnd::Ended,
                 Err(end) => return end,
@@ -166,8 +168,9 @@ impl<S: Source, K: Sink, X: Desk> Turns<S, K, X> {
     }
 
     /// Reads the next line and answers it. Returns whether there may be more lines.
-    fn turn(
+    fn turn<R: Threads + Wait + Sync>(
         &mut self,
+        rt: &R,
         desk: &mut X,
         source: &mut S,
         sink: &mut K,
@@ -181,7 +184,8 @@ impl<S: Source, K: Sink, X: Desk> Turns<S, K, X> {
         let more = self
             .lines
             .next_line(source, sink, limit, &mut self.line, &mut self.asked)?;
-        reply(desk, sink, &self.line, &mut self.text, &mut self.moments)?;
+        let moments = &mut self.moments;
+        reply(rt, desk, sink, &self.line, &mut self.text, moments)?;
         Ok(more)
     }
 }

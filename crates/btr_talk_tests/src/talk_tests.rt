@@ -4,8 +4,10 @@ ghost use Rattle.std.specs.Prelude.{◌≡◌, ◌++◌, ◌∷◌, [], map};
 use btr_io::{MemSink, MemSource};
 use btr_talk::{Desk, TalkEnd, talk};
 use std::alloc::{AllocError, Global};
+use std::marker::Sync;
 use std::sync::Wait;
 use std::test::Fail;
+use std::thread::Threads;
 
 type Bytes = &'static [u8];
 
@@ -18,12 +20,23 @@ impl Desk for Echo {
 
     ghost did = { λ begun now lines texts. texts ≡ map (λ line. 62 ∷ line ++ 10 ∷ []) lines };
 
-    fn answer(&mut self, line: &[u8], text: &mut Vec<u8>) -> Result<(), AllocError> {
+    ghost goes_on = { λ old new. Unit {0} };
+
+    fn answer<R: Threads + Wait + Sync>(
+        &mut self,
+        rt: &R,
+        line: &[u8],
+        text: &mut Vec<u8>,
+    ) -> Result<(), AllocError> {
         text.push(b'>')?;
         text.extend_from_slice(line)?;
         text.push(b'\n')?;
         Ok(())
     }
+
+    ghost stays = { λ desk. tt };
+
+    ghost later = { λ old mid new first second. tt };
 }
 
 /// Input, bytes and failing call of the source, room, bytes a call and failing call of the sink; the end, and what was written. A call
@@ -100,7 +113,7 @@ const TALKS: &[Case] = &[
 ];
 
 /// Whether a talk ends so, and the sink has these bytes then.
-fn holds<R: Wait>(rt: &R, alloc: Global, row: &Case) -> Result<bool, Fail> {
+fn holds<R: Threads + Wait + Sync>(rt: &R, alloc: Global, row: &Case) -> Result<bool, Fail> {
     if row.1 == 0 || row.4 == 0 {
         return Ok(false);
     }
