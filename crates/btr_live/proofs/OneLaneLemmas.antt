@@ -34,7 +34,7 @@ use Rattle.btr_live.specs.LaneLaws.{lines_last}
 use Rattle.btr_live.specs.OneHistory.{of_lane, lanes_of, lane_lines}
 use Rattle.btr_live.specs.Live.{LastRound, RunsLive}
 use Rattle.btr_live.specs.Script.{State, begun_state, RepliesToLine, RunsScript}
-use Rattle.btr_live.specs.OneLane.{AreInLane, FitsLeft, OneLaneIsTheModel}
+use Rattle.btr_live.specs.OneLane.{AreInLane, FitsLeft, OneLaneIsTheModel, OneSessionIsTheModel}
 use Rattle.btr_live.proofs.NumberLemmas.{given_rest, in_one}
 use Rattle.btr_live.proofs.TurnEntries.{Adds, adds_none, adds_above, committed_adds, landed_adds, next_current, IsStepOf, as_step}
 use Rattle.btr_live.proofs.StoreSteps.{IsDone, IsLast, all_numbers, room, store_of, Stepped, stepped, at_most}
@@ -333,6 +333,26 @@ begun_same start runs =
     let same : room start start.history ≡ start.left = omega arith in
     ap₂ (λ left stopped. state_with start left stopped) same (sym runs)
 
+-- Lines of one session that ran alone have the model's replies.
+pub one_session : OneSessionIsTheModel
+one_session batch start log script replies own ran all starts sound follows fits =
+    let alone : Alone start log follows (lane_begun start.history) false own = record {
+      begins = starts;
+      known = λ stops. absurd (cc);
+      numbers = λ n.
+          let every = all n in
+          let low : length start.history + one false ≡ length start.history = omega arith in
+          let same = ap (λ low. given low (all_numbers log) n) low in
+          omega (arith, every, same);
+    } in
+    let by_itself : RanAlone start log follows batch fits sound (state_with start (room start start.history) false) script replies =
+    lines_alone start log follows batch fits sound (lane_begun start.history) false script replies own ran.0 alone ran.1 in record {
+      last = by_itself.last;
+      runs = subst (λ s. RunsScript batch s script replies by_itself.last) (begun_same start sound) by_itself.replied;
+      history = by_itself.history;
+      stopped = by_itself.stopped;
+    }
+
 module _ (batch lane : ℕ) (start : StoreState) (log : LogState) (script : List ScriptLine) (report : LiveReport) (own : List ℕ) (runs : RunsLive (in_own_feeds batch) false start log start.history script report own) (all : AreAllSince start.history log own) (in_lane : AreInLane lane script) where
   -- No other lane has a number.
   other_none : (k : ℕ) → (k ≡ lane → ⊥) → slice_index_or runs.mine k [] ≡ []
@@ -341,16 +361,14 @@ module _ (batch lane : ℕ) (start : StoreState) (log : LogState) (script : List
       (no_items lane k script (map (λ (line : ScriptLine). line.line) script) other in_lane) (runs.lanes.lanes k).1
 
   -- All numbers are those of the one lane.
-  mine_all : (n : ℕ) → times n (slice_index_or runs.mine lane []) ≡ given (length start.history + one false) (all_numbers log) n
+  mine_all : AreAllSince start.history log (slice_index_or runs.mine lane [])
   mine_all n =
       let sum = runs.numbers n in
       let only = in_one n lane runs.mine (λ k other. ap (times n) (other_none k other)) in
       let no_party : total (times n) runs.beside ≡ 0 = ap (λ (l : List (List ℕ)). total (times n) l) (runs.no_rounds refl) in
       let no_more = no_last start log runs.middle.history report.last runs.lastly runs.last n in
       let every = all n in
-      let low : length start.history + one false ≡ length start.history = omega arith in
-      let same = ap (λ low. given low (all_numbers log) n) low in
-      omega (arith, sum, only, no_party, no_more, every, same)
+      omega (arith, sum, only, no_party, no_more, every)
 
   -- The lane ran on the log, and its lines and replies are all lines and replies.
   lane_ran : RunsLines batch start log (lane_begun start.history) (map (λ (line : ScriptLine). line.line) script) report.replies.items (slice_index_or runs.mine lane []) (runs.lanes.lanes lane).0
@@ -365,16 +383,7 @@ module _ (batch lane : ℕ) (start : StoreState) (log : LogState) (script : List
 -- A script in one lane that ran alone has the model's replies.
 pub one_lane : OneLaneIsTheModel
 one_lane batch lane start log script report own runs all sound follows fits in_lane =
-    let ran = lane_ran batch lane start log script report own runs all in_lane in
-    let alone : Alone start log follows (lane_begun start.history) false (slice_index_or runs.mine lane []) = record {
-      begins = starts_trans log.history runs.middle.history start.history runs.goes_on.begins runs.after;
-      known = λ stops. absurd (cc);
-      numbers = mine_all batch lane start log script report own runs all in_lane;
-    } in
-    let by_itself : RanAlone start log follows batch fits sound (state_with start (room start start.history) false) script report.replies.items =
-    lines_alone start log follows batch fits sound (lane_begun start.history) false script report.replies.items (slice_index_or runs.mine lane []) (runs.lanes.lanes lane).0 alone ran in record {
-      last = by_itself.last;
-      runs = subst (λ s. RunsScript batch s script report.replies.items by_itself.last) (begun_same start sound) by_itself.replied;
-      history = by_itself.history;
-      stopped = by_itself.stopped;
-    }
+    one_session batch start log script report.replies.items (slice_index_or runs.mine lane [])
+    ((runs.lanes.lanes lane).0, lane_ran batch lane start log script report own runs all in_lane)
+    (mine_all batch lane start log script report own runs all in_lane)
+    (starts_trans log.history runs.middle.history start.history runs.goes_on.begins runs.after) sound follows fits

@@ -1,12 +1,16 @@
--- Private promises: what lanes and rounds did as jobs.
-use Rattle.std.specs.Prelude.{◌≡◌, ℕ, Bool, true, ◌||◌, List, Option}
+-- What lines did that ran one after another in a session. The private promises of lanes and rounds, as jobs, are here too.
+use Rattle.std.specs.Prelude.{◌≡◌, ℕ, Bool, true, ◌||◌, List, [], ◌∷◌, ◌++◌, Option}
 use Rattle.std.specs.Option.{is_some}
+use Rattle.btr_disk.specs.declared.disk.Disk.{Ghosts}
 use Rattle.btr_hist.specs.declared.entry.Entry.{Entry}
 use Rattle.btr_text.specs.declared.script.Line.{Line}
 use Rattle.btr_text.specs.declared.reply.LineReply.{LineReply}
 use Rattle.btr_gate.specs.Prefixes.{StartsWith}
+use Rattle.btr_hall.specs.declared.session.Hall.{Hall}
+use Rattle.btr_hall.specs.declared.session.Session.{Session}
 use Rattle.btr_jobs.specs.States.{StoreState, LogState}
-use Rattle.btr_live.specs.Feeds.{Waiting, none_waiting}
+use Rattle.btr_jobs.specs.Jobs.{Does}
+use Rattle.btr_live.specs.Feeds.{Waiting, FeedsValue, none_waiting, waiting_of}
 use Rattle.btr_live.specs.declared.rounds.Rounds.{Rounds}
 use Rattle.btr_live.specs.declared.lane.Lane.{Lane}
 use Rattle.btr_live.specs.declared.own_feeds.OwnFeeds.{OwnFeeds}
@@ -36,6 +40,19 @@ pub record RunsTo (batch : ℕ) (start : StoreState) (log : LogState) (low : Lis
   pub waits : last.waiting ≡ waiting
   pub ends : StartsWith log.history last.history
   pub failed : last.saw_failure ≡ true → (start.stopped || is_some log.failed) ≡ true
+
+module _ {D : Type 0} {disk : Ghosts D} where
+  -- These lines ran in a session, from the first state of it to the second, and had these replies. These points wait after them.
+  abbrev pub RanTo : ℕ → Hall D disk → Session D disk → Session D disk → List (Option Line) → List LineReply → Waiting → Type 0
+  RanTo batch hall begun now lines replies waiting =
+      Does hall begun now (λ start log low own. RunsTo batch start log low lines replies own waiting)
+
+  -- One line more ran, with this reply, whichever lines had run before it.
+  abbrev pub RunsNext : Hall D disk → Session D disk → Session D disk → FeedsValue → FeedsValue → Option Line → LineReply → Type 0
+  RunsNext hall old new feeds after line reply =
+      (begun : Session D disk) (lines : List (Option Line)) (replies : List LineReply)
+      → RanTo feeds.batch hall begun old lines replies (waiting_of feeds)
+      → RanTo feeds.batch hall begun new (lines ++ line ∷ []) (replies ++ reply ∷ []) (waiting_of after)
 
 -- So did lines of a lane with shared buffers, of which it had seen `old` before them, and has then seen `new`.
 pub record RunsSharedTo (has : ℕ → Bool) (threshold : ℕ) (old new : Views) (start : StoreState) (log : LogState) (low : List Entry)

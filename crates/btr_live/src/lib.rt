@@ -15,6 +15,7 @@ mod shared_feeds;
 mod distill_line;
 mod feed_line;
 mod line;
+mod next_line;
 mod question;
 mod reasons;
 mod shared_line;
@@ -31,10 +32,11 @@ mod prepare;
 
 pub use feeds::Feeds;
 pub use laws::{
-    last_is_current, lines_keep_legal, one_lane_is_the_model, refreshes_are_current,
-    runs_are_one_history,
+    last_is_current, lines_keep_legal, one_lane_is_the_model, one_session_is_the_model,
+    refreshes_are_current, runs_are_one_history,
 };
 pub use live::{Beside, LiveReport, lanes, last_round, shared_lanes};
+pub use next_line::answer_next;
 pub use prepare::LANES;
 pub use question::answer_question;
 pub use reasons::{reason_of_landing, reason_of_step};

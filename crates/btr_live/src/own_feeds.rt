@@ -9,7 +9,7 @@ ghost use Rattle.btr_live.specs.Lanes.{RunsLane};
 use crate::feeding::Feeding;
 use crate::feeds::Feeds;
 use crate::lane_lines::LaneLines;
-use crate::line::answer_line;
+use crate::next_line::answer_next;
 use btr_disk::Disk;
 use btr_hall::{Hall, Session};
 use btr_jobs::System;
@@ -80,7 +80,7 @@ fn run_own_lines<R: Threads + Wait + Sync, D: Disk>(
 {
     let mut feeds = Feeds::new(system.alloc, batch);
     for line in lines {
-        let reply = answer_line(system, hall, session, &mut feeds, line);
+        let reply = answer_next(system, hall, session, &mut feeds, line);
         replies.push_back_reserved(reply);
     }
 }

@@ -1,5 +1,5 @@
 -- what a crash leaves of the steps of a hall
-mod Moments
+pub mod Moments
 -- how many blocks its entries need
 mod Rooms
 -- what work leaves
@@ -25,9 +25,9 @@ mod SampleLemmas
 mod SampleCompletes
 mod SampleLawLemmas
 -- scripts
-mod ReplyLemmas
+pub mod ReplyLemmas
 mod LiveLineLemmas
-mod LiveAllowing
+pub mod LiveAllowing
 mod LiveLemmas
 -- scripts with shared buffers
 mod BatchLemmas

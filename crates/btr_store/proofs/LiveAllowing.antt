@@ -56,7 +56,7 @@ module _ (start : StoreState) (log : LogState) where
 
   -- ---- a lane, and a landing
 
-  lines_allowed : (batch : ℕ) (old : LaneState) (lines : List (Option Line)) (replies : List LineReply) (own : List ℕ) (new : LaneState) → RunsLines batch start log old lines replies own new → AddsAllowed log own
+  pub lines_allowed : (batch : ℕ) (old : LaneState) (lines : List (Option Line)) (replies : List LineReply) (own : List ℕ) (new : LaneState) → RunsLines batch start log old lines replies own new → AddsAllowed log own
   lines_allowed batch old [] [] own new is = allows_nothing log own is.0
   lines_allowed batch old [] (reply ∷ replies) own new is = absurd is
   lines_allowed batch old (line ∷ lines) [] own new is = absurd is

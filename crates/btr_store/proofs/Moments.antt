@@ -146,7 +146,7 @@ module _ {D : Type 0} (disk : Ghosts D) (reported : disk.is_observable) (only_no
   abbrev size : ℕ
   size = disk.size new
 
-  keeps_here : (h : List Entry) (x : Engine D disk) (l : List (Item D disk)) → IsAtRest h x → disk.size (device x) ≡ size → IsTrace x l → new ≡ device (engine_after x l) → log ≡ log_at h l → KeepsHistory disk log new (device x) h
+  pub keeps_here : (h : List Entry) (x : Engine D disk) (l : List (Item D disk)) → IsAtRest h x → disk.size (device x) ≡ size → IsTrace x l → new ≡ device (engine_after x l) → log ≡ log_at h l → KeepsHistory disk log new (device x) h
   keeps_here h x l rest same trace ends is = record {
     now = λ c left. subst (λ (n : ℕ). HoldsHistory n c h) same (holds_in h x rest c (rest.only.each c left));
     since = subst (λ (k : LogState). Leaves disk.calls disk.images_since (device x) new (HoldsPrefix size (length h) k)) (sym is)

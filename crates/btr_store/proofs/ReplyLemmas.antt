@@ -14,7 +14,7 @@ use Rattle.btr_store.specs.Replies.{greatest_of_replies, status_of_reply, AddsRe
 text-push : (replies : List LineReply) (reply : LineReply) → text_of_replies (replies ++ reply ∷ []) ≡ text_of_replies replies ++ text reply
 text-push replies reply = flat_map-append text replies (reply ∷ []) ∙ ap (λ (x : List ℕ). text_of_replies replies ++ x) (append-nil (text reply))
 
-greatest-push : (s : Status) (replies : List LineReply) (reply : LineReply) → greatest_of_replies s (replies ++ reply ∷ []) ≡ greater (greatest_of_replies s replies) (status_of_reply reply)
+pub greatest-push : (s : Status) (replies : List LineReply) (reply : LineReply) → greatest_of_replies s (replies ++ reply ∷ []) ≡ greater (greatest_of_replies s replies) (status_of_reply reply)
 greatest-push s [] reply = refl
 greatest-push s (r ∷ replies) reply = greatest-push (greater s (status_of_reply r)) replies reply
 

@@ -39,7 +39,7 @@ pub use distil::distil_store;
 pub use laws::sample_limits_are_these;
 pub use live::live_store;
 pub use load::load_store;
-pub use replies::{add_reply, no_replies};
+pub use replies::{add_reply, no_replies, status_of_reply};
 pub use report_line::{ReportLine, RowRefusal};
 pub use report_text::write_line;
 pub use sample::sample_store;

@@ -23,7 +23,7 @@ pub fn add_reply(transcript: &mut Transcript, reply: &LineReply) -> Result<(), A
 }
 
 /// Returns the status that a reply asks for.
-fn status_of_reply(reply: &LineReply) -> Status
+pub fn status_of_reply(reply: &LineReply) -> Status
     ensures { result ≡ status_of_reply reply.now }
 {
     match reply {

@@ -2,10 +2,10 @@
 ghost use Rattle.std.specs.Prelude.{◌≡◌, true, List, Ok, IfErr, IfOk};
 ghost use Rattle.std.specs.Option.{is_some};
 ghost use Rattle.btr_hist.specs.declared.entry.Entry.{Entry as EntrySpec};
-ghost use Rattle.btr_engine.specs.Engine.{is_home};
+ghost use Rattle.btr_engine.specs.Engine.{device, is_home};
 ghost use Rattle.btr_open.specs.declared.opening.OpenCause.TheVariants.{Want};
 ghost use Rattle.btr_open.specs.Opening.{IsNotOpened, IsOpenedEngine, KeepsDisk};
-ghost use Rattle.btr_hall.specs.Session.{Begins, IsAlone, opening_of};
+ghost use Rattle.btr_hall.specs.Session.{Begins, IsAlone, engine_of, opening_of};
 ghost use Rattle.btr_jobs.specs.States.{log_seen};
 ghost use Rattle.btr_jobs.specs.Jobs.{IsAt};
 ghost use Rattle.btr_store.specs.declared.status.Status.TheVariants.{DeviceFault};
@@ -84,6 +84,7 @@ pub fn close_hall<D: Disk>(
     requires at { IsAt hall session }
     requires alone { IsAlone session }
     ensures said { IfOk result.said (λ t. said ≡ Ok t) }
+    ensures disk { result.disk ≡ device (engine_of hall session) }
     ensures failed { (old : D) → IsOpenedEngine ⟦<D as Disk>⟧ old (opening_of hall) → (h : List EntrySpec)
         → result.failed ≡ is_some (log_seen h session).failed }
     ensures plain { (old : D) → IsOpenedEngine ⟦<D as Disk>⟧ old (opening_of hall)

@@ -1,4 +1,4 @@
-ghost use Rattle.std.specs.Prelude.{◌≡◌, ◌++◌, IfOk, OnOk, option_to_list};
+ghost use Rattle.std.specs.Prelude.{◌≡◌, ◌++◌, false, IfOk, OnOk, option_to_list};
 ghost use Rattle.std.specs.List.{filter_map};
 ghost use Rattle.std.specs.Str.Lines.{strip_carriage_return};
 ghost use Rattle.btr_text.specs.Input.{HaveLanes, input_line, lines_of, questions_of, script_of};
@@ -37,6 +37,14 @@ pub fn read_questions(alloc: Global, bytes: &[u8]) -> Result<Script, AllocError>
     ensures lanes { IfOk result (λ s. HaveLanes s) }
 {
     read_lines(alloc, bytes, false)
+}
+
+/// Reads what one line of an input of questions says, which has no line feed. One carriage return at its end is dropped. Returns `None`
+/// if the line has no reply. It takes time linear in the line, and memory for its points. An `Err` means out of memory.
+pub fn read_question(alloc: Global, line: &[u8]) -> Result<Option<ScriptLine>, AllocError>
+    ensures { IfOk result (λ l. l ≡ input_line false (strip_carriage_return line.now)) }
+{
+    read_line(alloc, without_carriage_return(line), false)
 }
 
 /// Reads the lines of an input that have a reply, in order.

@@ -21,7 +21,7 @@ mod text;
 // the bytes that mark the parts of a line
 mod laws;
 
-pub use input::{read_questions, read_script};
+pub use input::{read_question, read_questions, read_script};
 pub use laws::line_marks_are_these;
 pub use reply::{LineReply, Reason};
 pub use row::{append_agg, id_text};

@@ -1,8 +1,8 @@
 -- The loop over the lines of a lane.
 use Rattle.std.proofs.Common.{◌≡◌, ◌≤◌, ◌+◌, ◌++◌, length, deque_len, deque_capacity}
-use Rattle.btr_jobs.specs.Jobs.{IsAt, Does}
+use Rattle.btr_jobs.specs.Jobs.{IsAt}
 use Rattle.btr_live.specs.Feeds.{waiting_of}
-use Rattle.btr_live.specs.Running.{RunsTo}
+use Rattle.btr_live.specs.Running.{RanTo}
 use Rattle.btr_live.proofs.own_feeds.run_own_lines.Given as goal
 
 -- the lines up to here ran, and there is room for the replies to the others
@@ -12,5 +12,5 @@ invariant-loop-line g l = record {
   batch : l.feeds.batch ≡ l.fn.batch;
   at : IsAt l.fn.hall l.session;
   room : length l.line-iterator.rest.items + deque_len l.replies ≤ deque_capacity l.replies;
-  runs : Does l.fn.hall l.fn.session l.session (λ start log low own. RunsTo l.fn.batch start log low l.yielded l.replies.items own (waiting_of l.feeds));
+  runs : RanTo l.fn.batch l.fn.hall l.fn.session l.session l.yielded l.replies.items (waiting_of l.feeds);
 }

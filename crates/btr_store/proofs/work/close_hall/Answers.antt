@@ -1,4 +1,7 @@
 -- What was done at the hall was done on the device that its engine was opened on, and the status is said of that device.
+use Rattle.std.proofs.Common.{◌∙◌, ap}
+use Rattle.btr_engine.specs.declared.engine.Engine.{Engine}
+use Rattle.btr_engine.specs.Engine.{device}
 use Rattle.btr_hall.specs.Session.{opening_of, seen_of}
 use Rattle.btr_store.proofs.WorkLemmas.{plain_on}
 use Rattle.btr_store.proofs.WorksOn.{works_on, failed_in_step}
@@ -7,6 +10,7 @@ use Rattle.btr_store.proofs.work.close_hall.Goals as goal
 pub returns : goal.returns
 returns g c = record {
   said = c.confirmed.ensures.said;
+  disk = c.into_parts-disk.ensures.disk ∙ ap (λ (e : Engine _ _). device e) c.close-engine.ensures.engine;
   failed = λ old opened h.
       failed_in_step (opening_of c.args.hall) c.close-engine.result (seen_of c.args.session) opened.runs c.close-engine.ensures.trace c.close-engine.ensures.engine h c.stopped-failed.result c.stopped-failed.ensures.answer;
   plain = λ old opened.
