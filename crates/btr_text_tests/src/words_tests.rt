@@ -399,6 +399,32 @@ fn lines_with_shared_buffers_give_a_command(rt: HostRuntime) -> Result<(), Fail>
     all_hold(rt.alloc(), GROUPS)
 }
 
+const SERVING: &[Words] = &[
+    // answers one at a time
+    Words(&["serve"], Some(Command::Serve { batch: 4096 })),
+    Words(&["serve", "--"], Some(Command::Serve { batch: 4096 })),
+    Words(
+        &["serve", "--batch", "1"],
+        Some(Command::Serve { batch: 1 }),
+    ),
+    Words(
+        &["serve", "--batch", "65536"],
+        Some(Command::Serve { batch: 65536 }),
+    ),
+    Words(&["serve", "--batch=8"], Some(Command::Serve { batch: 8 })),
+    Words(
+        &["serve", "--batch=+08", "--"],
+        Some(Command::Serve { batch: 8 }),
+    ),
+    Words(&["serve", "--read"], Some(Command::ServeRead)),
+    Words(&["serve", "--read", "--"], Some(Command::ServeRead)),
+];
+
+#[test]
+fn lines_that_serve_give_a_command(rt: HostRuntime) -> Result<(), Fail> {
+    all_hold(rt.alloc(), SERVING)
+}
+
 const NO_COMMAND: &[Words] = &[
     // no command, or another word in its place
     Words(&[], None),
@@ -623,6 +649,46 @@ const WRONG_GROUPS: &[Words] = &[
 #[test]
 fn wrong_words_of_shared_buffers_give_none(rt: HostRuntime) -> Result<(), Fail> {
     all_hold(rt.alloc(), WRONG_GROUPS)
+}
+
+const WRONG_SERVING: &[Words] = &[
+    // answers one at a time: wrong numbers, the flag with a text, twice, in part or beside a batch, and options of other commands
+    Words(&["serve", "--batch"], None),
+    Words(&["serve", "--batch="], None),
+    Words(&["serve", "--batch", "0"], None),
+    Words(&["serve", "--batch", "65537"], None),
+    Words(&["serve", "--batch", "8", "--batch", "8"], None),
+    Words(&["serve", "--read", "--batch", "8"], None),
+    Words(&["serve", "--batch", "8", "--read"], None),
+    Words(&["serve", "--read", "--batch=4096"], None),
+    Words(&["serve", "--batch=4096", "--read"], None),
+    Words(&["serve", "--batch", "--read"], None),
+    Words(&["serve", "--read", "--read"], None),
+    Words(&["serve", "--read="], None),
+    Words(&["serve", "--read=1"], None),
+    Words(&["serve", "--read", "true"], None),
+    Words(&["serve", "--rea"], None),
+    Words(&["serve", "-r"], None),
+    Words(&["serve", "read"], None),
+    Words(&["serve", "--", "--read"], None),
+    Words(&["serve", "--materialize"], None),
+    Words(&["serve", "--materialize", "--batch", "8"], None),
+    Words(&["serve", "--read", "--materialize"], None),
+    Words(&["serve", "--group", "8"], None),
+    Words(&["serve", "--workers", "1"], None),
+    Words(&["serve", "--cold"], None),
+    Words(&["serve", "8"], None),
+    Words(&["serv"], None),
+    Words(&["serves"], None),
+    Words(&["Serve"], None),
+    Words(&["--read", "serve"], None),
+    Words(&["live", "--read"], None),
+    Words(&["ask", "--read"], None),
+];
+
+#[test]
+fn wrong_words_of_serving_give_none(rt: HostRuntime) -> Result<(), Fail> {
+    all_hold(rt.alloc(), WRONG_SERVING)
 }
 
 const WRONG_NUMBERS: &[Words] = &[

@@ -9,10 +9,10 @@ use Rattle.std.proofs.lemmas.Bool.{leb-true}
 use Rattle.clap.specs.ValueTests.{is_numeral, is_unsigned_in}
 use Rattle.clap.proofs.WalkLemmas.{both}
 use Rattle.btr_words.specs.declared.command.Command.{Command}
-use Rattle.btr_words.specs.declared.command.Command.TheVariants.{Format, Load, Ask, Distil, Live, LiveGroups, Sample, Checkpoint, Seal, Check, Ship, Hear}
+use Rattle.btr_words.specs.declared.command.Command.TheVariants.{Format, Load, Ask, Distil, Live, LiveGroups, Sample, Checkpoint, Seal, Check, Ship, Hear, Serve, ServeRead}
 use Rattle.btr_words.specs.Words.{Argument, Found, IsInBounds, Takes, Text, argument_named, batch_argument, batch_of, between, blocks_argument, command_of, format_of, group_argument, live_arguments, live_of}
 use Rattle.btr_words.specs.Words.{materialize_of, nothing, number_for, number_of, numbers_in_order, numbers_of, option_numbers, options_after, others, sample_arguments, sample_of}
-use Rattle.btr_words.specs.Words.{cold_argument, cold_of, from_argument, ship_of}
+use Rattle.btr_words.specs.Words.{cold_argument, cold_of, from_argument, ship_of, serve_arguments, serve_of, is_found}
 use Rattle.btr_words.specs.Words.{sample_within, taken, without_marker, workers_argument, workers_of}
 use Rattle.btr_words.proofs.Found.{named_in_others, some_is}
 
@@ -169,6 +169,16 @@ live_good words = chained live_arguments live_of
     go found (Some n) h true w = tt
     go found (Some n) h false w = h
 
+serve_good : (words : List Text) → Good (option_and_then serve_of (option_numbers serve_arguments words))
+serve_good words = chained serve_arguments serve_of
+    (λ found h. go found (is_found (codes "read") found) (is_some (number_for (codes "batch") found)) (batch_lies serve_arguments refl found h))
+    (option_numbers serve_arguments words) (options_lie serve_arguments words)
+  where
+    go : (found : Found) (f b : Bool) → Within 1 65536 (batch_of found) → Good (cond f (cond b None (Some ServeRead)) (Some (Serve (batch_of found))))
+    go found true true w = tt
+    go found true false w = tt
+    go found false b w = w
+
 sample_good : (words : List Text) → Good (option_and_then sample_of (numbers_in_order sample_arguments words))
 sample_good words = chained sample_arguments sample_of
     (λ found h. go (number_for (codes "number") found) (h (codes "number") (record { name = codes "number"; takes = between 0 2147483647 }) refl)
@@ -198,12 +208,12 @@ ship_good words = chained (from_argument ∷ []) ship_of
 
 pub in_bounds : (words : List Text) → Good (command_of words)
 in_bounds [] = tt
-in_bounds (word ∷ words) = go (is (codes "format")) (is (codes "load")) (is (codes "ask")) (is (codes "distil")) (is (codes "live")) (is (codes "sample")) (is (codes "checkpoint")) (is (codes "seal")) (is (codes "check")) (is (codes "ship")) (is (codes "hear"))
+in_bounds (word ∷ words) = go (is (codes "format")) (is (codes "load")) (is (codes "ask")) (is (codes "distil")) (is (codes "live")) (is (codes "sample")) (is (codes "checkpoint")) (is (codes "seal")) (is (codes "check")) (is (codes "ship")) (is (codes "hear")) (is (codes "serve"))
   where
     is : Text → Bool
     is name = bytes_eq name word
 
-    go : (b1 b2 b3 b4 b5 b6 b7 b8 b9 b10 b11 : Bool) → Good (cond b1 (option_and_then format_of (option_numbers (blocks_argument ∷ []) words))
+    go : (b1 b2 b3 b4 b5 b6 b7 b8 b9 b10 b11 b12 : Bool) → Good (cond b1 (option_and_then format_of (option_numbers (blocks_argument ∷ []) words))
         (cond b2 (option_map (λ found. Load (workers_of found) (batch_of found)) (option_numbers (workers_argument ∷ batch_argument ∷ []) words))
         (cond b3 (option_map (λ found. Ask (cold_of found)) (option_numbers (cold_argument ∷ []) words))
         (cond b4 (option_map (λ found. Distil (workers_of found)) (option_numbers (workers_argument ∷ []) words))
@@ -213,16 +223,18 @@ in_bounds (word ∷ words) = go (is (codes "format")) (is (codes "load")) (is (c
         (cond b8 (option_map (λ found. Seal) (option_numbers [] words))
         (cond b9 (option_map (λ found. Check) (option_numbers [] words))
         (cond b10 (option_and_then ship_of (numbers_in_order (from_argument ∷ []) (without_marker words)))
-        (cond b11 (option_map (λ found. Hear) (option_numbers [] words)) None)))))))))))
-    go true b2 b3 b4 b5 b6 b7 b8 b9 b10 b11 = format_good words
-    go false true b3 b4 b5 b6 b7 b8 b9 b10 b11 = load_good words
-    go false false true b4 b5 b6 b7 b8 b9 b10 b11 = mapped (cold_argument ∷ []) (λ found. Ask (cold_of found)) (λ found h. tt) words
-    go false false false true b5 b6 b7 b8 b9 b10 b11 = mapped (workers_argument ∷ []) (λ found. Distil (workers_of found)) (workers_lie (workers_argument ∷ []) refl) words
-    go false false false false true b6 b7 b8 b9 b10 b11 = live_good words
-    go false false false false false true b7 b8 b9 b10 b11 = sample_good (without_marker words)
-    go false false false false false false true b8 b9 b10 b11 = mapped [] (λ found. Checkpoint) (λ found h. tt) words
-    go false false false false false false false true b9 b10 b11 = mapped [] (λ found. Seal) (λ found h. tt) words
-    go false false false false false false false false true b10 b11 = mapped [] (λ found. Check) (λ found h. tt) words
-    go false false false false false false false false false true b11 = ship_good (without_marker words)
-    go false false false false false false false false false false true = mapped [] (λ found. Hear) (λ found h. tt) words
-    go false false false false false false false false false false false = tt
+        (cond b11 (option_map (λ found. Hear) (option_numbers [] words))
+        (cond b12 (option_and_then serve_of (option_numbers serve_arguments words)) None))))))))))))
+    go true b2 b3 b4 b5 b6 b7 b8 b9 b10 b11 b12 = format_good words
+    go false true b3 b4 b5 b6 b7 b8 b9 b10 b11 b12 = load_good words
+    go false false true b4 b5 b6 b7 b8 b9 b10 b11 b12 = mapped (cold_argument ∷ []) (λ found. Ask (cold_of found)) (λ found h. tt) words
+    go false false false true b5 b6 b7 b8 b9 b10 b11 b12 = mapped (workers_argument ∷ []) (λ found. Distil (workers_of found)) (workers_lie (workers_argument ∷ []) refl) words
+    go false false false false true b6 b7 b8 b9 b10 b11 b12 = live_good words
+    go false false false false false true b7 b8 b9 b10 b11 b12 = sample_good (without_marker words)
+    go false false false false false false true b8 b9 b10 b11 b12 = mapped [] (λ found. Checkpoint) (λ found h. tt) words
+    go false false false false false false false true b9 b10 b11 b12 = mapped [] (λ found. Seal) (λ found h. tt) words
+    go false false false false false false false false true b10 b11 b12 = mapped [] (λ found. Check) (λ found h. tt) words
+    go false false false false false false false false false true b11 b12 = ship_good (without_marker words)
+    go false false false false false false false false false false true b12 = mapped [] (λ found. Hear) (λ found h. tt) words
+    go false false false false false false false false false false false true = serve_good words
+    go false false false false false false false false false false false false = tt

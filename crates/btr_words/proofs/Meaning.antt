@@ -12,7 +12,8 @@ use Rattle.clap.specs.declared.error.kind.ErrorKind.{ErrorKind}
 use Rattle.clap.specs.declared.error.kind.ErrorKind.TheVariants.{InvalidSubcommand, MissingSubcommand, UnknownArgument}
 use Rattle.clap.proofs.FaultLemmas.{stopped_fault}
 use Rattle.btr_words.specs.declared.command.Command.{Command}
-use Rattle.btr_words.specs.declared.command.Command.TheVariants.{Format, Load, Ask, Distil, Live, LiveGroups, Checkpoint, Seal, Check, Ship, Hear}
+use Rattle.btr_words.specs.declared.command.Command.TheVariants.{Format, Load, Ask, Distil, Live, LiveGroups, Checkpoint, Seal, Check, Ship, Hear, Serve, ServeRead}
+use Rattle.btr_words.specs.Words.{read_argument, serve_arguments, serve_of, is_found}
 use Rattle.btr_words.specs.Words.{Argument, Found, argument_named, batch_argument, batch_of, blocks_argument, cold_argument, cold_of, command_of, format_of, between, live_arguments, live_of, materialize_of, number_for}
 use Rattle.btr_words.specs.Words.{from_argument, ship_of}
 use Rattle.btr_words.specs.Words.{numbers_in_order, option_numbers, sample_arguments, sample_of, sampled, without_marker, workers_argument, workers_of}
@@ -139,6 +140,25 @@ live_same rows found reads =
 
 live_gives : (words : List Text) → LeafGives (codes "live") (options_leaf (codes "live") live_arguments) live_meaning words
 live_gives words = options_give (codes "live") live_arguments (of_sub (codes "live")) live_of live_same words
+
+abbrev serve_meaning : List Text → Option Command
+serve_meaning words = option_and_then serve_of (option_numbers serve_arguments words)
+
+-- `serve` with the number of `--batch`, if it is there, and with its flag or without.
+abbrev serve_by : Option ℕ → Bool → Option Command
+serve_by batch flag = cond flag (cond (is_some batch) None (Some ServeRead)) (Some (Serve (unwrap_or batch 4096)))
+
+serve_same : (rows : List Row) (found : Found) → Reads serve_arguments rows found → of_sub (codes "serve") (at_end serve_arguments rows) ≡ serve_of found
+serve_same rows found reads =
+    let end = at_end serve_arguments rows in
+    let b : number_in (codes "batch") end 4294967295 ≡ number_for (codes "batch") found =
+    number_at_end (map option_rule serve_arguments) serve_arguments (codes "batch") 1 65536 4294967295 rows found (blank_rules serve_arguments) refl (omega arith) reads in
+    let r : flag_in (codes "read") end ≡ is_found (codes "read") found =
+    flag_at_end (map option_rule serve_arguments) serve_arguments (codes "read") rows found (blank_rules serve_arguments) refl reads in
+    ap (λ (o : Option ℕ). serve_by o (flag_in (codes "read") end)) b ∙ ap (λ (f : Bool). serve_by (number_for (codes "batch") found) f) r
+
+serve_gives : (words : List Text) → LeafGives (codes "serve") (options_leaf (codes "serve") serve_arguments) serve_meaning words
+serve_gives words = options_give (codes "serve") serve_arguments (of_sub (codes "serve")) serve_of serve_same words
 
 abbrev sample_meaning : List Text → Option Command
 sample_meaning words = option_and_then sample_of (numbers_in_order sample_arguments (without_marker words))
@@ -307,7 +327,7 @@ unnamed word rest = refused_all _ _ (word_cases all.top idle 1 word [] None (λ 
 pub words_give : (words : List Text) → GivesAll (fault_of program_app words) (subcommand_of program_app words) (command_of words)
 unfolding walked walk_fault defaults_fault
 words_give [] = refl
-words_give (word ∷ rest) = go (is (codes "format")) (is (codes "load")) (is (codes "ask")) (is (codes "distil")) (is (codes "live")) (is (codes "sample")) (is (codes "checkpoint")) (is (codes "seal")) (is (codes "check")) (is (codes "ship")) (is (codes "hear"))
+words_give (word ∷ rest) = go (is (codes "format")) (is (codes "load")) (is (codes "ask")) (is (codes "distil")) (is (codes "live")) (is (codes "sample")) (is (codes "checkpoint")) (is (codes "seal")) (is (codes "check")) (is (codes "ship")) (is (codes "hear")) (is (codes "serve"))
   where
     is : Text → Bool
     is name = bytes_eq name word
@@ -315,27 +335,28 @@ words_give (word ∷ rest) = go (is (codes "format")) (is (codes "load")) (is (c
     found : Text → Bool → Option (Text × List Text) → Option (Text × List Text)
     found name b next = cond (b || false) (Some (name, [])) next
 
-    go : (b1 b2 b3 b4 b5 b6 b7 b8 b9 b10 b11 : Bool) → First word rest
+    go : (b1 b2 b3 b4 b5 b6 b7 b8 b9 b10 b11 b12 : Bool) → First word rest
         (cond b1 (format_meaning rest) (cond b2 (load_meaning rest) (cond b3 (ask_meaning rest)
         (cond b4 (distil_meaning rest) (cond b5 (live_meaning rest) (cond b6 (sample_meaning rest)
         (cond b7 (checkpoint_meaning rest) (cond b8 (seal_meaning rest) (cond b9 (check_meaning rest)
-        (cond b10 (ship_meaning rest) (cond b11 (hear_meaning rest) None)))))))))))
+        (cond b10 (ship_meaning rest) (cond b11 (hear_meaning rest) (cond b12 (serve_meaning rest) None))))))))))))
         (option_map (λ (x : Text × List Text). x.0) (found (codes "format") b1 (found (codes "load") b2 (found (codes "ask") b3
         (found (codes "distil") b4 (found (codes "live") b5 (found (codes "sample") b6
         (found (codes "checkpoint") b7 (found (codes "seal") b8 (found (codes "check") b9
-        (found (codes "ship") b10 (found (codes "hear") b11 None))))))))))))
-    go true b2 b3 b4 b5 b6 b7 b8 b9 b10 b11 = named (codes "format") word rest (options_leaf (codes "format") (blocks_argument ∷ [])) (format_meaning rest) refl refl refl (format_gives rest)
-    go false true b3 b4 b5 b6 b7 b8 b9 b10 b11 = named (codes "load") word rest (options_leaf (codes "load") (workers_argument ∷ batch_argument ∷ [])) (load_meaning rest) refl refl refl (load_gives rest)
-    go false false true b4 b5 b6 b7 b8 b9 b10 b11 = named (codes "ask") word rest (options_leaf (codes "ask") (cold_argument ∷ [])) (ask_meaning rest) refl refl refl (ask_gives rest)
-    go false false false true b5 b6 b7 b8 b9 b10 b11 = named (codes "distil") word rest (options_leaf (codes "distil") (workers_argument ∷ [])) (distil_meaning rest) refl refl refl (distil_gives rest)
-    go false false false false true b6 b7 b8 b9 b10 b11 = named (codes "live") word rest (options_leaf (codes "live") live_arguments) (live_meaning rest) refl refl refl (live_gives rest)
-    go false false false false false true b7 b8 b9 b10 b11 = named (codes "sample") word rest sample_leaf (sample_meaning rest) refl refl refl (sample_gives rest)
-    go false false false false false false true b8 b9 b10 b11 = named (codes "checkpoint") word rest (options_leaf (codes "checkpoint") []) (checkpoint_meaning rest) refl refl refl (checkpoint_gives rest)
-    go false false false false false false false true b9 b10 b11 = named (codes "seal") word rest (options_leaf (codes "seal") []) (seal_meaning rest) refl refl refl (seal_gives rest)
-    go false false false false false false false false true b10 b11 = named (codes "check") word rest (options_leaf (codes "check") []) (check_meaning rest) refl refl refl (check_gives rest)
-    go false false false false false false false false false true b11 = named (codes "ship") word rest ship_leaf (ship_meaning rest) refl refl refl (ship_gives rest)
-    go false false false false false false false false false false true = named (codes "hear") word rest (options_leaf (codes "hear") []) (hear_meaning rest) refl refl refl (hear_gives rest)
-    go false false false false false false false false false false false = unnamed word rest
+        (found (codes "ship") b10 (found (codes "hear") b11 (found (codes "serve") b12 None)))))))))))))
+    go true b2 b3 b4 b5 b6 b7 b8 b9 b10 b11 b12 = named (codes "format") word rest (options_leaf (codes "format") (blocks_argument ∷ [])) (format_meaning rest) refl refl refl (format_gives rest)
+    go false true b3 b4 b5 b6 b7 b8 b9 b10 b11 b12 = named (codes "load") word rest (options_leaf (codes "load") (workers_argument ∷ batch_argument ∷ [])) (load_meaning rest) refl refl refl (load_gives rest)
+    go false false true b4 b5 b6 b7 b8 b9 b10 b11 b12 = named (codes "ask") word rest (options_leaf (codes "ask") (cold_argument ∷ [])) (ask_meaning rest) refl refl refl (ask_gives rest)
+    go false false false true b5 b6 b7 b8 b9 b10 b11 b12 = named (codes "distil") word rest (options_leaf (codes "distil") (workers_argument ∷ [])) (distil_meaning rest) refl refl refl (distil_gives rest)
+    go false false false false true b6 b7 b8 b9 b10 b11 b12 = named (codes "live") word rest (options_leaf (codes "live") live_arguments) (live_meaning rest) refl refl refl (live_gives rest)
+    go false false false false false true b7 b8 b9 b10 b11 b12 = named (codes "sample") word rest sample_leaf (sample_meaning rest) refl refl refl (sample_gives rest)
+    go false false false false false false true b8 b9 b10 b11 b12 = named (codes "checkpoint") word rest (options_leaf (codes "checkpoint") []) (checkpoint_meaning rest) refl refl refl (checkpoint_gives rest)
+    go false false false false false false false true b9 b10 b11 b12 = named (codes "seal") word rest (options_leaf (codes "seal") []) (seal_meaning rest) refl refl refl (seal_gives rest)
+    go false false false false false false false false true b10 b11 b12 = named (codes "check") word rest (options_leaf (codes "check") []) (check_meaning rest) refl refl refl (check_gives rest)
+    go false false false false false false false false false true b11 b12 = named (codes "ship") word rest ship_leaf (ship_meaning rest) refl refl refl (ship_gives rest)
+    go false false false false false false false false false false true b12 = named (codes "hear") word rest (options_leaf (codes "hear") []) (hear_meaning rest) refl refl refl (hear_gives rest)
+    go false false false false false false false false false false false true = named (codes "serve") word rest (options_leaf (codes "serve") serve_arguments) (serve_meaning rest) refl refl refl (serve_gives rest)
+    go false false false false false false false false false false false false = unnamed word rest
 
 -- ---- as a caller of the parse meets it
 

@@ -9,7 +9,7 @@ use Rattle.clap.specs.declared.builder.action.ArgAction.TheVariants as action
 use Rattle.clap.specs.declared.builder.value_parser.ValueParser.TheVariants as vp
 use Rattle.btr_words.specs.declared.command.Command.{Command}
 use Rattle.btr_words.specs.declared.command.Command.TheVariants.{Format, Load, Ask, Distil, Live, LiveGroups}
-use Rattle.btr_words.specs.declared.command.Command.TheVariants.{Checkpoint, Seal, Check, Ship, Hear}
+use Rattle.btr_words.specs.declared.command.Command.TheVariants.{Checkpoint, Seal, Check, Ship, Hear, Serve, ServeRead}
 use Rattle.btr_words.specs.Words.{Text, number_of, sampled}
 
 -- An option of this name that takes a number.
@@ -84,6 +84,12 @@ ship_app = with_rule (new_app (codes "ship")) from_rule
 abbrev pub hear_app : App
 hear_app = new_app (codes "hear")
 
+abbrev pub read_rule : Rule
+read_rule = flag_rule (codes "read")
+
+abbrev pub serve_app : App
+serve_app = with_rule (with_rule (new_app (codes "serve")) batch_rule) read_rule
+
 abbrev pub program_shape : Shape
 program_shape = record (new_shape (codes "btr")) {
   no_binary_name = true;
@@ -98,14 +104,14 @@ abbrev pub first_app : App
 first_app = with_subcommand (with_subcommand (with_subcommand (record { top = program_shape; subs = [] }) format_app.top) load_app.top)
     ask_app.top
 
--- The program with all commands but those of frames.
+-- The program with all commands but those of frames and `serve`.
 abbrev pub main_app : App
 main_app =
     with_subcommand (with_subcommand (with_subcommand (with_subcommand (with_subcommand (with_subcommand
     first_app distil_app.top) live_app.top) sample_app.top) checkpoint_app.top) seal_app.top) check_app.top
 
 abbrev pub program_app : App
-program_app = with_subcommand (with_subcommand main_app ship_app.top) hear_app.top
+program_app = with_subcommand (with_subcommand (with_subcommand main_app ship_app.top) hear_app.top) serve_app.top
 
 -- The number that the rows have for an argument.
 abbrev pub number_in : Text → List Row → ℕ → Option ℕ
@@ -139,20 +145,35 @@ sample_in rows =
 abbrev pub ship_in : List Row → Option Command
 ship_in rows = option_map (λ n. Ship n) (number_in (codes "from") rows 18446744073709551615)
 
+-- `serve --read`, if the rows have no number for `--batch`.
+abbrev pub serve_read_in : List Row → Option Command
+serve_read_in rows = if is_some (number_in (codes "batch") rows 4294967295) then None else Some ServeRead
+
+abbrev pub serve_in : List Row → Option Command
+serve_in rows = if flag_in (codes "read") rows then serve_read_in rows else Some (Serve (batch_in rows))
+
+-- The command of this name with these rows of its arguments, if it reads lines or frames one after another, or is `ask`.
+abbrev pub reader_with_rows : Text → List Row → Option Command
+reader_with_rows name rows =
+    if bytes_eq name (codes "live") then live_in rows
+    else (if bytes_eq name (codes "hear") then Some Hear
+    else (if bytes_eq name (codes "serve") then serve_in rows else Some (Ask (flag_in (codes "cold") rows))))
+
+-- The command of this name with these rows of its arguments, if it is not one of the four of which `command_with_rows` says more.
+abbrev pub other_with_rows : Text → List Row → Option Command
+other_with_rows name rows =
+    if bytes_eq name (codes "checkpoint") then Some Checkpoint
+    else (if bytes_eq name (codes "seal") then Some Seal
+    else (if bytes_eq name (codes "check") then Some Check
+    else (if bytes_eq name (codes "ship") then ship_in rows else reader_with_rows name rows)))
+
 -- The command of this name with these rows of its arguments.
 abbrev pub command_with_rows : Text → List Row → Option Command
 command_with_rows name rows =
     if bytes_eq name (codes "format") then option_map (λ n. Format n) (number_in (codes "blocks") rows 18446744073709551615)
     else (if bytes_eq name (codes "load") then Some (Load (workers_in rows) (batch_in rows))
     else (if bytes_eq name (codes "distil") then Some (Distil (workers_in rows))
-    else (if bytes_eq name (codes "live") then live_in rows
-    else (if bytes_eq name (codes "sample") then sample_in rows
-    else (if bytes_eq name (codes "checkpoint") then Some Checkpoint
-    else (if bytes_eq name (codes "seal") then Some Seal
-    else (if bytes_eq name (codes "check") then Some Check
-    else (if bytes_eq name (codes "ship") then ship_in rows
-    else (if bytes_eq name (codes "hear") then Some Hear
-    else Some (Ask (flag_in (codes "cold") rows)))))))))))
+    else (if bytes_eq name (codes "sample") then sample_in rows else other_with_rows name rows)))
 
 -- The command of the subcommand that was found.
 abbrev pub command_of_rows : Option (Text × List Row) → Option Command

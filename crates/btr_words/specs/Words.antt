@@ -9,7 +9,7 @@ use Rattle.clap.specs.Lexer.{long_of}
 use Rattle.clap.specs.ValueTests.{is_unsigned_in}
 use Rattle.btr_words.specs.declared.command.Command.{Command}
 use Rattle.btr_words.specs.declared.command.Command.TheVariants.{Format, Load, Ask, Distil, Live, LiveGroups, Sample, Checkpoint, Check}
-use Rattle.btr_words.specs.declared.command.Command.TheVariants.{Seal, Ship, Hear}
+use Rattle.btr_words.specs.declared.command.Command.TheVariants.{Seal, Ship, Hear, Serve, ServeRead}
 
 abbrev pub Text : Type 0
 Text = List ℕ
@@ -127,6 +127,12 @@ materialize_argument = record { name = codes "materialize"; takes = nothing }
 abbrev pub cold_argument : Argument
 cold_argument = record { name = codes "cold"; takes = nothing }
 
+abbrev pub read_argument : Argument
+read_argument = record { name = codes "read"; takes = nothing }
+
+abbrev pub serve_arguments : List Argument
+serve_arguments = batch_argument ∷ read_argument ∷ []
+
 abbrev pub live_arguments : List Argument
 live_arguments = batch_argument ∷ group_argument ∷ materialize_argument ∷ []
 
@@ -164,6 +170,14 @@ live_groups_of found threshold =
 abbrev pub live_of : Found → Option Command
 live_of found =
     option_map_or (live_groups_of found) (number_for (codes "group") found) (Some (Live (batch_of found) (materialize_of found)))
+
+-- `serve --read`, where `--batch` must not be there.
+abbrev pub serve_read_of : Found → Option Command
+serve_read_of found = if is_some (number_for (codes "batch") found) then None else Some ServeRead
+
+-- `serve`, which only answers questions if `--read` is there.
+abbrev pub serve_of : Found → Option Command
+serve_of found = if is_found (codes "read") found then serve_read_of found else Some (Serve (batch_of found))
 
 -- At most a million points in all.
 abbrev pub sample_within : ℕ → ℕ → ℕ → Option Command
@@ -206,7 +220,8 @@ command_with name words =
     else (if bytes_eq (codes "check") name then option_map (λ found. Check) (option_numbers [] words)
     else (if bytes_eq (codes "ship") name
     then option_and_then ship_of (numbers_in_order (from_argument ∷ []) (without_marker words))
-    else (if bytes_eq (codes "hear") name then option_map (λ found. Hear) (option_numbers [] words) else None))))))))))
+    else (if bytes_eq (codes "hear") name then option_map (λ found. Hear) (option_numbers [] words)
+    else (if bytes_eq (codes "serve") name then option_and_then serve_of (option_numbers serve_arguments words) else None)))))))))))
 
 abbrev pub command_of : List Text → Option Command
 command_of [] = None
@@ -227,3 +242,5 @@ IsInBounds Seal = Unit {0}
 IsInBounds Check = Unit {0}
 IsInBounds (Ship from) = (1 ≤ from) × (from ≤ 18446744073709551615)
 IsInBounds Hear = Unit {0}
+IsInBounds (Serve batch) = (1 ≤ batch) × (batch ≤ 65536)
+IsInBounds ServeRead = Unit {0}

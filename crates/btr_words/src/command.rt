@@ -62,4 +62,14 @@ pub enum Command {
 
     /// `hear`: put the entries of the frames of the input into the store, each in its place.
     Hear,
+
+    /// `serve [--batch B]`: run the lines of the input on the store, each before the next is read, and commit a feed when it has B points,
+    /// from 1 to 65,536.
+    Serve {
+        batch: u32,
+    },
+
+    /// `serve --read`: answer the questions of the input from the store, each before the next is read. There is no `--batch` beside
+    /// `--read`.
+    ServeRead,
 }

@@ -2,7 +2,7 @@
 ghost use Rattle.std.specs.Prelude.{◌≡◌, List, [], ◌∷◌, ◌++◌, codes, Some, None, true, false};
 ghost use Rattle.std.specs.Option.{option_map};
 ghost use Rattle.btr_words.specs.declared.command.Command.TheVariants.{Ask, Check, Checkpoint, Distil, Format, Live, LiveGroups, Load};
-ghost use Rattle.btr_words.specs.declared.command.Command.TheVariants.{Hear, Seal, Ship};
+ghost use Rattle.btr_words.specs.declared.command.Command.TheVariants.{Hear, Seal, Serve, ServeRead, Ship};
 ghost use Rattle.btr_words.specs.Words.{Text, command_of, number_of, loaded, sampled};
 
 /// The words of `ask`, with its flag and without. The flag is there at most once, and has no text.
@@ -76,4 +76,16 @@ pub fn commands_of_frames_are_these()
         ≡ option_map (λ k. Ship k) (number_of 1 18446744073709551615 n) }
     ensures ship_alone { command_of (codes "ship" ∷ []) ≡ None }
     ensures hear { command_of (codes "hear" ∷ []) ≡ Some Hear }
+{}
+
+/// The words of `serve`, each option written as two words. `--read` and `--batch` do not go together.
+pub fn commands_of_serving_are_these()
+    ensures serve { command_of (codes "serve" ∷ []) ≡ Some (Serve 4096) }
+    ensures batch { (b : Text) → command_of (codes "serve" ∷ codes "--batch" ∷ b ∷ [])
+        ≡ option_map (λ n. Serve n) (number_of 1 65536 b) }
+    ensures read { command_of (codes "serve" ∷ codes "--read" ∷ []) ≡ Some ServeRead }
+    ensures read_first { (b : Text) → command_of (codes "serve" ∷ codes "--read" ∷ codes "--batch" ∷ b ∷ []) ≡ None }
+    ensures read_last { (b : Text) → command_of (codes "serve" ∷ codes "--batch" ∷ b ∷ codes "--read" ∷ []) ≡ None }
+    ensures twice { command_of (codes "serve" ∷ codes "--read" ∷ codes "--read" ∷ []) ≡ None }
+    ensures alone { (t : Text) → command_of (codes "serve" ∷ (codes "--read=" ++ t) ∷ []) ≡ None }
 {}

@@ -12,7 +12,8 @@ mod laws;
 
 pub use command::Command;
 pub use laws::{
-    commands_are_these, commands_of_frames_are_these, commands_of_rows_are_these,
-    commands_with_a_flag_are_these, commands_with_groups_are_these,
+    commands_are_these, commands_of_frames_are_these, commands_of_questions_are_these,
+    commands_of_rows_are_these, commands_of_serving_are_these, commands_with_a_flag_are_these,
+    commands_with_groups_are_these,
 };
 pub use read::read_words;

@@ -2,9 +2,9 @@
 ghost use Rattle.std.specs.Prelude.{◌≡◌, IfOk, false};
 ghost use Rattle.clap.specs.Words.{app_of, rule_of};
 ghost use Rattle.btr_words.specs.Program.{first_app, main_app, program_app, format_app, load_app, ask_app, distil_app};
-ghost use Rattle.btr_words.specs.Program.{live_app, sample_app, ship_app};
+ghost use Rattle.btr_words.specs.Program.{live_app, sample_app, serve_app, ship_app};
 ghost use Rattle.btr_words.specs.Program.{batch_rule, group_rule, materialize_rule, workers_rule, number_rule, streams_rule, points_rule};
-ghost use Rattle.btr_words.specs.Program.{from_rule, cold_rule};
+ghost use Rattle.btr_words.specs.Program.{from_rule, cold_rule, read_rule};
 
 use clap::{Arg, ArgAction, Command};
 use std::alloc::{AllocError, Global};
@@ -15,10 +15,11 @@ pub(crate) fn program<'a>(alloc: Global) -> Result<Command<'a>, AllocError>
 {
     main_commands(alloc)?
         .subcommand(ship_command(alloc)?)?
-        .subcommand(Command::new(alloc, "hear"))
+        .subcommand(Command::new(alloc, "hear"))?
+        .subcommand(serve_command(alloc)?)
 }
 
-/// Returns the description of all commands but those of frames. An `Err` means out of memory.
+/// Returns the description of all commands but those of frames and `serve`. An `Err` means out of memory.
 fn main_commands<'a>(alloc: Global) -> Result<Command<'a>, AllocError>
     ensures { IfOk result (λ c. app_of c ≡ main_app) }
 {
@@ -107,6 +108,16 @@ fn ship_command<'a>(alloc: Global) -> Result<Command<'a>, AllocError>
     Command::new(alloc, "ship").arg(from(alloc))
 }
 
+/// Returns the description of `serve [--batch B]` and `serve --read`. That `--batch` and `--read` do not go together is tested when the
+/// words have been read. An `Err` means out of memory.
+fn serve_command<'a>(alloc: Global) -> Result<Command<'a>, AllocError>
+    ensures { IfOk result (λ c. app_of c ≡ serve_app) }
+{
+    Command::new(alloc, "serve")
+        .arg(batch(alloc))?
+        .arg(read(alloc))
+}
+
 /// Returns the description of `--workers K`.
 fn workers<'a>(alloc: Global) -> Arg<'a>
     ensures local { result.global ≡ false }
@@ -154,6 +165,16 @@ fn cold<'a>(alloc: Global) -> Arg<'a>
 {
     Arg::new(alloc, "cold")
         .long("cold")
+        .action(ArgAction::SetTrue)
+}
+
+/// Returns the description of `--read`.
+fn read<'a>(alloc: Global) -> Arg<'a>
+    ensures local { result.global ≡ false }
+    ensures rule { rule_of result ≡ read_rule }
+{
+    Arg::new(alloc, "read")
+        .long("read")
         .action(ArgAction::SetTrue)
 }
 

@@ -2,7 +2,8 @@
 ghost use Rattle.std.specs.Prelude.{◌≡◌, map, string_bytes, IfOk, IfSome};
 ghost use Rattle.clap.specs.Words.{found_of, rows_of, subcommand_rows_of};
 ghost use Rattle.btr_words.specs.Words.{command_of, IsInBounds};
-ghost use Rattle.btr_words.specs.Program.{command_of_rows, flag_in, number_in};
+ghost use Rattle.btr_words.specs.Program.{command_of_rows, command_with_rows, other_with_rows, reader_with_rows};
+ghost use Rattle.btr_words.specs.Program.{flag_in, number_in};
 ghost use Rattle.btr_words.specs.Program as spec;
 
 use crate::command::Command;
@@ -34,6 +35,13 @@ fn command_in(matches: &ArgMatches) -> Option<Command>
     ensures { result ≡ command_of_rows (subcommand_rows_of matches.now) }
 {
     let (name, arguments) = matches.subcommand()?;
+    command_named(name, arguments)
+}
+
+/// Returns the command of this name that was found.
+fn command_named(name: &str, arguments: &ArgMatches) -> Option<Command>
+    ensures { result ≡ command_with_rows name.now (rows_of (found_of arguments.now)) }
+{
     if name == "format" {
         let blocks = number(arguments, "blocks")?;
         Some(Command::Format { blocks })
@@ -44,11 +52,18 @@ fn command_in(matches: &ArgMatches) -> Option<Command>
     } else if name == "distil" {
         let workers = workers_in(arguments);
         Some(Command::Distil { workers })
-    } else if name == "live" {
-        live_in(arguments)
     } else if name == "sample" {
         sample_in(arguments)
-    } else if name == "checkpoint" {
+    } else {
+        other_in(name, arguments)
+    }
+}
+
+/// Returns the command of this name that was found, which is none of the four of [`command_named`].
+fn other_in(name: &str, arguments: &ArgMatches) -> Option<Command>
+    ensures { result ≡ other_with_rows name.now (rows_of (found_of arguments.now)) }
+{
+    if name == "checkpoint" {
         Some(Command::Checkpoint)
     } else if name == "seal" {
         Some(Command::Seal)
@@ -56,8 +71,21 @@ fn command_in(matches: &ArgMatches) -> Option<Command>
         Some(Command::Check)
     } else if name == "ship" {
         ship_in(arguments)
+    } else {
+        reader_in(name, arguments)
+    }
+}
+
+/// Returns the command of this name that was found, which is `live`, `hear`, `serve` or `ask`.
+fn reader_in(name: &str, arguments: &ArgMatches) -> Option<Command>
+    ensures { result ≡ reader_with_rows name.now (rows_of (found_of arguments.now)) }
+{
+    if name == "live" {
+        live_in(arguments)
     } else if name == "hear" {
         Some(Command::Hear)
+    } else if name == "serve" {
+        serve_in(arguments)
     } else {
         let cold = is_set(arguments, "cold");
         Some(Command::Ask { cold })
@@ -84,6 +112,20 @@ fn live_in(arguments: &ArgMatches) -> Option<Command>
                 None
             }
         }
+    }
+}
+
+/// Returns the `serve` command that was found, if it has at most one of `--batch` and `--read`.
+fn serve_in(arguments: &ArgMatches) -> Option<Command>
+    ensures { result ≡ spec.serve_in (rows_of (found_of arguments.now)) }
+{
+    if !is_set(arguments, "read") {
+        let batch = batch_in(arguments);
+        return Some(Command::Serve { batch });
+    }
+    match small_number(arguments, "batch") {
+        None => Some(Command::ServeRead),
+        Some(_) => None,
     }
 }
 
