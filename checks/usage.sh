@@ -19,7 +19,7 @@ refused 'a command that is not there' 'there is no command `fromat`' device from
 refused 'words that do not fit a command' 'the words after `format` do not fit it' device format --blocks 7
 
 play device bogus </dev/null
-expect 'the usage is short' "$(($(wc -l <err) <= 15))" 1
+expect 'the usage is short' "$(($(wc -l <err) <= 20))" 1
 expect 'the usage has the commands of COMMANDS.md' "$(sed -n 's/^    //p' err)" \
     "$(sed -n '/^| command | input/,/^$/s/^| `\([^`]*\)` .*/\1/p' "$top/docs/COMMANDS.md")"
 

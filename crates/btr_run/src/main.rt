@@ -100,12 +100,14 @@ fn run_with<W: Threads + Wait + Sync, D: Disk + Send + Drop>(
     status
 }
 
-/// What a run with these words does with its device: `ask`, `check` and `ship` read, and all else may write. An `Err` means out of memory.
+/// What a run with these words does with its device: `ask`, `serve --read`, `check` and `ship` read, and all else may write. An `Err` means
+/// out of memory.
 fn access_of(alloc: Global, words: &[String]) -> Result<Access, AllocError>
     ensures { IfOk result (λ a. (a ≡ accesses.Read) ↔ IsReader (command_of (map string_bytes words.now))) }
 {
     match read_words(alloc, words)? {
         Some(Command::Ask { .. }) => Ok(Access::Read),
+        Some(Command::ServeRead) => Ok(Access::Read),
         Some(Command::Check) => Ok(Access::Read),
         Some(Command::Ship { .. }) => Ok(Access::Read),
         _ => Ok(Access::Write),

@@ -1,11 +1,13 @@
 //! What is said on standard error of words that are refused.
 
 /// The commands, with their options and numbers, as COMMANDS has them.
-const COMMANDS: [&str; 12] = [
+const COMMANDS: [&str; 14] = [
     "format --blocks N",
     "live [--materialize] [--batch B]",
     "live --group B [--materialize]",
     "ask [--cold]",
+    "serve [--batch B]",
+    "serve --read",
     "load [--workers K] [--batch B]",
     "distil [--workers K]",
     "checkpoint",

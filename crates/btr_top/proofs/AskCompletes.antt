@@ -9,7 +9,7 @@ use Rattle.btr_text.specs.Input.{questions_of}
 use Rattle.btr_text.specs.declared.script.ScriptLine.{ScriptLine}
 use Rattle.btr_open.specs.Laws.{HeldIsSound}
 use Rattle.btr_top.specs.declared.ending.Ending.{Ending}
-use Rattle.btr_top.specs.declared.ending.Ending.TheVariants.{Usage, NoSource, TooLong, OutOfMemory, NoDevice, NoStore, Damaged, Occupied, TooSmall, Formatted, Checkpointed, Sealed, Unsealed, Stands, Full, Shipped, CutShort, Replied}
+use Rattle.btr_top.specs.declared.ending.Ending.TheVariants.{Usage, NoSource, TooLong, OutOfMemory, NoDevice, NoStore, Damaged, Occupied, TooSmall, Formatted, Checkpointed, Sealed, Unsealed, Stands, Full, Shipped, CutShort, NoSink, Replied}
 use Rattle.btr_store.specs.declared.status.Status.{Status}
 use Rattle.btr_top.specs.Ending.{status_of}
 use Rattle.btr_store.specs.Status.{code_of}
@@ -39,6 +39,7 @@ module _ {S D : Type 0} (source : SourceGhosts S) (disk : Ghosts D) (given rest 
   benign_cause lines (Checkpointed kind entries) why = absurd why.0
   benign_cause lines Sealed why = absurd why.0
   benign_cause lines Unsealed why = absurd why.0
+  benign_cause lines NoSink why = absurd why.0
   benign_cause lines (Stands entries) why = absurd why.0
   benign_cause lines (Full need room) why = absurd why.0
   benign_cause lines (Shipped frames) why = absurd why.0

@@ -24,7 +24,7 @@ use Rattle.btr_streams.proofs.StreamsLemmas.{has-streams}
 use Rattle.btr_open.specs.Opening.{IsOpenedEngine}
 use Rattle.btr_top.specs.declared.checkpoint.CheckpointKind.{CheckpointKind}
 use Rattle.btr_top.specs.declared.ending.Ending.{Ending}
-use Rattle.btr_top.specs.declared.ending.Ending.TheVariants.{Usage, NoSource, TooLong, OutOfMemory, NoDevice, NoStore, Damaged, Occupied, TooSmall, Formatted, Checkpointed, Sealed, Unsealed, Stands, Full, Shipped, CutShort, Replied}
+use Rattle.btr_top.specs.declared.ending.Ending.TheVariants.{Usage, NoSource, TooLong, OutOfMemory, NoDevice, NoStore, Damaged, Occupied, TooSmall, Formatted, Checkpointed, Sealed, Unsealed, Stands, Full, Shipped, CutShort, NoSink, Replied}
 use Rattle.btr_top.specs.Command.{IsKept, OpeningCause}
 use Rattle.btr_top.specs.Checkpoint.{checkpoint_format, need_of_checkpoint, Lasts, AddsCheckpoint, CheckpointEnds}
 use Rattle.btr_top.proofs.OneStore.{AreOne, one_store, one_super}
@@ -59,6 +59,7 @@ module _ {D : Type 0} (disk : Ghosts D) where
     refused_cause (Checkpointed done entries) why kept = absurd why
     refused_cause Sealed why kept = absurd why
     refused_cause Unsealed why kept = absurd why
+    refused_cause NoSink why kept = absurd why
     refused_cause (Stands entries) why kept = absurd why
     refused_cause (Full need room) why kept = absurd why
     refused_cause (Shipped frames) why kept = absurd why

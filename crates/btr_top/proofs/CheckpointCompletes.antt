@@ -6,7 +6,7 @@ use Rattle.btr_engine.specs.Holds.{HoldsHistory}
 use Rattle.btr_open.specs.Laws.{HeldIsSound}
 use Rattle.btr_top.specs.declared.checkpoint.CheckpointKind.{CheckpointKind}
 use Rattle.btr_top.specs.declared.ending.Ending.{Ending}
-use Rattle.btr_top.specs.declared.ending.Ending.TheVariants.{Usage, NoSource, TooLong, OutOfMemory, NoDevice, NoStore, Damaged, Occupied, TooSmall, Formatted, Checkpointed, Sealed, Unsealed, Stands, Full, Shipped, CutShort, Replied}
+use Rattle.btr_top.specs.declared.ending.Ending.TheVariants.{Usage, NoSource, TooLong, OutOfMemory, NoDevice, NoStore, Damaged, Occupied, TooSmall, Formatted, Checkpointed, Sealed, Unsealed, Stands, Full, Shipped, CutShort, NoSink, Replied}
 use Rattle.btr_top.specs.Ending.{status_of}
 use Rattle.btr_top.specs.Checkpoint.{CheckpointEnds, CanCheckpoint}
 use Rattle.btr_top.specs.Run.{IsPlainStatus}
@@ -29,6 +29,7 @@ module _ {D : Type 0} (disk : Ghosts D) (kind : CheckpointKind) (old new : D) (s
   benign_checkpoint (Checkpointed done entries) why = inl refl
   benign_checkpoint Sealed why = inr (inl refl)
   benign_checkpoint Unsealed why = absurd why.0
+  benign_checkpoint NoSink why = absurd why.0
   benign_checkpoint (Stands entries) why = absurd why.0
   benign_checkpoint (Full need room) why =
       let is = why.3 reported can.history can.blocks can.tail can.holds in

@@ -1,12 +1,12 @@
 -- A run ends with status 5 only if a call of the device failed.
-use Rattle.std.specs.Prelude.{◌≡◌, ℕ, true, false, List, Option, Some, None}
+use Rattle.std.specs.Prelude.{◌≡◌, ℕ, Bool, true, false, List, Option, Some, None, Ok, Err, IfOk}
 use Rattle.std.proofs.Common.{refl, sym, ◌∙◌, ap, arith, ⊎_elim}
 use Rattle.btr_io.specs.declared.source.Source.{Ghosts as SourceGhosts}
 use Rattle.btr_io.specs.declared.sink.Sink.{Ghosts as SinkGhosts}
 use Rattle.btr_disk.specs.declared.disk.Disk.{Ghosts}
 use Rattle.btr_disk.specs.Causes.{Rose}
 use Rattle.btr_words.specs.declared.command.Command.{Command}
-use Rattle.btr_words.specs.declared.command.Command.TheVariants.{Format, Load, Ask, Distil, Live, LiveGroups, Sample, Checkpoint, Seal, Check, Ship, Hear}
+use Rattle.btr_words.specs.declared.command.Command.TheVariants.{Format, Load, Ask, Distil, Live, LiveGroups, Sample, Checkpoint, Seal, Check, Ship, Hear, Serve, ServeRead}
 use Rattle.btr_rows.specs.Rows.{rows_of}
 use Rattle.btr_rows.specs.Streams.{list_of}
 use Rattle.btr_text.specs.Input.{questions_of, script_of}
@@ -27,8 +27,9 @@ use Rattle.btr_store.specs.Distil.{DistilsStore}
 use Rattle.btr_store.specs.SampleLaw.{SamplesStore}
 use Rattle.btr_top.specs.declared.checkpoint.CheckpointKind.{CheckpointKind}
 use Rattle.btr_top.specs.declared.checkpoint.CheckpointKind.TheVariants as kinds
+use Rattle.btr_serve.specs.declared.course.Course.{Course}
 use Rattle.btr_top.specs.declared.ending.Ending.{Ending}
-use Rattle.btr_top.specs.declared.ending.Ending.TheVariants.{Usage, NoSource, TooLong, OutOfMemory, NoDevice, NoStore, Damaged, Occupied, TooSmall, Formatted, Checkpointed, Sealed, Unsealed, Stands, Full, Shipped, CutShort, Replied}
+use Rattle.btr_top.specs.declared.ending.Ending.TheVariants.{Usage, NoSource, TooLong, OutOfMemory, NoDevice, NoStore, Damaged, Occupied, TooSmall, Formatted, Checkpointed, Sealed, Unsealed, Stands, Full, Shipped, CutShort, NoSink, Replied}
 use Rattle.btr_top.specs.Ending.{status_of, text_of, Writes, Shows}
 use Rattle.btr_top.specs.Command.{InputCause, CommandCause}
 use Rattle.btr_top.specs.Format.{FormatCause}
@@ -42,6 +43,10 @@ use Rattle.btr_top.specs.Hear.{HearsFrames, HearingCause}
 use Rattle.btr_top.specs.Run.{Cause, RunCause}
 use Rattle.btr_top.proofs.ColdReplies.{replies_rose}
 use Rattle.btr_top.proofs.ShipCauses.{ship_fault}
+use Rattle.btr_top.specs.Serve.{Said, ServeCause, ServeReadCause}
+use Rattle.btr_top.specs.Work.{ending_of}
+use Rattle.btr_store.specs.Work.{IsPlainWork}
+use Rattle.btr_top.proofs.ServeCauses.{Nothing, never_cause, talk_fault}
 
 -- ---- statuses
 
@@ -92,6 +97,7 @@ module _ {D : Type 0} (disk : Ghosts D) (old new : D) where
   work_fault What (Checkpointed kind entries) why five = absurd why.0
   work_fault What Sealed why five = absurd why.0
   work_fault What Unsealed why five = absurd why.0
+  work_fault What NoSink why five = absurd why.0
   work_fault What (Stands entries) why five = absurd why.0
   work_fault What (Full need room) why five = absurd why.0
   work_fault What (Shipped frames) why five = absurd why.0
@@ -112,6 +118,7 @@ module _ {D : Type 0} (disk : Ghosts D) (old new : D) where
   asked_fault lines (Checkpointed kind entries) why five = absurd why.0
   asked_fault lines Sealed why five = absurd why.0
   asked_fault lines Unsealed why five = absurd why.0
+  asked_fault lines NoSink why five = absurd why.0
   asked_fault lines (Stands entries) why five = absurd why.0
   asked_fault lines (Full need room) why five = absurd why.0
   asked_fault lines (Shipped frames) why five = absurd why.0
@@ -157,6 +164,7 @@ module _ {D : Type 0} (disk : Ghosts D) (old new : D) where
   format_fault blocks (Checkpointed kind entries) why five = absurd why
   format_fault blocks Sealed why five = absurd why
   format_fault blocks Unsealed why five = absurd why
+  format_fault blocks NoSink why five = absurd why
   format_fault blocks (Stands entries) why five = absurd why
   format_fault blocks (Full need room) why five = absurd why
   format_fault blocks (Shipped frames) why five = absurd why
@@ -177,6 +185,7 @@ module _ {D : Type 0} (disk : Ghosts D) (old new : D) where
   checkpoint_fault kind (Checkpointed done entries) why five = absurd (omega (arith, five))
   checkpoint_fault kind Sealed why five = absurd (omega (arith, five))
   checkpoint_fault kind Unsealed why five = absurd why.0
+  checkpoint_fault kind NoSink why five = absurd why.0
   checkpoint_fault kind (Stands entries) why five = absurd why.0
   checkpoint_fault kind (Full need room) why five = absurd (omega (arith, five))
   checkpoint_fault kind (Shipped frames) why five = absurd why.0
@@ -197,6 +206,7 @@ module _ {D : Type 0} (disk : Ghosts D) (old new : D) where
   check_fault (Checkpointed kind entries) why five = absurd why
   check_fault Sealed why five = absurd why
   check_fault Unsealed why five = absurd why
+  check_fault NoSink why five = absurd why
   check_fault (Stands entries) why five = absurd (omega (arith, five))
   check_fault (Full need room) why five = absurd why
   check_fault (Shipped frames) why five = absurd why
@@ -218,6 +228,7 @@ input_five source given rest (Formatted made) why five = why
 input_five source given rest (Checkpointed kind entries) why five = why
 input_five source given rest Sealed why five = why
 input_five source given rest Unsealed why five = why
+input_five source given rest NoSink why five = why
 input_five source given rest (Stands entries) why five = why
 input_five source given rest (Full need room) why five = why
 input_five source given rest (Shipped frames) why five = why
@@ -226,7 +237,7 @@ input_five source given rest (Replied transcript) why five = why
 
 -- ---- runs
 
-module _ {S K D : Type 0} (source : SourceGhosts S) (sink : SinkGhosts K) (disk : Ghosts D) (given rest : S) (before sent : K) (old new : D) where
+module _ {S K D : Type 0} (source : SourceGhosts S) (sink : SinkGhosts K) (disk : Ghosts D) (given rest : S) (before sent : K) (old new : D) (course : Course S K D disk) where
   read_fault : (cause : List ℕ → D → D → Ending → Type 0) (e : Ending) → ((input : List ℕ) → cause input old new e → status_of e ≡ 5 → Failed disk old new) → CommandCause source cause given rest old new e → status_of e ≡ 5 → Failed disk old new
   read_fault cause e each why five =
       ⊎_elim
@@ -241,7 +252,31 @@ module _ {S K D : Type 0} (source : SourceGhosts S) (sink : SinkGhosts K) (disk 
       (λ heard. work_fault disk old new (λ said start log own. HearsFrames heard.0 start log said) e heard.2.0 five)
       why
 
-  cause_fault : (command : Option Command) (e : Ending) → Cause source sink disk command given rest before sent old new e → status_of e ≡ 5 → Failed disk old new
+  -- The status of work of which this is plain.
+  coded_fault : (said : Said) (failed : Bool) → IsPlainWork disk old said failed new → IfOk said (λ t. status_of (ending_of (Ok t) failed) ≡ 5 → Failed disk old new)
+  coded_fault (Ok transcript) failed plain = λ five. plain.faulted (fault_of_code transcript.status five)
+  coded_fault (Err error) failed plain = tt
+
+  -- No reply to a question tells of a failure.
+  coded_none : (said : Said) (failed : Bool) → IfOk said (λ t. t.status ≡ statuses.DeviceFault → ⊥) → IfOk said (λ t. status_of (ending_of (Ok t) failed) ≡ 5 → Failed disk old new)
+  coded_none (Ok transcript) failed none = λ five. absurd (none (fault_of_code transcript.status five))
+  coded_none (Err error) failed none = tt
+
+  serve_fault : (batch : ℕ) (e : Ending) → ServeCause disk source sink batch given rest before sent old new course e → status_of e ≡ 5 → Failed disk old new
+  serve_fault batch e why five =
+      ⊎_elim
+      (λ never. work_fault disk old new Nothing e (never_cause disk source sink given rest before sent old new e never) five)
+      (λ served. talk_fault disk old new served.end served.said served.failed (coded_fault served.said served.failed served.serves.plain) served.serves.plain.stopped (sym (ap status_of served.ends) ∙ five))
+      why
+
+  serve_read_fault : (e : Ending) → ServeReadCause disk source sink given rest before sent old new course e → status_of e ≡ 5 → Failed disk old new
+  serve_read_fault e why five =
+      ⊎_elim
+      (λ never. work_fault disk old new Nothing e (never_cause disk source sink given rest before sent old new e never) five)
+      (λ served. talk_fault disk old new served.end served.said false (coded_none served.said false served.no_fault) (λ is. absurd (cc)) (sym (ap status_of served.ends) ∙ five))
+      why
+
+  cause_fault : (command : Option Command) (e : Ending) → Cause source sink disk command given rest before sent old new course e → status_of e ≡ 5 → Failed disk old new
   cause_fault None e why five = let two : status_of e ≡ 2 = ap status_of why.0 in absurd (omega (arith, two, five))
   cause_fault (Some (Format blocks)) e why five = format_fault disk old new blocks e why.1 five
   cause_fault (Some (Live batch materialize)) e why five =
@@ -267,9 +302,11 @@ module _ {S K D : Type 0} (source : SourceGhosts S) (sink : SinkGhosts K) (disk 
   cause_fault (Some Seal) e why five = checkpoint_fault disk old new kinds.Seal e why.1 five
   cause_fault (Some Check) e why five = check_fault disk old new e why.1.cause five
   cause_fault (Some (Ship from)) e why five = ship_fault sink disk from before sent old new e why.1 five
+  cause_fault (Some (Serve batch)) e why five = serve_fault batch e why five
+  cause_fault (Some ServeRead) e why five = serve_read_fault e why five
   cause_fault (Some Hear) e why five = read_fault (HearingCause disk) e (λ input. heard_fault input e) why five
 
-  run_fault : (command : Option Command) (e : Ending) → RunCause source sink disk command given rest before sent old new e → status_of e ≡ 5 → Failed disk old new
+  run_fault : (command : Option Command) (e : Ending) → RunCause source sink disk command given rest before sent old new course e → status_of e ≡ 5 → Failed disk old new
   run_fault command e why five =
       ⊎_elim
       (λ cause. cause_fault command e cause five)
@@ -277,5 +314,5 @@ module _ {S K D : Type 0} (source : SourceGhosts S) (sink : SinkGhosts K) (disk 
       why
 
   -- The status that was shown is 5 only if the count of faults of the device rose.
-  pub fault_shown : (after : K) (command : Option Command) (e : Ending) (status : ℕ) → RunCause source sink disk command given rest before sent old new e → Shows sink e sent after status → status ≡ 5 → Rose (disk.faults old) (disk.faults new)
+  pub fault_shown : (after : K) (command : Option Command) (e : Ending) (status : ℕ) → RunCause source sink disk command given rest before sent old new course e → Shows sink e sent after status → status ≡ 5 → Rose (disk.faults old) (disk.faults new)
   fault_shown after command e status why shows five = run_fault command e why (shown_five sink sent after e status shows five)

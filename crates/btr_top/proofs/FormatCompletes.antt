@@ -10,8 +10,9 @@ use Rattle.btr_disk.specs.Causes.{Rose}
 use Rattle.btr_super.specs.Format as format
 use Rattle.btr_words.specs.declared.command.Command.{Command}
 use Rattle.btr_words.specs.declared.command.Command.TheVariants.{Format}
+use Rattle.btr_serve.specs.declared.course.Course.{Course}
 use Rattle.btr_top.specs.declared.ending.Ending.{Ending}
-use Rattle.btr_top.specs.declared.ending.Ending.TheVariants.{Usage, NoSource, TooLong, OutOfMemory, NoDevice, NoStore, Damaged, Occupied, TooSmall, Formatted, Checkpointed, Sealed, Unsealed, Stands, Full, Shipped, CutShort, Replied}
+use Rattle.btr_top.specs.declared.ending.Ending.TheVariants.{Usage, NoSource, TooLong, OutOfMemory, NoDevice, NoStore, Damaged, Occupied, TooSmall, Formatted, Checkpointed, Sealed, Unsealed, Stands, Full, Shipped, CutShort, NoSink, Replied}
 use Rattle.btr_top.specs.Ending.{status_of, text_of, Writes, Shows}
 use Rattle.btr_top.specs.Format.{CanFormat, FormatCause}
 use Rattle.btr_top.specs.Run.{Cause, RunCause, DeviceAndSinkWork}
@@ -37,6 +38,7 @@ module _ {D : Type 0} (disk : Ghosts D) (old new : D) (reported : disk.is_observ
   made (Checkpointed kind entries) why = absurd why
   made Sealed why = absurd why
   made Unsealed why = absurd why
+  made NoSink why = absurd why
   made (Stands entries) why = absurd why
   made (Full need room) why = absurd why
   made (Shipped frames) why = absurd why
@@ -47,11 +49,11 @@ module _ {K : Type 0} (sink : SinkGhosts K) (before after : K) (works : StreamRo
   written : (text : List ℕ) (wanted status : ℕ) → Writes sink text wanted before after status → status ≡ wanted
   written text wanted status writes = ⊎_elim (λ all. all.same_status) (λ failed. absurd (works failed.rose)) writes
 
-pub formats_shown : {S K D : Type 0} (source : SourceGhosts S) (sink : SinkGhosts K) (disk : Ghosts D) (given rest : S) (before sent after : K) (old new : D) (command : Option Command) (blocks : ℕ) → command ≡ Some (Format blocks) → disk.is_observable → CanFormat disk blocks old → DeviceAndSinkWork sink disk before after old new → (e : Ending) (status : ℕ) → sent ≡ before → RunCause source sink disk command given rest before sent old new e → Shows sink e sent after status → (status ≡ 0) ⊎ (status ≡ 9)
-formats_shown {K = K} source sink disk given rest before sent after old new command blocks is reported can works e status unsent why shows =
+pub formats_shown : {S K D : Type 0} (source : SourceGhosts S) (sink : SinkGhosts K) (disk : Ghosts D) (given rest : S) (before sent after : K) (old new : D) (course : Course S K D disk) (command : Option Command) (blocks : ℕ) → command ≡ Some (Format blocks) → disk.is_observable → CanFormat disk blocks old → DeviceAndSinkWork sink disk before after old new → (e : Ending) (status : ℕ) → sent ≡ before → RunCause source sink disk command given rest before sent old new course e → Shows sink e sent after status → (status ≡ 0) ⊎ (status ≡ 9)
+formats_shown {K = K} source sink disk given rest before sent after old new course command blocks is reported can works e status unsent why shows =
     let wanted : (status_of e ≡ 0) ⊎ (status_of e ≡ 9) =
     ⊎_elim
-    (λ cause. inl (made disk old new reported works.device_works blocks can e (subst (λ (c : Option Command). Cause source sink disk c given rest before sent old new e) is cause).1))
+    (λ cause. inl (made disk old new reported works.device_works blocks can e (subst (λ (c : Option Command). Cause source sink disk c given rest before sent old new course e) is cause).1))
     (λ lacks. inr (ap status_of lacks.0))
     why in
     ⊎_elim

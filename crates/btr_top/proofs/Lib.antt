@@ -15,6 +15,7 @@ mod HeardCauses
 mod SinkFaults
 mod UnsoundKept
 mod WorkCauses
+mod ServeCauses
 mod FaultCauses
 -- if nothing fails
 mod BenignStatuses
@@ -45,4 +46,5 @@ mod FormatCompletes
 mod CheckpointCompletes
 mod CheckCompletes
 mod HearCompletes
+mod ServeCompletes
 mod RunCompletes

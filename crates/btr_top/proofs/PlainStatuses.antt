@@ -5,7 +5,7 @@ use Rattle.btr_io.specs.declared.source.Source.{Ghosts as SourceGhosts}
 use Rattle.btr_io.specs.declared.sink.Sink.{Ghosts as SinkGhosts}
 use Rattle.btr_io.specs.Faults.{Rose as StreamRose}
 use Rattle.btr_top.specs.declared.ending.Ending.{Ending}
-use Rattle.btr_top.specs.declared.ending.Ending.TheVariants.{Usage, NoSource, TooLong, OutOfMemory, NoDevice, NoStore, Damaged, Occupied, TooSmall, Formatted, Checkpointed, Sealed, Unsealed, Stands, Full, Shipped, CutShort, Replied}
+use Rattle.btr_top.specs.declared.ending.Ending.TheVariants.{Usage, NoSource, TooLong, OutOfMemory, NoDevice, NoStore, Damaged, Occupied, TooSmall, Formatted, Checkpointed, Sealed, Unsealed, Stands, Full, Shipped, CutShort, NoSink, Replied}
 use Rattle.btr_top.specs.Ending.{status_of, text_of, Writes, Shows}
 use Rattle.btr_top.specs.Command.{InputCause, ExceedsInputLimit}
 use Rattle.btr_top.specs.Run.{IsPlainStatus}
@@ -38,6 +38,7 @@ benign_input source given rest works within (Formatted blocks) why = absurd why
 benign_input source given rest works within (Checkpointed kind entries) why = absurd why
 benign_input source given rest works within Sealed why = absurd why
 benign_input source given rest works within Unsealed why = absurd why
+benign_input source given rest works within NoSink why = absurd why
 benign_input source given rest works within (Stands entries) why = absurd why
 benign_input source given rest works within (Full need room) why = absurd why
 benign_input source given rest works within (Shipped frames) why = absurd why

@@ -7,9 +7,10 @@ use Rattle.btr_io.specs.Faults.{Rose as StreamRose}
 use Rattle.btr_disk.specs.declared.disk.Disk.{Ghosts}
 use Rattle.btr_disk.specs.Causes.{Rose}
 use Rattle.btr_words.specs.declared.command.Command.{Command}
-use Rattle.btr_words.specs.declared.command.Command.TheVariants.{Format, Load, Ask, Distil, Live, LiveGroups, Sample, Checkpoint, Seal, Check, Ship, Hear}
+use Rattle.btr_words.specs.declared.command.Command.TheVariants.{Format, Load, Ask, Distil, Live, LiveGroups, Sample, Checkpoint, Seal, Check, Ship, Hear, Serve, ServeRead}
 use Rattle.btr_open.specs.Laws.{HeldIsSound, OneHistoryIsHeld}
 use Rattle.btr_top.specs.declared.checkpoint.CheckpointKind.TheVariants as kinds
+use Rattle.btr_serve.specs.declared.course.Course.{Course}
 use Rattle.btr_top.specs.declared.ending.Ending.{Ending}
 use Rattle.btr_top.specs.Ending.{status_of}
 use Rattle.btr_top.specs.declared.live.FeedKind.TheVariants.{Own, Shared}
@@ -22,9 +23,10 @@ use Rattle.btr_top.proofs.CheckpointCompletes.{benign_checkpoint}
 use Rattle.btr_top.proofs.CheckCompletes.{benign_check}
 use Rattle.btr_top.proofs.ShipCauses.{benign_ship}
 use Rattle.btr_top.proofs.HearCompletes.{benign_hear}
+use Rattle.btr_top.proofs.ServeCompletes.{benign_serve, benign_serve_read}
 
-module _ {S K D : Type 0} (source : SourceGhosts S) (sink : SinkGhosts K) (disk : Ghosts D) (given rest : S) (before sent : K) (old new : D) (sound : HeldIsSound) (one : OneHistoryIsHeld) (source_reported : source.is_observable) (reported : disk.is_observable) (source_works : StreamRose (source.faults given) (source.faults rest) → ⊥) (sink_works : StreamRose (sink.faults before) (sink.faults sent) → ⊥) (device_works : Rose (disk.faults old) (disk.faults new) → ⊥) where
-  plain_cause : (command : Option Command) → CanRun source disk command given old → (e : Ending) → Cause source sink disk command given rest before sent old new e → IsPlainStatus (status_of e)
+module _ {S K D : Type 0} (source : SourceGhosts S) (sink : SinkGhosts K) (disk : Ghosts D) (given rest : S) (before sent : K) (old new : D) (course : Course S K D disk) (sound : HeldIsSound) (one : OneHistoryIsHeld) (source_reported : source.is_observable) (reported : disk.is_observable) (source_works : StreamRose (source.faults given) (source.faults rest) → ⊥) (sink_works : StreamRose (sink.faults before) (sink.faults sent) → ⊥) (device_works : Rose (disk.faults old) (disk.faults new) → ⊥) where
+  plain_cause : (command : Option Command) → CanRun source disk command given old → (e : Ending) → Cause source sink disk command given rest before sent old new course e → IsPlainStatus (status_of e)
   plain_cause None can e why = absurd can
   plain_cause (Some (Format blocks)) can e why = absurd can
   plain_cause (Some (Live batch materialize)) can e why =
@@ -44,10 +46,14 @@ module _ {S K D : Type 0} (source : SourceGhosts S) (sink : SinkGhosts K) (disk 
   plain_cause (Some Seal) can e why = benign_checkpoint disk kinds.Seal old new sound can reported device_works e why.1
   plain_cause (Some Check) can e why = benign_check disk old new can reported device_works e why.1
   plain_cause (Some (Ship from)) can e why = benign_ship sink disk from before sent old new can reported sink_works device_works e why.1
+  plain_cause (Some (Serve batch)) can e why =
+      benign_serve source sink disk given rest before sent old new course sound one source_reported reported source_works sink_works device_works batch can e why
+  plain_cause (Some ServeRead) can e why =
+      benign_serve_read source sink disk given rest before sent old new course sound one source_reported reported source_works sink_works device_works can e why
   plain_cause (Some Hear) can e why =
       benign_hear source disk given rest old new sound one can source_reported reported source_works device_works e why
 
-  pub plain_run : (command : Option Command) → CanRun source disk command given old → (e : Ending) → RunCause source sink disk command given rest before sent old new e → IsPlainStatus (status_of e)
+  pub plain_run : (command : Option Command) → CanRun source disk command given old → (e : Ending) → RunCause source sink disk command given rest before sent old new course e → IsPlainStatus (status_of e)
   plain_run command can e why =
       ⊎_elim
       (λ cause. plain_cause command can e cause)

@@ -13,7 +13,7 @@ use Rattle.btr_store.specs.declared.transcript.Transcript.{Transcript}
 use Rattle.btr_store.specs.Completes.{IsBenign}
 use Rattle.btr_store.specs.Work.{HoldsStart, DoesRightly}
 use Rattle.btr_top.specs.declared.ending.Ending.{Ending}
-use Rattle.btr_top.specs.declared.ending.Ending.TheVariants.{Usage, NoSource, TooLong, OutOfMemory, NoDevice, NoStore, Damaged, Occupied, TooSmall, Formatted, Checkpointed, Sealed, Unsealed, Stands, Full, Shipped, CutShort, Replied}
+use Rattle.btr_top.specs.declared.ending.Ending.TheVariants.{Usage, NoSource, TooLong, OutOfMemory, NoDevice, NoStore, Damaged, Occupied, TooSmall, Formatted, Checkpointed, Sealed, Unsealed, Stands, Full, Shipped, CutShort, NoSink, Replied}
 use Rattle.btr_top.specs.Ending.{status_of}
 use Rattle.btr_top.specs.Work.{WorkSays, WorkCause}
 use Rattle.btr_top.specs.Run.{IsPlainStatus}
@@ -80,6 +80,7 @@ module _ {D : Type 0} (disk : Ghosts D) (old new : D) (history : List Entry) (bl
   plain_work What benign (Checkpointed kind entries) why = absurd why.0
   plain_work What benign Sealed why = absurd why.0
   plain_work What benign Unsealed why = absurd why.0
+  plain_work What benign NoSink why = absurd why.0
   plain_work What benign (Stands entries) why = absurd why.0
   plain_work What benign (Full need room) why = absurd why.0
   plain_work What benign (Shipped frames) why = absurd why.0

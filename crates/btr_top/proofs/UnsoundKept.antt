@@ -20,11 +20,12 @@ use Rattle.btr_top.specs.declared.live.FeedKind.TheVariants.{Own, Shared}
 use Rattle.btr_store.specs.Distil.{DistilsStore}
 use Rattle.btr_store.specs.SampleLaw.{SamplesStore}
 use Rattle.btr_words.specs.declared.command.Command.{Command}
-use Rattle.btr_words.specs.declared.command.Command.TheVariants.{Format, Load, Ask, Distil, Live, LiveGroups, Sample, Checkpoint, Seal, Check, Ship, Hear}
+use Rattle.btr_words.specs.declared.command.Command.TheVariants.{Format, Load, Ask, Distil, Live, LiveGroups, Sample, Checkpoint, Seal, Check, Ship, Hear, Serve, ServeRead}
 use Rattle.btr_top.specs.declared.checkpoint.CheckpointKind.{CheckpointKind}
 use Rattle.btr_top.specs.declared.checkpoint.CheckpointKind.TheVariants as kinds
+use Rattle.btr_serve.specs.declared.course.Course.{Course}
 use Rattle.btr_top.specs.declared.ending.Ending.{Ending}
-use Rattle.btr_top.specs.declared.ending.Ending.TheVariants.{Usage, NoSource, TooLong, OutOfMemory, NoDevice, NoStore, Damaged, Occupied, TooSmall, Formatted, Checkpointed, Sealed, Unsealed, Stands, Full, Shipped, CutShort, Replied}
+use Rattle.btr_top.specs.declared.ending.Ending.TheVariants.{Usage, NoSource, TooLong, OutOfMemory, NoDevice, NoStore, Damaged, Occupied, TooSmall, Formatted, Checkpointed, Sealed, Unsealed, Stands, Full, Shipped, CutShort, NoSink, Replied}
 use Rattle.btr_top.specs.Ending.{status_of, text_of, Writes, Shows}
 use Rattle.btr_top.specs.Command.{InputCause, CommandCause, IsKept}
 use Rattle.btr_top.specs.Checkpoint.{CheckpointEnds}
@@ -32,6 +33,8 @@ use Rattle.btr_top.specs.Work.{WorkSays, WorkCause, RowsCause}
 use Rattle.btr_top.specs.Ask.{QuestionsCause}
 use Rattle.btr_top.specs.Live.{ScriptCause}
 use Rattle.btr_top.specs.Hear.{HearsFrames, HearingCause}
+use Rattle.btr_top.specs.Serve.{ServeCause, ServeReadCause}
+use Rattle.btr_top.proofs.ServeCauses.{Nothing, never_cause}
 use Rattle.btr_top.specs.Run.{Cause, RunCause, OpensStore, IsRefusal, IsRefused}
 
 -- ---- statuses
@@ -88,6 +91,7 @@ input_refused source given rest (Formatted made) why = absurd why
 input_refused source given rest (Checkpointed kind entries) why = absurd why
 input_refused source given rest Sealed why = absurd why
 input_refused source given rest Unsealed why = absurd why
+input_refused source given rest NoSink why = absurd why
 input_refused source given rest (Stands entries) why = absurd why
 input_refused source given rest (Full need room) why = absurd why
 input_refused source given rest (Shipped frames) why = absurd why
@@ -123,6 +127,7 @@ module _ {D : Type 0} (disk : Ghosts D) (only_now : disk.is_observable → (d : 
   work_refused What (Checkpointed kind entries) why = absurd why.0
   work_refused What Sealed why = absurd why.0
   work_refused What Unsealed why = absurd why.0
+  work_refused What NoSink why = absurd why.0
   work_refused What (Stands entries) why = absurd why.0
   work_refused What (Full need room) why = absurd why.0
   work_refused What (Shipped frames) why = absurd why.0
@@ -143,6 +148,7 @@ module _ {D : Type 0} (disk : Ghosts D) (only_now : disk.is_observable → (d : 
   asked_refused lines (Checkpointed kind entries) why = absurd why.0
   asked_refused lines Sealed why = absurd why.0
   asked_refused lines Unsealed why = absurd why.0
+  asked_refused lines NoSink why = absurd why.0
   asked_refused lines (Stands entries) why = absurd why.0
   asked_refused lines (Full need room) why = absurd why.0
   asked_refused lines (Shipped frames) why = absurd why.0
@@ -163,6 +169,7 @@ module _ {D : Type 0} (disk : Ghosts D) (only_now : disk.is_observable → (d : 
   checkpoint_refused kind (Checkpointed done entries) why = absurd (unsound (why.1 reported))
   checkpoint_refused kind Sealed why = absurd (unsound (why.0 reported))
   checkpoint_refused kind Unsealed why = absurd why.0
+  checkpoint_refused kind NoSink why = absurd why.0
   checkpoint_refused kind (Stands entries) why = absurd why.0
   checkpoint_refused kind (Full need room) why = absurd (unsound (why.0 reported))
   checkpoint_refused kind (Shipped frames) why = absurd why.0
@@ -171,7 +178,7 @@ module _ {D : Type 0} (disk : Ghosts D) (only_now : disk.is_observable → (d : 
 
   -- ---- runs
 
-  module _ {S K : Type 0} (source : SourceGhosts S) (sink : SinkGhosts K) (given rest : S) (before sent : K) where
+  module _ {S K : Type 0} (source : SourceGhosts S) (sink : SinkGhosts K) (given rest : S) (before sent : K) (course : Course S K D disk) where
     read_refused : (cause : List ℕ → D → D → Ending → Type 0) (e : Ending) → ((input : List ℕ) → cause input old new e → Refused e) → CommandCause source cause given rest old new e → Refused e
     read_refused cause e each why =
         ⊎_elim
@@ -186,7 +193,21 @@ module _ {D : Type 0} (disk : Ghosts D) (only_now : disk.is_observable → (d : 
         (λ heard. work_refused (λ said start log own. HearsFrames heard.0 start log said) e heard.2.0)
         why
 
-    cause_refused : (command : Option Command) (e : Ending) → OpensStore command → Cause source sink disk command given rest before sent old new e → Refused e
+    serve_refused : (batch : ℕ) (e : Ending) → ServeCause disk source sink batch given rest before sent old new course e → Refused e
+    serve_refused batch e why =
+        ⊎_elim
+        (λ never. work_refused Nothing e (never_cause disk source sink given rest before sent old new e never))
+        (λ served. absurd (unsound (served.serves.plain.sound reported)))
+        why
+
+    serve_read_refused : (e : Ending) → ServeReadCause disk source sink given rest before sent old new course e → Refused e
+    serve_read_refused e why =
+        ⊎_elim
+        (λ never. work_refused Nothing e (never_cause disk source sink given rest before sent old new e never))
+        (λ served. absurd (unsound (served.serves.sound reported)))
+        why
+
+    cause_refused : (command : Option Command) (e : Ending) → OpensStore command → Cause source sink disk command given rest before sent old new course e → Refused e
     cause_refused None e opens why = absurd opens
     cause_refused (Some (Format blocks)) e opens why = absurd opens
     cause_refused (Some (Live batch materialize)) e opens why =
@@ -211,9 +232,11 @@ module _ {D : Type 0} (disk : Ghosts D) (only_now : disk.is_observable → (d : 
     cause_refused (Some Seal) e opens why = checkpoint_refused kinds.Seal e why.1
     cause_refused (Some Check) e opens why = absurd opens
     cause_refused (Some (Ship from)) e opens why = absurd opens
+    cause_refused (Some (Serve batch)) e opens why = serve_refused batch e why
+    cause_refused (Some ServeRead) e opens why = serve_read_refused e why
     cause_refused (Some Hear) e opens why = read_refused (HearingCause disk) e (λ input. heard_refused input e) why
 
-    run_refused : (command : Option Command) (e : Ending) → OpensStore command → RunCause source sink disk command given rest before sent old new e → Refused e
+    run_refused : (command : Option Command) (e : Ending) → OpensStore command → RunCause source sink disk command given rest before sent old new course e → Refused e
     run_refused command e opens why =
         ⊎_elim
         (λ cause. cause_refused command e opens cause)
@@ -221,7 +244,7 @@ module _ {D : Type 0} (disk : Ghosts D) (only_now : disk.is_observable → (d : 
         why
 
     -- What the run did, and what was shown of it.
-    pub refused_shown : (after : K) (command : Option Command) (e : Ending) (status : ℕ) → OpensStore command → RunCause source sink disk command given rest before sent old new e → Shows sink e sent after status → IsRefused disk old new status
+    pub refused_shown : (after : K) (command : Option Command) (e : Ending) (status : ℕ) → OpensStore command → RunCause source sink disk command given rest before sent old new course e → Shows sink e sent after status → IsRefused disk old new status
     refused_shown after command e status opens why shows =
         let refused = run_refused command e opens why in
         record { kept = refused.0; refusal = refusal_shown sink sent after e status refused.1 shows }

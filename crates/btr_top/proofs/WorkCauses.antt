@@ -6,7 +6,7 @@ use Rattle.btr_disk.specs.declared.disk.Disk.{Ghosts}
 use Rattle.btr_store.specs.declared.transcript.Transcript.{Transcript}
 use Rattle.btr_store.specs.Work.{DoesRightly, IfHolds, IsPlainWork}
 use Rattle.btr_top.specs.declared.ending.Ending.{Ending}
-use Rattle.btr_top.specs.declared.ending.Ending.TheVariants.{Usage, NoSource, TooLong, OutOfMemory, NoDevice, NoStore, Damaged, Occupied, TooSmall, Formatted, Checkpointed, Sealed, Unsealed, Stands, Full, Shipped, CutShort, Replied}
+use Rattle.btr_top.specs.declared.ending.Ending.TheVariants.{Usage, NoSource, TooLong, OutOfMemory, NoDevice, NoStore, Damaged, Occupied, TooSmall, Formatted, Checkpointed, Sealed, Unsealed, Stands, Full, Shipped, CutShort, NoSink, Replied}
 use Rattle.btr_top.specs.Command.{IsKept, OpeningCause}
 use Rattle.btr_top.specs.Work.{IfReplied, WorkSays, WorkDid, WorkCause, ending_of}
 
@@ -35,6 +35,7 @@ unopened_cause disk What old new (Formatted made) why kept = absurd why
 unopened_cause disk What old new (Checkpointed kind entries) why kept = absurd why
 unopened_cause disk What old new Sealed why kept = absurd why
 unopened_cause disk What old new Unsealed why kept = absurd why
+unopened_cause disk What old new NoSink why kept = absurd why
 unopened_cause disk What old new (Stands entries) why kept = absurd why
 unopened_cause disk What old new (Full need room) why kept = absurd why
 unopened_cause disk What old new (Shipped frames) why kept = absurd why
@@ -66,6 +67,7 @@ unopened_says disk Says old new (Formatted made) why = tt
 unopened_says disk Says old new (Checkpointed kind entries) why = tt
 unopened_says disk Says old new Sealed why = tt
 unopened_says disk Says old new Unsealed why = tt
+unopened_says disk Says old new NoSink why = tt
 unopened_says disk Says old new (Stands entries) why = tt
 unopened_says disk Says old new (Full need room) why = tt
 unopened_says disk Says old new (Shipped frames) why = tt

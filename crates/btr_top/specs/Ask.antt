@@ -1,5 +1,5 @@
 -- The command `ask`: what each line is answered, and why the command ends as it does.
-use Rattle.std.specs.Prelude.{◌≡◌, List, [], ◌∷◌, length, false, Option, Ok}
+use Rattle.std.specs.Prelude.{◌≡◌, List, map, length, false, Option, Ok}
 use Rattle.btr_io.specs.declared.source.Source.{Ghosts as SourceGhosts}
 use Rattle.btr_disk.specs.declared.disk.Disk.{Ghosts}
 use Rattle.btr_disk.specs.Bytes.{Image}
@@ -16,15 +16,13 @@ use Rattle.btr_top.specs.declared.ending.Ending.TheVariants.{Replied}
 use Rattle.btr_live.specs.Meaning.{question}
 use Rattle.btr_live.specs.Serving.{IsAnswerOrNoMemory}
 use Rattle.btr_top.specs.Command.{HoldsStoreWith, IsWithinLimit, IsKept, OpeningCause, CommandCause}
+use Rattle.btr_serve.specs.Questions.{AnswersLines}
 use Rattle.btr_store.specs.Replies.{AddsReply, IsTranscript}
 use Rattle.btr_store.specs.Work.{IfHolds, IsPlainWork}
 
 -- One reply to each line, in order, all from the same history.
 abbrev pub AnswersEach : List Entry → List ScriptLine → List LineReply → Type 0
-AnswersEach h [] [] = Unit {0}
-AnswersEach h [] (reply ∷ replies) = ⊥
-AnswersEach h (line ∷ lines) [] = ⊥
-AnswersEach h (line ∷ lines) (reply ∷ replies) = IsAnswerOrNoMemory h (question h line.line) reply × AnswersEach h lines replies
+AnswersEach h lines replies = AnswersLines h (map (λ line. line.line) lines) replies
 
 -- A reply to a line was added to the transcript, as the history answers it.
 abbrev pub AddsAnswer : List Entry → Option Line → Transcript → Transcript → Type 0

@@ -6,7 +6,7 @@ use Rattle.btr_text.specs.Text.{line_text}
 use Rattle.btr_top.specs.declared.ending.Ending.{Ending}
 use Rattle.btr_top.specs.declared.ending.Ending.TheVariants.{Usage, NoSource, TooLong, OutOfMemory, NoDevice, NoStore}
 use Rattle.btr_top.specs.declared.ending.Ending.TheVariants.{Damaged, Occupied, TooSmall, Formatted, Checkpointed, Sealed, Unsealed}
-use Rattle.btr_top.specs.declared.ending.Ending.TheVariants.{Stands, Full, Shipped, CutShort, Replied}
+use Rattle.btr_top.specs.declared.ending.Ending.TheVariants.{Stands, Full, Shipped, CutShort, NoSink, Replied}
 use Rattle.btr_top.specs.declared.checkpoint.CheckpointKind.TheVariants.{Plain, Seal}
 use Rattle.btr_top.specs.declared.command.TheConstants.{MAX_INPUT}
 use Rattle.btr_store.specs.Status.{code_of}
@@ -40,13 +40,14 @@ status_of (Stands entries) = 0
 status_of (Full need left) = 8
 status_of (Shipped frames) = 0
 status_of (CutShort why) = status_of_cut why
+status_of NoSink = 4
 status_of (Replied transcript) = code_of transcript.status
 
 -- The line of a sealed store.
 abbrev pub sealed_line : List ℕ
 sealed_line = line_text (codes "no" ∷ codes "sealed" ∷ [])
 
--- The text of an ending: one line, or the replies, or nothing after frames.
+-- The text of an ending: one line, or the replies, or nothing after frames and after a reply that the sink did not take.
 abbrev pub text_of : Ending → List ℕ
 text_of Usage = line_text (codes "no" ∷ codes "usage" ∷ [])
 text_of NoSource = line_text (codes "no" ∷ codes "source" ∷ [])
@@ -66,14 +67,16 @@ text_of (Stands entries) = line_text (codes "stands" ∷ decimal entries ∷ [])
 text_of (Full need left) = line_text (codes "no" ∷ codes "full" ∷ decimal need ∷ decimal left ∷ [])
 text_of (Shipped frames) = []
 text_of (CutShort why) = []
+text_of NoSink = []
 text_of (Replied transcript) = transcript.text.items
 
 -- The line of an ending is made for it, which takes memory. The replies of a script are there already, and so is the line of a device
--- that failed. After frames there is none.
+-- that failed. After frames, and after a reply that the sink did not take, there is none.
 abbrev pub NeedsLine : Ending → Type 0
 NeedsLine NoDevice = ⊥
 NeedsLine (Shipped frames) = ⊥
 NeedsLine (CutShort why) = ⊥
+NeedsLine NoSink = ⊥
 NeedsLine (Replied transcript) = ⊥
 NeedsLine e = Unit {0}
 

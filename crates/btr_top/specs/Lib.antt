@@ -5,6 +5,7 @@ pub mod Room
 pub mod Work
 pub mod Live
 pub mod Ask
+pub mod Serve
 pub mod Cold
 pub mod Format
 pub mod Checkpoint

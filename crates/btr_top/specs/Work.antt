@@ -26,6 +26,11 @@ ending_of (Ok transcript) failed = Replied transcript
 ending_of (Err error) true = NoDevice
 ending_of (Err error) false = OutOfMemory
 
+-- How a command ends that did its work, and of which nothing can be said. A device that failed counts more than the memory.
+abbrev pub unsaid : Bool → Ending
+unsaid true = NoDevice
+unsaid false = OutOfMemory
+
 -- If the command ends with a transcript, this is true of it.
 abbrev pub IfReplied : (Transcript → Type 0) → Ending → Type 0
 IfReplied Says (Replied transcript) = Says transcript

@@ -5,15 +5,15 @@ ghost use Rattle.btr_io.specs.Bytes.{Gives};
 ghost use Rattle.btr_open.specs.Opening.{IsNotOpened};
 ghost use Rattle.btr_top.specs.Command.{HasRead, InputCause, IsKept, OpeningCause};
 ghost use Rattle.btr_top.specs.declared.command.TheConstants.{MAX_INPUT};
-ghost use Rattle.btr_top.specs.Work.{ending_of};
+ghost use Rattle.btr_top.specs.Work.{ending_of, unsaid};
 
 use crate::ending::Ending;
 use crate::remains::RunRemains;
 use btr_disk::Disk;
 use btr_io::{ReadAllFault, Source, read_all};
 use btr_open::{OpenCause, OpenFault};
-use btr_store::Worked;
-use std::alloc::Global;
+use btr_store::{Transcript, Worked};
+use std::alloc::{AllocError, Global};
 
 /// The most bytes of input that are taken: `2^28`.
 pub const MAX_INPUT: u64 = 268435456;
@@ -75,20 +75,27 @@ pub(crate) fn work_result<D>(worked: Worked<D>) -> CommandResult<D>
         disk,
         remains,
     } = worked;
-    let ending = match said {
-        Ok(transcript) => Ending::Replied(transcript),
-        Err(_) => unsaid(failed),
-    };
     CommandResult {
-        ending,
+        ending: ending_of(said, failed),
         disk,
         remains: RunRemains::Store(remains),
     }
 }
 
+/// Returns how a command ends that did its work and says this of it.
+pub(crate) fn ending_of(said: Result<Transcript, AllocError>, failed: bool) -> Ending
+    ensures { result ≡ ending_of said failed }
+{
+    match said {
+        Ok(transcript) => Ending::Replied(transcript),
+        Err(_) => unsaid(failed),
+    }
+}
+
 /// Returns how a command ends whose work was done, but for whose lines there was no memory.
-fn unsaid(failed: bool) -> Ending
-    ensures { (error : AllocErrorSpec) → result ≡ ending_of (Err error) failed }
+pub(crate) fn unsaid(failed: bool) -> Ending
+    ensures ending { result ≡ unsaid failed }
+    ensures of_error { (error : AllocErrorSpec) → result ≡ ending_of (Err error) failed }
 {
     if failed {
         Ending::NoDevice

@@ -68,14 +68,17 @@ pub enum Ending {
     /// The frames were written in part, and then this fault came. No line follows.
     CutShort { fault: ShipFault },
 
+    /// The sink failed in the reply to a line. No line follows.
+    NoSink,
+
     /// The command did its work, and says this of it: a reply to each line of the input, lines of its own, or both.
     Replied(Transcript),
 }
 
 /// Writes the text of an ending, and returns the status of the run. It is 4 if the sink fails, 9 if there is no memory
 /// for the line (which is then that of [`Ending::OutOfMemory`]), and else that of the ending. The line of a device that failed
-/// takes no memory. The replies to a script are handed to the sink without a copy. After frames nothing is written, but the sink passes
-/// them on.
+/// takes no memory. The replies to a script are handed to the sink without a copy. After frames, and after a reply that the sink did not
+/// take, nothing is written, but the sink passes on what it has.
 pub(crate) fn show<K: Sink>(alloc: Global, sink: &mut K, ending: &Ending) -> u8
     ensures { Shows ⟦<K as Sink>⟧ ending.now sink.old sink.new result }
 {
@@ -84,6 +87,7 @@ pub(crate) fn show<K: Sink>(alloc: Global, sink: &mut K, ending: &Ending) -> u8
         Ending::NoDevice => write_text(sink, b"no device\n", 5),
         Ending::Shipped { .. } => write_text(sink, b"", 0),
         Ending::CutShort { fault } => write_text(sink, b"", status_of_cut(*fault)),
+        Ending::NoSink => write_text(sink, b"", 4),
         _ => show_line(alloc, sink, ending),
     }
 }
@@ -156,6 +160,7 @@ fn status_of(ending: &Ending) -> u8
         Ending::Full { .. } => 8,
         Ending::Shipped { .. } => 0,
         Ending::CutShort { fault } => status_of_cut(*fault),
+        Ending::NoSink => 4,
         Ending::Replied(transcript) => transcript.status.code(),
     }
 }
@@ -188,8 +193,8 @@ fn text_of(alloc: Global, ending: &Ending) -> Result<Vec<u8>, AllocError>
         Ending::Unsealed => line(alloc, b"no", &[b"unsealed"]),
         Ending::Stands { entries } => done_text(alloc, b"stands", *entries),
         Ending::Full { need, left } => two_numbers_text(alloc, b"full", *need, *left),
-        Ending::NoDevice | Ending::Shipped { .. } | Ending::CutShort { .. } | Ending::Replied(_) =>
-            Ok(Vec::new(alloc)),
+        Ending::NoDevice | Ending::Shipped { .. } | Ending::CutShort { .. } => Ok(Vec::new(alloc)),
+        Ending::NoSink | Ending::Replied(_) => Ok(Vec::new(alloc)),
     }
 }
 

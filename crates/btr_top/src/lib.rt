@@ -15,6 +15,7 @@ mod hear;
 mod live;
 mod load;
 mod sample;
+mod serve;
 mod ship;
 // what the commands share
 mod command;

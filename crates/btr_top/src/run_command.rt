@@ -5,7 +5,7 @@ ghost use Rattle.btr_words.specs.declared.command.Command.TheVariants.{Format};
 ghost use Rattle.btr_top.specs.declared.command.TheConstants.{MAX_INPUT};
 ghost use Rattle.btr_words.specs.Words.{command_of, IsInBounds};
 ghost use Rattle.btr_top.specs.Format.{FormatCause, FormatLeaves};
-ghost use Rattle.btr_top.specs.Run.{IsReader, KeepsDevice, RunCause, Runs, WritesAtEnd};
+ghost use Rattle.btr_top.specs.Run.{IsReader, KeepsDevice, ReadsAtOnce, RunCause, Runs, WritesAtEnd};
 
 use crate::ask::run_ask;
 use crate::check::run_check;
@@ -20,11 +20,13 @@ use crate::live::{FeedKind, run_live};
 use crate::load::run_load;
 use crate::remains::RunRemains;
 use crate::sample::run_sample;
+use crate::serve::{run_serve, run_serve_read};
 use crate::ship::run_ship;
 use btr_disk::Disk;
 use btr_io::{Sink, Source};
 use btr_jobs::{NoPace, Pace, System};
 use btr_open::{held_is_sound, one_history_is_held};
+use btr_serve::Course;
 use btr_words::{Command, read_words};
 use std::alloc::Global;
 use std::sync::Wait;
@@ -32,7 +34,7 @@ use std::thread::Threads;
 
 /// What a run gives back.
 #[derive(Drop)]
-pub struct Outcome<D> {
+pub struct Outcome<S, K, D: Disk> {
     /// The status with which the program ends.
     pub status: u8,
 
@@ -41,11 +43,22 @@ pub struct Outcome<D> {
 
     /// What the run leaves in memory.
     pub remains: RunRemains,
+
+    /// The moments of the talk of `serve`, which have no bytes. For any other command there are none.
+    pub course: Course<S, K, D>,
+}
+
+/// What a run takes of the system, and who learns of the turns of its threads.
+#[derive(Drop)]
+struct Paced<'a, R, P> {
+    system: System<'a, R>,
+    pace: &'a P,
 }
 
 /// Runs the command that the words say: it works on the device, and writes the text of its ending to the sink. `load`, `live`, `ask` and
-/// `hear` read the source to its end first. The others read nothing. `ship` writes to the sink while it reads the device. `live`, `load`,
-/// `distil` and `sample` start threads by `rt`, and a session waits by it for its turns at the store.
+/// `hear` read the source to its end first, and `serve` reads it line by line: it writes a reply before it looks at the next line. The
+/// others read nothing. `ship` writes to the sink while it reads the device. `live`, `load`, `distil` and `sample` start threads by `rt`,
+/// and a session waits by it for its turns at the store.
 ///
 /// It is [`run_paced`] with a pace that does nothing.
 pub fn run<R: Threads + Wait + Sync, S: Source, K: Sink, D: Disk + Send>(
@@ -55,9 +68,9 @@ pub fn run<R: Threads + Wait + Sync, S: Source, K: Sink, D: Disk + Send>(
     source: &mut S,
     sink: &mut K,
     disk: D,
-) -> Outcome<D>
+) -> Outcome<S, K, D>
     ensures runs { Runs ⟦<S as Source>⟧ ⟦<K as Sink>⟧ ⟦<D as Disk>⟧ (command_of (map string_bytes words.now))
-        source.old source.new sink.old sink.new disk result.disk result.status }
+        source.old source.new sink.old sink.new disk result.disk result.course result.status }
 {
     let system = System { rt, alloc };
     run_paced(system, words, source, sink, disk, &NoPace)
@@ -72,15 +85,17 @@ pub fn run_paced<R: Threads + Wait + Sync, S: Source, K: Sink, D: Disk + Send, P
     sink: &mut K,
     disk: D,
     pace: &P,
-) -> Outcome<D>
+) -> Outcome<S, K, D>
     ensures runs { Runs ⟦<S as Source>⟧ ⟦<K as Sink>⟧ ⟦<D as Disk>⟧ (command_of (map string_bytes words.now))
-        source.old source.new sink.old sink.new disk result.disk result.status }
+        source.old source.new sink.old sink.new disk result.disk result.course result.status }
 {
+    let mut course = Course::new();
+    let paced = Paced { system, pace };
     let CommandResult {
         ending,
         disk,
         remains,
-    } = dispatch(system, words, source, sink, disk, pace);
+    } = dispatch(&paced, words, source, sink, disk, &mut course);
     let status = show(system.alloc, sink, &ending);
     // so a device that holds a history is not refused as one without a store, or as a damaged one
     held_is_sound();
@@ -90,22 +105,24 @@ pub fn run_paced<R: Threads + Wait + Sync, S: Source, K: Sink, D: Disk + Send, P
         status,
         disk,
         remains,
+        course,
     }
 }
 
 /// Does what the words say.
 fn dispatch<R: Threads + Wait + Sync, S: Source, K: Sink, D: Disk + Send, P: Pace + Sync>(
-    system: System<'_, R>,
+    paced: &Paced<'_, R, P>,
     words: &[String],
     source: &mut S,
     sink: &mut K,
     disk: D,
-    pace: &P,
+    course: &mut Course<S, K, D>,
 ) -> CommandResult<D>
     ensures size { D.size result.disk ≡ D.size disk }
-    ensures input { S.is_observable → Gives (MAX_INPUT + 1) (S.left source.old) (S.left source.new) }
+    ensures input { ReadsAtOnce (command_of (map string_bytes words.now)) → S.is_observable
+        → Gives (MAX_INPUT + 1) (S.left source.old) (S.left source.new) }
     ensures cause { RunCause ⟦<S as Source>⟧ ⟦<K as Sink>⟧ ⟦<D as Disk>⟧ (command_of (map string_bytes words.now))
-        source.old source.new sink.old sink.new disk result.disk result.ending }
+        source.old source.new sink.old sink.new disk result.disk course.new result.ending }
     ensures at_end { WritesAtEnd (command_of (map string_bytes words.now)) → sink.new ≡ sink.old }
     ensures later { K.faults sink.old ≤ K.faults sink.new }
     ensures format_leaves { D.is_observable → (blocks : ℕ) → command_of (map string_bytes words.now) ≡ Some (Format blocks)
@@ -113,8 +130,8 @@ fn dispatch<R: Threads + Wait + Sync, S: Source, K: Sink, D: Disk + Send, P: Pac
     ensures kept { IsReader (command_of (map string_bytes words.now))
         → KeepsDevice ⟦<D as Disk>⟧ (command_of (map string_bytes words.now)) disk result.disk }
 {
-    match read_words(system.alloc, words) {
-        Ok(Some(command)) => run_one(system, command, source, sink, disk, pace),
+    match read_words(paced.system.alloc, words) {
+        Ok(Some(command)) => run_one(paced, command, source, sink, disk, course),
         Ok(None) => undone(Ending::Usage, disk),
         Err(_) => undone(Ending::OutOfMemory, disk),
     }
@@ -134,24 +151,25 @@ fn undone<D: Disk>(ending: Ending, disk: D) -> CommandResult<D>
 
 /// Does a command.
 fn run_one<R: Threads + Wait + Sync, S: Source, K: Sink, D: Disk + Send, P: Pace + Sync>(
-    system: System<'_, R>,
+    paced: &Paced<'_, R, P>,
     command: Command,
     source: &mut S,
     sink: &mut K,
     disk: D,
-    pace: &P,
+    course: &mut Course<S, K, D>,
 ) -> CommandResult<D>
     requires { IsInBounds command }
     ensures size { D.size result.disk ≡ D.size disk }
-    ensures input { S.is_observable → Gives (MAX_INPUT + 1) (S.left source.old) (S.left source.new) }
+    ensures input { ReadsAtOnce (Some command) → S.is_observable → Gives (MAX_INPUT + 1) (S.left source.old) (S.left source.new) }
     ensures cause { RunCause ⟦<S as Source>⟧ ⟦<K as Sink>⟧ ⟦<D as Disk>⟧ (Some command)
-        source.old source.new sink.old sink.new disk result.disk result.ending }
+        source.old source.new sink.old sink.new disk result.disk course.new result.ending }
     ensures at_end { WritesAtEnd (Some command) → sink.new ≡ sink.old }
     ensures later { K.faults sink.old ≤ K.faults sink.new }
     ensures format_leaves { D.is_observable → (blocks : ℕ) → command ≡ Format blocks
         → FormatLeaves ⟦<D as Disk>⟧ blocks disk result.disk }
     ensures kept { IsReader (Some command) → KeepsDevice ⟦<D as Disk>⟧ (Some command) disk result.disk }
 {
+    let (system, pace) = (paced.system, paced.pace);
     let alloc = system.alloc;
     match command {
         Command::Format { blocks } => make_store(disk, blocks),
@@ -166,6 +184,8 @@ fn run_one<R: Threads + Wait + Sync, S: Source, K: Sink, D: Disk + Send, P: Pace
             let feeds = FeedKind::Shared { threshold };
             run_live(system, feeds, materialize, source, disk, pace)
         }
+        Command::Serve { batch } => run_serve(system, batch, source, sink, disk, course),
+        Command::ServeRead => run_serve_read(system, source, sink, disk, course),
         Command::Ask { cold: false } => run_ask(alloc, source, disk),
         Command::Ask { cold: true } => run_ask_cold(alloc, source, disk),
         Command::Load { workers, batch } => run_load(system, workers, batch, source, disk, pace),

@@ -12,6 +12,7 @@ mod lanes;
 mod outputs;
 mod retirements;
 mod seals;
+mod serving;
 mod shared;
 mod stops;
 mod streams;

@@ -14,26 +14,26 @@ gives_none most left =
     record { bounded = omega arith; rest = ap (λ n. drop n left) (sym none) }
 
 pub returns-in-Format-clause-input : goal.returns-in-Format-clause-input
-returns-in-Format-clause-input g c = λ reported. gives_none 268435457 (g.S.Source.left c.args.source.now)
+returns-in-Format-clause-input g c = λ at_once reported. gives_none 268435457 (g.S.Source.left c.args.source.now)
 
 pub returns-in-Format-clause-format_leaves : goal.returns-in-Format-clause-format_leaves
 returns-in-Format-clause-format_leaves g c = λ reported blocks is.
     subst (λ (n : ℕ). FormatLeaves g.D.Disk n c.args.disk c.make_store.result.disk) (same_blocks _ blocks (sym c.in-Format.is ∙ is)) (c.make_store.ensures.format_leaves reported)
 
 pub returns-in-Sample-clause-input : goal.returns-in-Sample-clause-input
-returns-in-Sample-clause-input g c = λ reported. gives_none 268435457 (g.S.Source.left c.args.source.now)
+returns-in-Sample-clause-input g c = λ at_once reported. gives_none 268435457 (g.S.Source.left c.args.source.now)
 
 pub returns-in-Checkpoint-clause-input : goal.returns-in-Checkpoint-clause-input
-returns-in-Checkpoint-clause-input g c = λ reported. gives_none 268435457 (g.S.Source.left c.args.source.now)
+returns-in-Checkpoint-clause-input g c = λ at_once reported. gives_none 268435457 (g.S.Source.left c.args.source.now)
 
 pub returns-in-Seal-clause-input : goal.returns-in-Seal-clause-input
-returns-in-Seal-clause-input g c = λ reported. gives_none 268435457 (g.S.Source.left c.args.source.now)
+returns-in-Seal-clause-input g c = λ at_once reported. gives_none 268435457 (g.S.Source.left c.args.source.now)
 
 pub returns-in-Check-clause-input : goal.returns-in-Check-clause-input
-returns-in-Check-clause-input g c = λ reported. gives_none 268435457 (g.S.Source.left c.args.source.now)
+returns-in-Check-clause-input g c = λ at_once reported. gives_none 268435457 (g.S.Source.left c.args.source.now)
 
 pub returns-in-Ship-clause-input : goal.returns-in-Ship-clause-input
-returns-in-Ship-clause-input g c = λ reported. gives_none 268435457 (g.S.Source.left c.args.source.now)
+returns-in-Ship-clause-input g c = λ at_once reported. gives_none 268435457 (g.S.Source.left c.args.source.now)
 
 pub returns-in-Distil-clause-input : goal.returns-in-Distil-clause-input
-returns-in-Distil-clause-input g c = λ reported. gives_none 268435457 (g.S.Source.left c.args.source.now)
+returns-in-Distil-clause-input g c = λ at_once reported. gives_none 268435457 (g.S.Source.left c.args.source.now)
